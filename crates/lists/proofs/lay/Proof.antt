@@ -1,0 +1,61 @@
+-- `lists::lay` meets its contract: the next byte is laid behind those before it. Assumes nothing.
+use mathlib.Core.Path.{_≡_, refl, sym}
+use native.Mathlib.Omega.{arith}
+use borrow.Author.Needs.{needs}
+use Prim.Native.Nat.{_≤_, _-_}
+use lib.ListN.{length, take, length-set}
+use lib.Seq.{take-all}
+use Rattle.lists.specs.Lists.{over}
+use Rattle.lists.proofs.ListLaws.{over-none, lay-more}
+use Rattle.lists.proofs.lay.Statement.{statement}
+use Rattle.lists.proofs.lay.Tie as tie
+
+abbrev Inv-loop : tie.InvT-loop
+Inv-loop s₀ at src j₀ s j = (j ≤ length src) × (length s ≡ length s₀) × (s ≡ over s₀ at (take j src))
+
+abbrev μ-loop : tie.MeasureT-loop
+μ-loop s₀ at src j₀ s j = length src - j
+
+loop-holds : tie.Need-loop-holds Inv-loop μ-loop
+loop-holds c = (omega arith, refl, sym (over-none _ _))
+
+shared-slice-read-s : tie.Need-shared-slice-read-s Inv-loop μ-loop
+shared-slice-read-s c = search needs
+
+add-s : tie.Need-add-s Inv-loop μ-loop
+add-s c = search needs
+
+slice-write-s : tie.Need-slice-write-s Inv-loop μ-loop
+slice-write-s c = search needs
+
+add-j : tie.Need-add-j Inv-loop μ-loop
+add-j c = search needs
+
+loop-less : tie.Need-loop-less Inv-loop μ-loop
+loop-less c = search needs
+
+loop-again : tie.Need-loop-again Inv-loop μ-loop
+loop-again c =
+    (omega arith, simp length-set (c .before .before .loop .inv .1), lay-more _ _ _ _ _ (omega arith) (c .before .before .before .pre) (c .before .before .loop .inv .2))
+
+same-length : tie.Need-same-length Inv-loop μ-loop
+same-length c = search needs
+
+returns : tie.Need-returns Inv-loop μ-loop
+returns c = rw (take-all _ _ (c .loop-test .left)) at (c .before .loop .inv .2)
+
+pub lay-spec : {M : Type 1} → statement M
+lay-spec =
+    tie.close
+    (tie.spec
+    Inv-loop
+    μ-loop
+    loop-holds
+    shared-slice-read-s
+    add-s
+    slice-write-s
+    add-j
+    loop-less
+    loop-again
+    same-length
+    returns)
