@@ -1,0 +1,4 @@
+pub mod Utf8
+pub mod Machine
+pub mod Tables
+pub mod Agree
