@@ -1,0 +1,5 @@
+pub mod IntegerLaws
+pub mod CodecLaws
+pub mod ByteLaws
+pub mod WordLaws
+pub mod RoundTrip

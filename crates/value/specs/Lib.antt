@@ -1,0 +1,4 @@
+pub mod Meaning
+pub mod Codec
+pub mod Range
+pub mod Cases

@@ -1,0 +1,140 @@
+// Values as words: the little-endian number of a fixed type's bytes, or the length of a text or of bytes.
+ghost use mathlib.Core.Path.{_≡_};
+ghost use mathlib.Core.Bool.{true, false};
+ghost use mathlib.Core.List.{[]};
+ghost use Prim.Native.Nat.{_≤_};
+ghost use Rattle.value.specs.Codec.{sizeOf, isText, fitsType, textWord, wordAt, encodeOf, after};
+use crate::Encoded;
+use crate::Fault;
+use crate::Word;
+use answers::Refusal;
+use text::Text;
+
+const SIZES: [u8; 21] = [
+    1,
+    1,
+    2,
+    4,
+    8,
+    1,
+    2,
+    4,
+    8,
+    4,
+    8,
+    0,
+    0,
+    0,
+    0,
+    6,
+    6,
+    8,
+    8,
+    6,
+    4,
+];
+
+// The bytes that a fixed type has; 0 for the four types that have a room, and for no type.
+pub fn size_of(t: u64) -> usize
+    ensures { λ r. ⌜ r ≡ sizeOf t ⌝ }
+{
+    if t < 21 {
+        SIZES[t as usize] as usize
+    } else {
+        0
+    }
+}
+
+// One of the four types that have a room.
+pub fn is_text(t: u64) -> bool
+    ensures { λ r. ⌜ r ≡ isText t ⌝ }
+{
+    (11 <= t) & (t <= 14)
+}
+
+// The word is a number of as many bytes as the type has.
+pub fn fits(t: u64, word: u64) -> bool
+    ensures { λ r. ⌜ r ≡ fitsType t word ⌝ }
+{
+    let n = size_of(t);
+    if n == 8 {
+        return true;
+    }
+    let bits = 8 * n;
+    word >> bits == 0
+}
+
+fn decode_text(t: u64, data: &[u8]) -> Word
+    ensures { λ r. ⌜ r ≡ textWord t (now («data» .entry)) ⌝ }
+{
+    if t == 11 {
+        return match text::text_ok(data) {
+            Text::Good => Word::Takes(data.len() as u64),
+            Text::Bad(_) => Word::Fails(Fault::Text),
+        };
+    }
+    let odd = data.len() % 2 == 1;
+    if (t == 13) & odd {
+        return Word::Fails(Fault::Odd);
+    }
+    Word::Takes(data.len() as u64)
+}
+
+// The word of a value of type t. Bytes behind a fixed type are ignored.
+pub fn decode_word(t: u64, data: &[u8]) -> Word
+    ensures { λ r. ⌜ r ≡ wordAt t (now («data» .entry)) ⌝ }
+{
+    if is_text(t) {
+        return decode_text(t, data);
+    }
+    let n = size_of(t);
+    if data.len() < n {
+        return Word::Fails(Fault::Value);
+    }
+    Word::Takes(lists::number(data, 0, n))
+}
+
+fn encode_text(t: u64, word: u64, part: &[u8], out: &mut [u8]) -> Encoded
+    requires { ⌜ (t ≤ 20) × (isText t ≡ true) ⌝ }
+    ensures { λ r. ⌜ after r (now (out .exit)) ≡ encodeOf t word (now (part .entry)) (now (out .entry)) ⌝ }
+{
+    if word != (part.len() as u64) {
+        return Encoded::Refused(Refusal::BadValue);
+    }
+    let Word::Takes(_) = decode_text(t, part) else {
+        return Encoded::Refused(Refusal::BadValue);
+    };
+    if out.len() < part.len() {
+        return Encoded::Refused(Refusal::BufferTooShort);
+    }
+    lists::lay(out, 0, part);
+    Encoded::Wrote(part.len())
+}
+
+fn encode_fixed(t: u64, word: u64, out: &mut [u8]) -> Encoded
+    requires { ⌜ (t ≤ 20) × (isText t ≡ false) ⌝ }
+    ensures { λ r. ⌜ after r (now (out .exit)) ≡ encodeOf t word [] (now (out .entry)) ⌝ }
+{
+    if !fits(t, word) {
+        return Encoded::Refused(Refusal::BadValue);
+    }
+    let n = size_of(t);
+    if out.len() < n {
+        return Encoded::Refused(Refusal::BufferTooShort);
+    }
+    lists::put_number(out, 0, n, word);
+    Encoded::Wrote(n)
+}
+
+// Lays the value's encoding over `out` from its start on. The part beside a fixed type is not looked at.
+pub fn encode_word(t: u64, word: u64, part: &[u8], out: &mut [u8]) -> Encoded
+    ensures { λ r. ⌜ after r (now (out .exit)) ≡ encodeOf t word (now (part .entry)) (now (out .entry)) ⌝ }
+{
+    if 20 < t {
+        return Encoded::Refused(Refusal::BadValue);
+    }
+    if is_text(t) {
+        return encode_text(t, word, part, out);
+    }
+    encode_fixed(t, word, out)
+}

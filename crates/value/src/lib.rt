@@ -1,0 +1,123 @@
+// The 21 value types: what their bits mean, decoding and encoding.
+mod codec;
+mod integer;
+mod object_value;
+mod parts;
+
+use answers::Refusal;
+pub use codec::decode_word;
+pub use codec::encode_word;
+pub use codec::fits;
+pub use codec::is_text;
+pub use codec::size_of;
+pub use object_value::from_word;
+pub use object_value::to_word;
+pub use object_value::type_number;
+pub use parts::fields;
+ghost use mathlib.Core.Path.{_≡_};
+ghost use Rattle.value.specs.Codec.{decodeOf, encodeOf, after, refusalOf};
+ghost use Rattle.value.specs.Meaning.{typeOf, wordOf};
+
+pub struct TimeOfDay {
+    pub ms: u32,
+    pub days: u16,
+}
+
+pub struct TimeDifference {
+    pub ms: u32,
+    pub days: u16,
+}
+
+pub struct NetTime {
+    pub seconds: u32,
+    pub nanoseconds: u32,
+}
+
+pub struct RelativeTime(pub u64);
+
+pub struct MacAddress(pub u8, pub u8, pub u8, pub u8, pub u8, pub u8);
+
+pub struct IpAddress(pub u8, pub u8, pub u8, pub u8);
+
+// A value. Reals are their bits. The four types that have a room hold their length in bytes; the bytes are a part beside the value.
+pub enum ObjectValue {
+    Boolean(u8),
+    Integer8(i8),
+    Integer16(i16),
+    Integer32(i32),
+    Integer64(i64),
+    Unsigned8(u8),
+    Unsigned16(u16),
+    Unsigned32(u32),
+    Unsigned64(u64),
+    Real32(u32),
+    Real64(u64),
+    VisibleString(u64),
+    OctetString(u64),
+    UnicodeString(u64),
+    Domain(u64),
+    TimeOfDay(TimeOfDay),
+    TimeDifference(TimeDifference),
+    NetTime(NetTime),
+    RelativeTime(RelativeTime),
+    MacAddress(MacAddress),
+    IpAddress(IpAddress),
+}
+
+// Why bytes are no value of a type: fewer than it has, no UTF-8 text, an odd count.
+pub enum Fault {
+    Value,
+    Text,
+    Odd,
+}
+
+// What decoding finds. The word is the number of a fixed type's bytes, or the length of a text or of bytes.
+pub enum Word {
+    Takes(u64),
+    Fails(Fault),
+}
+
+// The value, why there is none, or a number that names no type.
+pub enum Decoded {
+    Value(ObjectValue),
+    Fails(Fault),
+    NoType,
+}
+
+// How many bytes were written.
+pub enum Encoded {
+    Wrote(usize),
+    Refused(Refusal),
+}
+
+pub fn refusal(f: Fault) -> Refusal
+    ensures { λ r. ⌜ r ≡ refusalOf f ⌝ }
+{
+    match f {
+        Fault::Value => Refusal::BufferTooShort,
+        Fault::Text => Refusal::TypeMismatch,
+        Fault::Odd => Refusal::TypeMismatch,
+    }
+}
+
+// The value of type t that the data begins with. Of a text, and of bytes, it is the whole data.
+pub fn decode(t: u64, data: &[u8]) -> Decoded
+    ensures { λ r. ⌜ r ≡ decodeOf t (now («data» .entry)) ⌝ }
+{
+    if 20 < t {
+        return Decoded::NoType;
+    }
+    match decode_word(t, data) {
+        Word::Takes(x) => Decoded::Value(from_word(t, x)),
+        Word::Fails(f) => Decoded::Fails(f),
+    }
+}
+
+// Lays the value's bytes over `out` from its start on. The part is the text or the bytes of a value that has a room.
+pub fn encode(v: ObjectValue, part: &[u8], out: &mut [u8]) -> Encoded
+    ensures { λ r. ⌜ after r (now (out .exit)) ≡ encodeOf (typeOf v) (wordOf v) (now (part .entry)) (now (out .entry)) ⌝ }
+{
+    let t = type_number(v);
+    let x = to_word(v);
+    encode_word(t, x, part, out)
+}
