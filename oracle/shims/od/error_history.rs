@@ -1,0 +1,1 @@
+//! Empty: no unchanged file uses anything of it.
