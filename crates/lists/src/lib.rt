@@ -1,8 +1,9 @@
 // Bytes laid over others, and little-endian numbers in them.
 ghost use mathlib.Core.Path.{_≡_};
-ghost use Prim.Native.Nat.{_+_, _≤_};
-ghost use lib.ListN.{length, take, drop};
-ghost use Rattle.lists.specs.Lists.{over};
+ghost use Prim.Native.Nat.{ℕ, _+_, _*_, _^_, _≤_, _<_};
+ghost use lib.ListN.{length, take, drop, getD, replicate};
+ghost use lib.Seq.{slice};
+ghost use Rattle.lists.specs.Lists.{over, grown};
 ghost use Rattle.lists.specs.Numbers.{number, bytesOf};
 
 fn wide(x: u8) -> u64
@@ -59,6 +60,56 @@ pub fn lay_words(s: &mut [u64], at: usize, words: &[u64])
     let mut j = 0;
     while j < words.len() {
         s[at + j] = words[j];
+        j += 1;
+    }
+}
+
+// Moves the part from `at` up to `used` up by `k` places.
+pub fn move_up(s: &mut [u64], at: usize, used: usize, k: usize)
+    requires { ⌜ (at ≤ used) × (used + k ≤ length (now s)) ⌝ }
+    ensures { λ _. ⌜ now (s .exit) ≡ over (now (s .entry)) (at + k) (slice at used (now (s .entry))) ⌝ }
+{
+    let mut j = used;
+    while at < j {
+        j -= 1;
+        s[j + k] = s[j];
+    }
+}
+
+pub fn move_up_bytes(s: &mut [u8], at: usize, used: usize, k: usize)
+    requires { ⌜ (at ≤ used) × (used + k ≤ length (now s)) ⌝ }
+    ensures { λ _. ⌜ now (s .exit) ≡ over (now (s .entry)) (at + k) (slice at used (now (s .entry))) ⌝ }
+{
+    let mut j = used;
+    while at < j {
+        j -= 1;
+        s[j + k] = s[j];
+    }
+}
+
+// Lays k zeros over s from `at` on.
+pub fn lay_zeros(s: &mut [u8], at: usize, k: usize)
+    requires { ⌜ at + k ≤ length (now s) ⌝ }
+    ensures { λ _. ⌜ now (s .exit) ≡ over (now (s .entry)) at (replicate k 0) ⌝ }
+{
+    let mut j = 0;
+    while j < k {
+        s[at + j] = 0;
+        j += 1;
+    }
+}
+
+// Adds x to n elements, at place `at` and at each d further on.
+pub fn grow(s: &mut [u64], at: usize, d: usize, n: usize, x: u64)
+    requires { ⌜ (d ≤ 12) × (n ≤ 6144) × (at + d * n < length (now s) + d) × (0 < d) ⌝ }
+    requires { ⌜ ((j : ℕ) → j < n → getD (now s) (at + d * j) 0 + x < 2 ^ 64) ⌝ }
+    ensures { λ _. ⌜ now (s .exit) ≡ grown d x n at (now (s .entry)) ⌝ }
+{
+    let mut j = 0;
+    let mut p = at;
+    while j < n {
+        s[p] = s[p] + x;
+        p += d;
         j += 1;
     }
 }

@@ -1,0 +1,30 @@
+use mathlib.Core.Path.{_≡_, refl, sym, ap, _∙_}
+use native.Mathlib.Omega.{arith}
+use borrow.Author.Needs.{needs}
+use mathlib.Core.Bool.{Bool, true, false}
+use Prim.Native.Nat.{ℕ, _≤_, _<_, _-_, _+_, _*_, _%_}
+use lib.Dec.{eqb, leb, ltb}
+use borrow.Author.Tests.{not-true, not-false, eq-eqb, ne-eqb, lt-leb, le-leb, lt-ltb, le-ltb, eqb-true, eqb-false}
+use Rattle.entry.specs.Rules.{isGood, wordOk, valOk, headOk}
+use Rattle.entry.specs.Judge.{slotOk, slotsFrom, rowOk, rowFits}
+use borrow.Author.Needs.{needs}
+use Rattle.entry.proofs.judge.is_text.Statement.{statement}
+use Rattle.entry.proofs.judge.is_text.Tie as tie
+
+part-ok-requires : tie.Need-part-ok-requires
+part-ok-requires c κs = search needs
+
+enum-told : tie.Need-enum-told
+enum-told c = search needs
+
+enum-told-2 : tie.Need-enum-told-2
+enum-told-2 c = search needs
+
+returns : tie.Need-returns
+returns c = ap isGood (sym (c .enum-told .given .1) ∙ c .before .before .part-ok .ensures)
+
+returns-2 : tie.Need-returns-2
+returns-2 c = ap isGood (sym (c .enum-told2 .given .1) ∙ c .before .before .part-ok .ensures)
+
+pub is-text-spec : {M : Type 1} → statement M
+is-text-spec = tie.close (tie.spec part-ok-requires enum-told enum-told-2 returns returns-2)

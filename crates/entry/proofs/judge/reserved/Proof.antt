@@ -1,0 +1,54 @@
+use mathlib.Core.Path.{_≡_, refl, sym, ap, _∙_}
+use native.Mathlib.Omega.{arith}
+use borrow.Author.Needs.{needs}
+use Rattle.entry.specs.Judge.{reserved}
+use native.Mathlib.Omega.{arith}
+use borrow.Author.Needs.{needs}
+use Rattle.entry.proofs.judge.reserved.Statement.{statement}
+use Rattle.entry.proofs.judge.reserved.Tie as tie
+
+shared-slice-read-result : tie.Need-shared-slice-read-result
+shared-slice-read-result c = search needs
+
+shared-slice-read-result-2 : tie.Need-shared-slice-read-result-2
+shared-slice-read-result-2 c = search needs
+
+shared-slice-read-result-3 : tie.Need-shared-slice-read-result-3
+shared-slice-read-result-3 c = search needs
+
+shared-slice-read-result-4 : tie.Need-shared-slice-read-result-4
+shared-slice-read-result-4 c = search needs
+
+shared-slice-read-result-5 : tie.Need-shared-slice-read-result-5
+shared-slice-read-result-5 c = search needs
+
+shared-slice-read-result-6 : tie.Need-shared-slice-read-result-6
+shared-slice-read-result-6 c = search needs
+
+shared-slice-read-result-7 : tie.Need-shared-slice-read-result-7
+shared-slice-read-result-7 c = search needs
+
+shared-slice-read-result-8 : tie.Need-shared-slice-read-result-8
+shared-slice-read-result-8 c = search needs
+
+shared-slice-read-result-9 : tie.Need-shared-slice-read-result-9
+shared-slice-read-result-9 c = search needs
+
+returns : tie.Need-returns
+unfolding reserved
+returns c = refl
+
+pub reserved-spec : {M : Type 1} → statement M
+reserved-spec =
+    tie.close
+    (tie.spec
+    shared-slice-read-result
+    shared-slice-read-result-2
+    shared-slice-read-result-3
+    shared-slice-read-result-4
+    shared-slice-read-result-5
+    shared-slice-read-result-6
+    shared-slice-read-result-7
+    shared-slice-read-result-8
+    shared-slice-read-result-9
+    returns)

@@ -1,0 +1,63 @@
+-- Looking an object and a value up: in the table, and in the model.
+-- Assumes nothing.
+use Prim.Native.Nat.{ℕ, zero, suc, _+_, _-_, _*_, _≤_, _<_}
+use mathlib.Core.Bool.{Bool, true, false, cond}
+use mathlib.Core.List.{List, [], _∷_}
+use mathlib.Core.Option.{Option, none, some}
+use lib.Dec.{eqb, leb}
+use lib.ListN.{length}
+use Rattle.entry.specs.Model.{Val, Obj}
+use Rattle.entry.specs.Table.{Dict, numberOf, indexAt, kindAt, countAt, firstAt, objAt}
+use Rattle.entry.specs.declared.Found.{Found}
+use Rattle.entry.specs.declared.Found.the-variants.{At, Nothing}
+use Rattle.entry.specs.declared.Place.{Place}
+use Rattle.entry.specs.declared.Place.the-variants.{NoObject, NoSub, Count, Value}
+
+-- the first of the k rows from row i on that has index x
+unfoldable pub findFrom : List ℕ → ℕ → ℕ → ℕ → Found
+findFrom objects x zero i = Nothing
+findFrom objects x (suc k) i = cond (eqb (indexAt objects i) x) (At i) (findFrom objects x k (suc i))
+
+-- the row of index x
+abbrev pub findRow : List ℕ → ℕ → Found
+findRow objects x = findFrom objects x (numberOf objects) 0
+
+-- document 01, "Reading and writing": "Variable: sub-index 0 only. Array or Record: 0 reads the element count as U8, k reads element k"
+unfoldable pub subAt : List ℕ → ℕ → ℕ → Place
+subAt objects i sub =
+    cond (eqb (kindAt objects i) 0)
+    (cond (eqb sub 0) (Value (firstAt objects i)) NoSub)
+    (cond (eqb sub 0)
+    (Count (countAt objects i))
+    (cond (leb sub (countAt objects i)) (Value (firstAt objects i + (sub - 1))) NoSub))
+
+abbrev pub onRow : List ℕ → ℕ → Found → Place
+onRow objects sub (At i) = subAt objects i sub
+onRow objects sub Nothing = NoObject
+
+-- what an index and a sub-index name
+abbrev pub placeOf : List ℕ → ℕ → ℕ → Place
+placeOf objects x sub = onRow objects sub (findRow objects x)
+
+-- ---- in the model
+-- the object with index x
+unfoldable pub objectOf : ℕ → List Obj → Option Obj
+objectOf x [] = none
+objectOf x (o ∷ os) = cond (eqb (o .index) x) (some o) (objectOf x os)
+
+-- what stands in a row
+abbrev pub objectIn : Dict → Found → Option Obj
+objectIn d (At i) = some (objAt d i)
+objectIn d Nothing = none
+
+-- value j of an object
+unfoldable pub nth : List Val → ℕ → Option Val
+nth [] j = none
+nth (x ∷ xs) zero = some x
+nth (x ∷ xs) (suc j) = nth xs j
+
+-- ---- what looking up needs of the rows
+pub record Rows (objects : List ℕ) : Type 0 where
+  pub few : numberOf objects ≤ 1024
+  pub long : 12 * numberOf objects + 12 ≤ length objects
+  pub firsts : (i : ℕ) → i < numberOf objects → firstAt objects i + countAt objects i ≤ 6144

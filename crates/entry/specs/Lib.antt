@@ -1,0 +1,6 @@
+pub mod Model
+pub mod Table
+pub mod Rules
+pub mod Judge
+pub mod Find
+pub mod Put

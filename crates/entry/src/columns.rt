@@ -1,0 +1,106 @@
+// The columns of the lent dictionary. Nothing else knows where a number stands.
+ghost use mathlib.Core.Path.{_≡_};
+ghost use Prim.Native.Nat.{_+_, _*_, _≤_, _<_};
+ghost use lib.ListN.{length};
+ghost use Rattle.entry.specs.Table.{numberOf, valuesOf, usedOf, indexAt, kindAt, accessAt, countAt, firstAt, nameAt, nameLenAt, defaultAt, typeAt, startAt, roomAt};
+
+// The header: how many objects, values (defaults counted) and bytes there are.
+pub fn number_of(objects: &[u64]) -> u64
+    requires { ⌜ 12 ≤ length (now objects) ⌝ }
+    ensures { λ r. ⌜ r ≡ numberOf (now (objects .entry)) ⌝ }
+{
+    objects[0]
+}
+
+pub fn values_of(objects: &[u64]) -> u64
+    requires { ⌜ 12 ≤ length (now objects) ⌝ }
+    ensures { λ r. ⌜ r ≡ valuesOf (now (objects .entry)) ⌝ }
+{
+    objects[1]
+}
+
+pub fn used_of(objects: &[u64]) -> u64
+    requires { ⌜ 12 ≤ length (now objects) ⌝ }
+    ensures { λ r. ⌜ r ≡ usedOf (now (objects .entry)) ⌝ }
+{
+    objects[2]
+}
+
+// Row i.
+pub fn index_at(objects: &[u64], i: usize) -> u64
+    requires { ⌜ (i < 1024) × (12 * i + 24 ≤ length (now objects)) ⌝ }
+    ensures { λ r. ⌜ r ≡ indexAt (now (objects .entry)) i ⌝ }
+{
+    objects[12 * i + 12]
+}
+
+pub fn kind_at(objects: &[u64], i: usize) -> u64
+    requires { ⌜ (i < 1024) × (12 * i + 24 ≤ length (now objects)) ⌝ }
+    ensures { λ r. ⌜ r ≡ kindAt (now (objects .entry)) i ⌝ }
+{
+    objects[12 * i + 13]
+}
+
+pub fn access_at(objects: &[u64], i: usize) -> u64
+    requires { ⌜ (i < 1024) × (12 * i + 24 ≤ length (now objects)) ⌝ }
+    ensures { λ r. ⌜ r ≡ accessAt (now (objects .entry)) i ⌝ }
+{
+    objects[12 * i + 14]
+}
+
+pub fn count_at(objects: &[u64], i: usize) -> u64
+    requires { ⌜ (i < 1024) × (12 * i + 24 ≤ length (now objects)) ⌝ }
+    ensures { λ r. ⌜ r ≡ countAt (now (objects .entry)) i ⌝ }
+{
+    objects[12 * i + 15]
+}
+
+pub fn first_at(objects: &[u64], i: usize) -> u64
+    requires { ⌜ (i < 1024) × (12 * i + 24 ≤ length (now objects)) ⌝ }
+    ensures { λ r. ⌜ r ≡ firstAt (now (objects .entry)) i ⌝ }
+{
+    objects[12 * i + 16]
+}
+
+pub fn name_at(objects: &[u64], i: usize) -> u64
+    requires { ⌜ (i < 1024) × (12 * i + 24 ≤ length (now objects)) ⌝ }
+    ensures { λ r. ⌜ r ≡ nameAt (now (objects .entry)) i ⌝ }
+{
+    objects[12 * i + 17]
+}
+
+pub fn name_len_at(objects: &[u64], i: usize) -> u64
+    requires { ⌜ (i < 1024) × (12 * i + 24 ≤ length (now objects)) ⌝ }
+    ensures { λ r. ⌜ r ≡ nameLenAt (now (objects .entry)) i ⌝ }
+{
+    objects[12 * i + 18]
+}
+
+pub fn default_at(objects: &[u64], i: usize) -> u64
+    requires { ⌜ (i < 1024) × (12 * i + 24 ≤ length (now objects)) ⌝ }
+    ensures { λ r. ⌜ r ≡ defaultAt (now (objects .entry)) i ⌝ }
+{
+    objects[12 * i + 19]
+}
+
+// Slot p.
+pub fn type_at(slots: &[u64], p: usize) -> u64
+    requires { ⌜ (p < 6144) × (3 * p + 3 ≤ length (now slots)) ⌝ }
+    ensures { λ r. ⌜ r ≡ typeAt (now (slots .entry)) p ⌝ }
+{
+    slots[3 * p]
+}
+
+pub fn start_at(slots: &[u64], p: usize) -> u64
+    requires { ⌜ (p < 6144) × (3 * p + 3 ≤ length (now slots)) ⌝ }
+    ensures { λ r. ⌜ r ≡ startAt (now (slots .entry)) p ⌝ }
+{
+    slots[3 * p + 1]
+}
+
+pub fn room_at(slots: &[u64], p: usize) -> u64
+    requires { ⌜ (p < 6144) × (3 * p + 3 ≤ length (now slots)) ⌝ }
+    ensures { λ r. ⌜ r ≡ roomAt (now (slots .entry)) p ⌝ }
+{
+    slots[3 * p + 2]
+}

@@ -1,0 +1,51 @@
+// The lent dictionary: four slices that are judged, looked up and put into.
+mod columns;
+mod judge;
+mod lookup;
+mod put;
+
+pub use columns::access_at;
+pub use columns::count_at;
+pub use columns::default_at;
+pub use columns::first_at;
+pub use columns::index_at;
+pub use columns::kind_at;
+pub use columns::name_at;
+pub use columns::name_len_at;
+pub use columns::number_of;
+pub use columns::room_at;
+pub use columns::start_at;
+pub use columns::type_at;
+pub use columns::used_of;
+pub use columns::values_of;
+pub use judge::well_formed;
+pub use lookup::find;
+pub use lookup::locate;
+pub use lookup::sub_at;
+pub use put::put_value;
+
+// A row, or none.
+pub enum Found {
+    At(usize),
+    Nothing,
+}
+
+// What an index and a sub-index name: the count of a list's elements, or a value.
+pub enum Place {
+    NoObject,
+    NoSub,
+    Count(u64),
+    Value(usize),
+}
+
+// How far the rooms of some slots reach.
+pub enum Sum {
+    Upto(usize),
+    Bad,
+}
+
+// The values and bytes of all rows.
+pub enum Walk {
+    Whole(usize, usize),
+    Broken,
+}

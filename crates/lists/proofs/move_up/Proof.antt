@@ -1,0 +1,71 @@
+use mathlib.Core.Path.{_≡_, refl, sym, ap, _∙_}
+use native.Mathlib.Omega.{arith}
+use borrow.Author.Needs.{needs}
+use Prim.Native.Nat.{ℕ, _≤_, _<_, _-_, _+_}
+use lib.ListN.{length, length-set}
+use lib.Seq.{slice}
+use Rattle.lists.specs.Lists.{over}
+use Rattle.lists.proofs.ListLaws.{length-over}
+use Rattle.lists.proofs.SpliceLaws.{up-none, up-more}
+use Rattle.lists.proofs.move_up.Statement.{statement}
+use Rattle.lists.proofs.move_up.Tie as tie
+
+abbrev Inv-loop : tie.InvT-loop
+Inv-loop s₀ at used k j₀ s j = (at ≤ j) × (j ≤ used) × (length s ≡ length s₀) × (s ≡ over s₀ (j + k) (slice j used s₀))
+
+abbrev μ-loop : tie.MeasureT-loop
+μ-loop s₀ at used k j₀ s j = j
+
+loop-holds : tie.Need-loop-holds Inv-loop μ-loop
+loop-holds c = (omega arith, omega arith, refl, up-none _ _ (c .args .used))
+
+sub-j : tie.Need-sub-j Inv-loop μ-loop
+sub-j c = search needs
+
+mul-s : tie.Need-mul-s Inv-loop μ-loop
+mul-s c = search needs
+
+slice-read-s : tie.Need-slice-read-s Inv-loop μ-loop
+slice-read-s c = search needs
+
+add-s : tie.Need-add-s Inv-loop μ-loop
+add-s c = search needs
+
+mul-s-2 : tie.Need-mul-s-2 Inv-loop μ-loop
+mul-s-2 c = search needs
+
+slice-write-s : tie.Need-slice-write-s Inv-loop μ-loop
+slice-write-s c = search needs
+
+loop-less : tie.Need-loop-less Inv-loop μ-loop
+loop-less c = search needs
+
+loop-again : tie.Need-loop-again Inv-loop μ-loop
+loop-again c =
+    (omega arith, omega arith, simp length-set (c .before .before .loop .inv .2), up-more _ _ _ _ _ (omega arith) (c .before .before .loop .inv .1) (c .before .before .before .pre .1) (c .before .before .loop .inv .3))
+
+same-length : tie.Need-same-length Inv-loop μ-loop
+same-length c = search needs
+
+returns : tie.Need-returns Inv-loop μ-loop
+returns c =
+    let e : c .before .loop .j ≡ c .before .before .args .at = omega arith in
+    rw e at (c .before .loop .inv .3)
+
+pub move-up-spec : {M : Type 1} → statement M
+move-up-spec =
+    tie.close
+    (tie.spec
+    Inv-loop
+    μ-loop
+    loop-holds
+    sub-j
+    mul-s
+    slice-read-s
+    add-s
+    mul-s-2
+    slice-write-s
+    loop-less
+    loop-again
+    same-length
+    returns)
