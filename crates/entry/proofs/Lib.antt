@@ -4,3 +4,7 @@ pub mod BackLaws
 pub mod FactLaws
 pub mod FindLaws
 pub mod PutLaws
+pub mod ApartLaws
+pub mod ValueLaws
+pub mod KeepLaws
+pub mod ChangeLaws
