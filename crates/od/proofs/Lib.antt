@@ -1,0 +1,4 @@
+pub mod ReadLaws
+pub mod CounterLaws
+pub mod NodeLaws
+pub mod NameLaws

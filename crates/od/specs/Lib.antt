@@ -1,0 +1,5 @@
+pub mod New
+pub mod Read
+pub mod Names
+pub mod Nodes
+pub mod Counter

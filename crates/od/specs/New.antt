@@ -1,0 +1,23 @@
+-- An empty dictionary: RULES.md 5. Assumes nothing.
+use Prim.Native.Nat.{ℕ}
+use mathlib.Core.Bool.{cond}
+use mathlib.Core.List.{List, []}
+use lib.Dec.{ltb}
+use lib.ListN.{length}
+use Rattle.lists.specs.Lists.{over}
+use Rattle.answers.specs.declared.Refusal.the-variants.{Full}
+use Rattle.entry.specs.Model.{header}
+use Rattle.od.specs.declared.Answer.{Answer}
+use Rattle.od.specs.declared.Answer.the-variants.{Done, Refused}
+
+-- an answer, and the lent rows after it
+pub record Made : Type 0 where
+  pub answer : Answer
+  pub objects : List ℕ
+
+abbrev pub made : Answer → List ℕ → Made
+made a os = record { answer = a; objects = os }
+
+-- the header of no object; where the rows cannot hold it: Full
+abbrev pub newOf : List ℕ → Made
+newOf objects = cond (ltb (length objects) 12) (made (Refused Full) objects) (made Done (over objects 0 (header [])))

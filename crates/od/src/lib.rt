@@ -1,0 +1,46 @@
+// The object dictionary's calls. Each judges the lent dictionary first.
+mod counter;
+mod empty;
+mod names;
+mod nodes;
+mod reading;
+
+use answers::Refusal;
+pub use counter::increment_counter;
+pub use empty::new;
+pub use names::find_by_name;
+pub use nodes::get_configured_cns;
+pub use reading::read;
+pub use reading::read_part;
+pub use reading::read_u8;
+pub use reading::read_u16;
+pub use reading::read_u32;
+pub use reading::read_u64;
+
+pub enum Answer {
+    Done,
+    Refused(Refusal),
+}
+
+// A value's type and word: its number, or the length of a text or of bytes, which start at `start` of the lent bytes.
+pub enum Stored {
+    Is { kind: u64, word: u64, start: u64 },
+    Refused(Refusal),
+}
+
+pub enum Number {
+    Is(u64),
+    Refused(Refusal),
+}
+
+// The index of an object.
+pub enum ByName {
+    At(u16),
+    Refused(Refusal),
+}
+
+// How many node numbers were laid into the output.
+pub enum Listed {
+    Numbers(usize),
+    Refused(Refusal),
+}

@@ -1,0 +1,157 @@
+// Reading a value.
+ghost use mathlib.Core.Path.{_≡_};
+ghost use Rattle.entry.specs.Table.{dict};
+ghost use Rattle.od.specs.Read.{readOf, partIn, refusalIn, ofType};
+use crate::Number;
+use crate::Stored;
+use answers::Refusal;
+use entry::Place;
+
+// The value at an index and a sub-index; a list's sub-index 0 is the count of its elements.
+pub fn read(
+    objects: &[u64],
+    slots: &[u64],
+    words: &[u64],
+    bytes: &[u8],
+    index: u16,
+    sub: u8,
+) -> Stored
+    ensures { λ r. ⌜ r ≡ readOf (dict (now (objects .entry)) (now (slots .entry)) (now (words .entry)) (now (bytes .entry))) index sub ⌝ }
+{
+    if !entry::well_formed(objects, slots, words, bytes) {
+        return Stored::Refused(Refusal::Malformed);
+    }
+    match entry::locate(objects, index, sub) {
+        Place::NoObject => Stored::Refused(Refusal::ObjectNotFound),
+        Place::NoSub => Stored::Refused(Refusal::SubObjectNotFound),
+        Place::Count(n) => Stored::Is {
+            kind: 5,
+            word: n,
+            start: 0,
+        },
+        Place::Value(p) => Stored::Is {
+            kind: entry::type_at(slots, p),
+            word: words[p],
+            start: entry::start_at(slots, p),
+        },
+    }
+}
+
+// The part of the lent bytes that holds a text or bytes; the empty part where a number or nothing is read.
+pub fn read_part<'a>(
+    objects: &[u64],
+    slots: &[u64],
+    words: &[u64],
+    bytes: &'a [u8],
+    index: u16,
+    sub: u8,
+) -> &'a [u8]
+    ensures { λ r. ⌜ now r ≡ partIn (now (bytes .entry)) (readOf (dict (now (objects .entry)) (now (slots .entry)) (now (words .entry)) (now (bytes .entry))) index sub) ⌝ }
+{
+    let Stored::Is { kind, word, start } = read(objects, slots, words, bytes, index, sub) else {
+        return &bytes[0..0];
+    };
+    if value::is_text(kind) {
+        let from = start as usize;
+        let end = from + word as usize;
+        return &bytes[from..end];
+    }
+    &bytes[0..0]
+}
+
+fn refusal_in(r: Stored) -> Refusal
+    ensures { λ x. ⌜ x ≡ refusalIn r ⌝ }
+{
+    match r {
+        Stored::Is {
+            kind: _,
+            word: _,
+            start: _,
+        } => Refusal::ObjectNotFound,
+        Stored::Refused(x) => x,
+    }
+}
+
+fn of_type(found: Stored, t: u64) -> Number
+    ensures { λ r. ⌜ r ≡ ofType t found ⌝ }
+{
+    let Stored::Is {
+        kind,
+        word,
+        start: _,
+    } = found
+    else {
+        return Number::Refused(refusal_in(found));
+    };
+    if kind == t {
+        return Number::Is(word);
+    }
+    Number::Refused(Refusal::TypeMismatch)
+}
+
+// The number of type t at an index and a sub-index.
+fn read_number(
+    objects: &[u64],
+    slots: &[u64],
+    words: &[u64],
+    bytes: &[u8],
+    index: u16,
+    sub: u8,
+    t: u64,
+) -> Number
+    ensures { λ r. ⌜ r ≡ ofType t (readOf (dict (now (objects .entry)) (now (slots .entry)) (now (words .entry)) (now (bytes .entry))) index sub) ⌝ }
+{
+    of_type(read(objects, slots, words, bytes, index, sub), t)
+}
+
+pub fn read_u8(
+    objects: &[u64],
+    slots: &[u64],
+    words: &[u64],
+    bytes: &[u8],
+    index: u16,
+    sub: u8,
+) -> Number
+    ensures { λ r. ⌜ r ≡ ofType 5 (readOf (dict (now (objects .entry)) (now (slots .entry)) (now (words .entry)) (now (bytes .entry))) index sub) ⌝ }
+{
+    read_number(objects, slots, words, bytes, index, sub, 5)
+}
+
+pub fn read_u16(
+    objects: &[u64],
+    slots: &[u64],
+    words: &[u64],
+    bytes: &[u8],
+    index: u16,
+    sub: u8,
+) -> Number
+    ensures { λ r. ⌜ r ≡ ofType 6 (readOf (dict (now (objects .entry)) (now (slots .entry)) (now (words .entry)) (now (bytes .entry))) index sub) ⌝ }
+{
+    read_number(objects, slots, words, bytes, index, sub, 6)
+}
+
+pub fn read_u32(
+    objects: &[u64],
+    slots: &[u64],
+    words: &[u64],
+    bytes: &[u8],
+    index: u16,
+    sub: u8,
+) -> Number
+    ensures { λ r. ⌜ r ≡ ofType 7 (readOf (dict (now (objects .entry)) (now (slots .entry)) (now (words .entry)) (now (bytes .entry))) index sub) ⌝ }
+{
+    read_number(objects, slots, words, bytes, index, sub, 7)
+}
+
+pub fn read_u64(
+    objects: &[u64],
+    slots: &[u64],
+    words: &[u64],
+    bytes: &[u8],
+    index: u16,
+    sub: u8,
+) -> Number
+    ensures { λ r. ⌜ r ≡ ofType 8 (readOf (dict (now (objects .entry)) (now (slots .entry)) (now (words .entry)) (now (bytes .entry))) index sub) ⌝ }
+{
+    read_number(objects, slots, words, bytes, index, sub, 8)
+}
