@@ -1,0 +1,11 @@
+pub mod GivenLaws
+pub mod RightLaws
+pub mod InsertLaws
+pub mod PlaceLaws
+pub mod ActLaws
+pub mod IndexLaws
+pub mod KeepLaws
+pub mod AnswerLaws
+pub mod FallLaws
+pub mod RemoveLaws
+pub mod ReplaceLaws

@@ -1,0 +1,138 @@
+-- `insertion::act::fill_slots` meets its contract. The loop's invariant: what is still to be laid, laid from here on, gives the same. Assumes nothing.
+use mathlib.Core.Path.{_≡_, refl, sym, _∙_}
+use native.Mathlib.Omega.{arith}
+use borrow.Author.Needs.{needs}
+use Prim.Native.Nat.{_≤_, _-_, _+_, _*_}
+use lib.ListN.{length, length-set}
+use native.Mathlib.Nat.{add-zero}
+use Rattle.lists.specs.Lists.{over}
+use Rattle.insertion.specs.Given.{roomsIn, slotsIn, roomIn}
+use Rattle.insertion.proofs.GivenLaws.{rooms-more, slots-more, none-left, length-slotsIn}
+use Rattle.insertion.proofs.act.fill_slots.Statement.{statement}
+use Rattle.insertion.proofs.act.fill_slots.Tie as tie
+
+abbrev Inv-loop : tie.InvT-loop
+Inv-loop slots₀ v b vals u j₀ start₀ slots j start =
+    (j ≤ u) × (length slots ≡ length slots₀) × (start + roomsIn vals (u - j) j ≡ b + roomsIn vals u 0) × (over slots₀ (3 * v) (slotsIn vals u 0 b) ≡ over slots (3 * (v + j)) (slotsIn vals (u - j) j start))
+
+abbrev μ-loop : tie.MeasureT-loop
+μ-loop slots₀ v b vals u j₀ start₀ slots j start = u - j
+
+abbrev start-of : tie.At-loop Inv-loop μ-loop → tie.Start Inv-loop μ-loop
+start-of k = k .before
+
+room-fits : (c : tie.In-loop Inv-loop μ-loop) → c .before .loop .start + roomIn (start-of (c .before) .args .vals .now) (c .before .loop .j) ≤ 32768
+room-fits c =
+    omega (arith, rooms-more (start-of (c .before) .args .vals .now) (start-of (c .before) .args .u) (c .before .loop .j) (c .loop-test .taken), c .before .loop .inv .2, start-of (c .before) .pre .1)
+
+loop-holds : tie.Need-loop-holds Inv-loop μ-loop
+loop-holds c =
+    let f : c .args .u - 0 ≡ c .args .u = omega arith in
+    (omega arith, refl, rw f, rw (f, add-zero))
+
+add-p : tie.Need-add-p Inv-loop μ-loop
+add-p c = search needs
+
+mul-p : tie.Need-mul-p Inv-loop μ-loop
+mul-p c = search needs
+
+mul-room : tie.Need-mul-room Inv-loop μ-loop
+mul-room c = search needs
+
+add-room : tie.Need-add-room Inv-loop μ-loop
+add-room c = search needs
+
+mul-room-2 : tie.Need-mul-room-2 Inv-loop μ-loop
+mul-room-2 c = search needs
+
+shared-slice-read-room : tie.Need-shared-slice-read-room Inv-loop μ-loop
+shared-slice-read-room c = search needs
+
+mul-slots : tie.Need-mul-slots Inv-loop μ-loop
+mul-slots c = search needs
+
+mul-slots-2 : tie.Need-mul-slots-2 Inv-loop μ-loop
+mul-slots-2 c = search needs
+
+shared-slice-read-slots : tie.Need-shared-slice-read-slots Inv-loop μ-loop
+shared-slice-read-slots c = search needs
+
+mul-slots-3 : tie.Need-mul-slots-3 Inv-loop μ-loop
+mul-slots-3 c = search needs
+
+slice-write-slots : tie.Need-slice-write-slots Inv-loop μ-loop
+slice-write-slots c = search needs
+
+add-slots : tie.Need-add-slots Inv-loop μ-loop
+add-slots c = search needs
+
+mul-slots-4 : tie.Need-mul-slots-4 Inv-loop μ-loop
+mul-slots-4 c = search needs
+
+slice-write-slots-2 : tie.Need-slice-write-slots-2 Inv-loop μ-loop
+slice-write-slots-2 c = rw length-set (omega arith)
+
+add-slots-2 : tie.Need-add-slots-2 Inv-loop μ-loop
+add-slots-2 c = search needs
+
+mul-slots-5 : tie.Need-mul-slots-5 Inv-loop μ-loop
+mul-slots-5 c = search needs
+
+slice-write-slots-3 : tie.Need-slice-write-slots-3 Inv-loop μ-loop
+slice-write-slots-3 c = rw (length-set, length-set) (omega arith)
+
+add-start : tie.Need-add-start Inv-loop μ-loop
+add-start c = omega (arith, room-fits (c .before .before))
+
+add-j : tie.Need-add-j Inv-loop μ-loop
+add-j c = search needs
+
+loop-less : tie.Need-loop-less Inv-loop μ-loop
+loop-less c = search needs
+
+loop-again : tie.Need-loop-again Inv-loop μ-loop
+loop-again c =
+    let k = c .before .before .before in
+    let a = k .before .args in (
+      omega arith,
+      simp length-set (k .loop .inv .1),
+      omega (arith, rooms-more (a .vals .now) (a .u) (k .loop .j) (c .before .before .loop-test .taken), k .loop .inv .2),
+      k .loop .inv .3 ∙ slots-more (a .vals .now) (k .loop .slots) (a .v) (a .u) (k .loop .j) (k .loop .start) (omega arith) (omega arith),
+    )
+
+same-length : tie.Need-same-length Inv-loop μ-loop
+same-length c = search needs
+
+returns : tie.Need-returns Inv-loop μ-loop
+returns c = sym (c .before .loop .inv .3 ∙ none-left _ _ _ (length-slotsIn _ _ _ _ ∙ omega arith))
+
+pub fill-slots-spec : {M : Type 1} → statement M
+fill-slots-spec =
+    tie.close
+    (tie.spec
+    Inv-loop
+    μ-loop
+    loop-holds
+    add-p
+    mul-p
+    mul-room
+    add-room
+    mul-room-2
+    shared-slice-read-room
+    mul-slots
+    mul-slots-2
+    shared-slice-read-slots
+    mul-slots-3
+    slice-write-slots
+    add-slots
+    mul-slots-4
+    slice-write-slots-2
+    add-slots-2
+    mul-slots-5
+    slice-write-slots-3
+    add-start
+    add-j
+    loop-less
+    loop-again
+    same-length
+    returns)

@@ -1,0 +1,132 @@
+-- `insertion::given::vals_in` meets its contract. The loop's invariant: what is judged from here on is what is judged of all. Assumes nothing.
+use mathlib.Core.Path.{_≡_, sym, _∙_}
+use Prim.Native.Nat.{_≤_, _-_, _+_, _*_}
+use borrow.Author.Tests.{not-true, not-false, eq-eqb, ne-eqb, lt-leb, le-leb}
+use mathlib.Core.Bool.{cond, _&&_}
+use lib.Dec.{leb, ltb}
+use lib.ListN.{length, take, drop}
+use Rattle.insertion.specs.declared.Size.the-variants as sz
+use Rattle.insertion.specs.Given.{typeIn, roomIn, lengthIn, valueOk, valsIn}
+use Rattle.insertion.proofs.RightLaws.{vals-step, vals-end, value-room}
+use native.Mathlib.Omega.{arith}
+use borrow.Author.Needs.{needs}
+use Rattle.insertion.proofs.given.vals_in.Statement.{statement}
+use Rattle.insertion.proofs.given.vals_in.Tie as tie
+
+abbrev Inv-loop : tie.InvT-loop
+Inv-loop vals encodings count u g j₀ t₀ size₀ j t size =
+    (j ≤ u) × (t ≤ length encodings) × (size ≤ 32 + 1490 * j) × (valsIn vals encodings count u 0 0 g ≡ valsIn vals encodings count (u - j) j t size)
+
+abbrev μ-loop : tie.MeasureT-loop
+μ-loop vals encodings count u g j₀ t₀ size₀ j t size = u - j
+
+step : (c : tie.In-loop Inv-loop μ-loop) → let a = c .before .before .before .before .args in let l = c .before .loop in
+    valsIn (a .vals .now) (a .encodings .now) (a .count) (a .u) 0 0 (a .g) ≡ cond (leb (lengthIn (a .vals .now) (l .j)) (length (a .encodings .now) - l .t) && valueOk (ltb (l .j) (a .count)) (typeIn (a .vals .now) (l .j)) (roomIn (a .vals .now) (l .j)) (take (lengthIn (a .vals .now) (l .j)) (drop (l .t) (a .encodings .now)))) (valsIn (a .vals .now) (a .encodings .now) (a .count) (a .u - (l .j + 1)) (l .j + 1) (l .t + lengthIn (a .vals .now) (l .j)) (l .size + roomIn (a .vals .now) (l .j))) sz.Bad
+step c =
+    let a = c .before .before .before .before .args in
+    let l = c .before .loop in
+    l .inv .3 ∙ vals-step (a .vals .now) (a .encodings .now) (a .count) (a .u) (l .j) (l .t) (l .size) (c .loop-test .taken)
+
+loop-holds : tie.Need-loop-holds Inv-loop μ-loop
+loop-holds c =
+    let a = c .before .before .args in
+    let e : a .u - 0 ≡ a .u = omega arith in
+    (omega arith, omega arith, omega (arith, c .before .before .pre), rw e)
+
+mul-kind : tie.Need-mul-kind Inv-loop μ-loop
+mul-kind c = search needs
+
+mul-kind-2 : tie.Need-mul-kind-2 Inv-loop μ-loop
+mul-kind-2 c = search needs
+
+shared-slice-read-kind : tie.Need-shared-slice-read-kind Inv-loop μ-loop
+shared-slice-read-kind c = search needs
+
+mul-room : tie.Need-mul-room Inv-loop μ-loop
+mul-room c = search needs
+
+add-room : tie.Need-add-room Inv-loop μ-loop
+add-room c = search needs
+
+mul-room-2 : tie.Need-mul-room-2 Inv-loop μ-loop
+mul-room-2 c = search needs
+
+shared-slice-read-room : tie.Need-shared-slice-read-room Inv-loop μ-loop
+shared-slice-read-room c = search needs
+
+mul-len : tie.Need-mul-len Inv-loop μ-loop
+mul-len c = search needs
+
+add-len : tie.Need-add-len Inv-loop μ-loop
+add-len c = search needs
+
+mul-len-2 : tie.Need-mul-len-2 Inv-loop μ-loop
+mul-len-2 c = search needs
+
+shared-slice-read-len : tie.Need-shared-slice-read-len Inv-loop μ-loop
+shared-slice-read-len c = search needs
+
+sub-left : tie.Need-sub-left Inv-loop μ-loop
+sub-left c = search needs
+
+returns : tie.Need-returns Inv-loop μ-loop
+returns c = sym (step (c .before .before .before .before) ∙ simp (lt-leb _ _ (c .if1 .taken)))
+
+value-ok-requires : tie.Need-value-ok-requires Inv-loop μ-loop
+value-ok-requires c κs = search needs
+
+returns-2 : tie.Need-returns-2 Inv-loop μ-loop
+returns-2 c = sym (step (c .before .before .before .before .before .before) ∙ simp (le-leb _ _ (c .before .before .if1 .left), sym (c .before .value-ok .ensures) ∙ not-true _ (c .if2 .taken)))
+
+add-t : tie.Need-add-t Inv-loop μ-loop
+add-t c = omega (arith, c .before .before .if1 .left, c .before .before .before .before .before .before .before .loop .inv .1)
+
+add-size : tie.Need-add-size Inv-loop μ-loop
+add-size c = omega (arith, c .before .before .before .before .before .before .before .loop .inv .2, value-room _ _ _ _ (sym (c .before .value-ok .ensures) ∙ not-false _ (c .if2 .left)), c .before .before .before .before .before .before .before .before .before .before .pre)
+
+add-j : tie.Need-add-j Inv-loop μ-loop
+add-j c = search needs
+
+loop-less : tie.Need-loop-less Inv-loop μ-loop
+loop-less c = search needs
+
+loop-again : tie.Need-loop-again Inv-loop μ-loop
+loop-again c =
+    let v = sym (c .before .value-ok .ensures) ∙ not-false _ (c .if2 .left) in
+    (omega arith, omega (arith, c .before .before .if1 .left, c .before .before .before .before .before .before .before .loop .inv .1), omega (arith, c .before .before .before .before .before .before .before .loop .inv .2, value-room _ _ _ _ v), step (c .before .before .before .before .before .before) ∙ simp (le-leb _ _ (c .before .before .if1 .left), v))
+
+returns-3 : tie.Need-returns-3 Inv-loop μ-loop
+returns-3 c = sym (c .before .before .loop .inv .3 ∙ vals-end _ _ _ _ _ _ _ (omega arith) ∙ simp (eq-eqb _ _ (c .if3 .taken)))
+
+returns-4 : tie.Need-returns-4 Inv-loop μ-loop
+returns-4 c = sym (c .before .before .loop .inv .3 ∙ vals-end _ _ _ _ _ _ _ (omega arith) ∙ simp (ne-eqb _ _ (c .if3 .left)))
+
+pub vals-in-spec : {M : Type 1} → statement M
+vals-in-spec =
+    tie.close
+    (tie.spec
+    Inv-loop
+    μ-loop
+    loop-holds
+    mul-kind
+    mul-kind-2
+    shared-slice-read-kind
+    mul-room
+    add-room
+    mul-room-2
+    shared-slice-read-room
+    mul-len
+    add-len
+    mul-len-2
+    shared-slice-read-len
+    sub-left
+    returns
+    value-ok-requires
+    returns-2
+    add-t
+    add-size
+    add-j
+    loop-less
+    loop-again
+    returns-3
+    returns-4)

@@ -1,0 +1,77 @@
+-- `insertion::remove::move_down` meets its contract. The loop's invariant: what was passed lies in its new place. Assumes nothing.
+use mathlib.Core.Path.{_≡_, refl}
+use Prim.Native.Nat.{_≤_, _-_}
+use lib.ListN.{length, length-set}
+use lib.Seq.{slice}
+use Rattle.lists.specs.Lists.{over}
+use Rattle.insertion.proofs.FallLaws.{down-none, down-more}
+use native.Mathlib.Omega.{arith}
+use borrow.Author.Needs.{needs}
+use Rattle.insertion.proofs.remove.move_down.Statement.{statement}
+use Rattle.insertion.proofs.remove.move_down.Tie as tie
+
+abbrev Inv-loop : tie.InvT-loop
+Inv-loop s₀ at from end k j₀ s j = (from ≤ j) × (j ≤ end) × (length s ≡ length s₀) × (s ≡ over s₀ at (slice from j s₀))
+
+abbrev μ-loop : tie.MeasureT-loop
+μ-loop s₀ at from end k j₀ s j = end - j
+
+sub-k : tie.Need-sub-k Inv-loop μ-loop
+sub-k c = search needs
+
+loop-holds : tie.Need-loop-holds Inv-loop μ-loop
+loop-holds c = (omega arith, omega arith, refl, down-none _ _ (c .args .from))
+
+mul-s : tie.Need-mul-s Inv-loop μ-loop
+mul-s c = search needs
+
+slice-read-s : tie.Need-slice-read-s Inv-loop μ-loop
+slice-read-s c = search needs
+
+sub-s : tie.Need-sub-s Inv-loop μ-loop
+sub-s c = search needs
+
+mul-s-2 : tie.Need-mul-s-2 Inv-loop μ-loop
+mul-s-2 c = search needs
+
+slice-write-s : tie.Need-slice-write-s Inv-loop μ-loop
+slice-write-s c = search needs
+
+add-j : tie.Need-add-j Inv-loop μ-loop
+add-j c = search needs
+
+loop-less : tie.Need-loop-less Inv-loop μ-loop
+loop-less c = search needs
+
+loop-again : tie.Need-loop-again Inv-loop μ-loop
+loop-again c =
+    let l = c .before .before .loop in
+    let s = c .before .before .before in
+    (omega arith, omega arith, simp length-set (l .inv .2), down-more (s .args .s .now) (l .s) (s .args .at) (s .args .from) (l .j) (s .pre .0) (l .inv .0) (omega (arith, l .inv .2)) (l .inv .3))
+
+same-length : tie.Need-same-length Inv-loop μ-loop
+same-length c = search needs
+
+returns : tie.Need-returns Inv-loop μ-loop
+returns c =
+    let e : c .before .loop .j ≡ c .before .before .args .end = omega arith in
+    rw e at (c .before .loop .inv .3)
+
+pub move-down-spec : {M : Type 1} → statement M
+move-down-spec =
+    tie.close
+    (tie.spec
+    Inv-loop
+    μ-loop
+    sub-k
+    loop-holds
+    mul-s
+    slice-read-s
+    sub-s
+    mul-s-2
+    slice-write-s
+    add-j
+    loop-less
+    loop-again
+    same-length
+    returns)

@@ -1,0 +1,119 @@
+-- `insertion::remove::remove_row` meets its contract. Assumes nothing.
+use lib.ListN.{length-set}
+use native.Mathlib.Omega.{arith}
+use borrow.Author.Needs.{needs}
+use Rattle.insertion.proofs.remove.remove_row.Statement.{statement}
+use Rattle.insertion.proofs.remove.remove_row.Tie as tie
+
+values-of-requires : tie.Need-values-of-requires
+values-of-requires c κs = search needs
+
+less-requires : tie.Need-less-requires
+less-requires c κs = search needs
+
+used-of-requires : tie.Need-used-of-requires
+used-of-requires c κs = search needs
+
+less-requires-2 : tie.Need-less-requires-2
+less-requires-2 c κs = search needs
+
+mul-move-down : tie.Need-mul-move-down
+mul-move-down c = search needs
+
+add-move-down : tie.Need-add-move-down
+add-move-down c = search needs
+
+mul-move-down-2 : tie.Need-mul-move-down-2
+mul-move-down-2 c = search needs
+
+add-move-down-2 : tie.Need-add-move-down-2
+add-move-down-2 c = search needs
+
+mul-move-down-3 : tie.Need-mul-move-down-3
+mul-move-down-3 c = search needs
+
+add-move-down-3 : tie.Need-add-move-down-3
+add-move-down-3 c = search needs
+
+move-down-requires : tie.Need-move-down-requires
+move-down-requires c κs = search needs
+
+mul-fall : tie.Need-mul-fall
+mul-fall c = search needs
+
+add-fall : tie.Need-add-fall
+add-fall c = search needs
+
+add-fall-2 : tie.Need-add-fall-2
+add-fall-2 c = search needs
+
+sub-fall : tie.Need-sub-fall
+sub-fall c = search needs
+
+fall-requires : tie.Need-fall-requires
+fall-requires c κs = search needs
+
+mul-fall-2 : tie.Need-mul-fall-2
+mul-fall-2 c = search needs
+
+add-fall-3 : tie.Need-add-fall-3
+add-fall-3 c = search needs
+
+add-fall-4 : tie.Need-add-fall-4
+add-fall-4 c = search needs
+
+sub-fall-2 : tie.Need-sub-fall-2
+sub-fall-2 c = search needs
+
+fall-requires-2 : tie.Need-fall-requires-2
+fall-requires-2 c κs = search needs
+
+sub-objects : tie.Need-sub-objects
+sub-objects c = search needs
+
+slice-write-objects : tie.Need-slice-write-objects
+slice-write-objects c = search needs
+
+slice-write-objects-2 : tie.Need-slice-write-objects-2
+slice-write-objects-2 c = rw length-set (omega arith)
+
+slice-write-objects-3 : tie.Need-slice-write-objects-3
+slice-write-objects-3 c = rw (length-set, length-set) (omega arith)
+
+same-length : tie.Need-same-length
+same-length c = rw (length-set, length-set, length-set) (omega arith)
+
+returns : tie.Need-returns
+returns c = rw (c .before .before .fall2 .ensures, c .before .before .before .before .before .before .fall .ensures, c .before .before .before .before .before .before .before .before .before .before .move-down .ensures, c .before .before .before .before .before .before .before .before .before .before .before .before .less2 .ensures, c .before .before .before .before .before .before .before .before .before .before .before .before .before .used-of .ensures, c .before .before .before .before .before .before .before .before .before .before .before .before .before .before .before .less .ensures, c .before .before .before .before .before .before .before .before .before .before .before .before .before .before .before .before .values-of .ensures)
+
+pub remove-row-spec : {M : Type 1} → statement M
+remove-row-spec =
+    tie.close
+    (tie.spec
+    values-of-requires
+    less-requires
+    used-of-requires
+    less-requires-2
+    mul-move-down
+    add-move-down
+    mul-move-down-2
+    add-move-down-2
+    mul-move-down-3
+    add-move-down-3
+    move-down-requires
+    mul-fall
+    add-fall
+    add-fall-2
+    sub-fall
+    fall-requires
+    mul-fall-2
+    add-fall-3
+    add-fall-4
+    sub-fall-2
+    fall-requires-2
+    sub-objects
+    slice-write-objects
+    slice-write-objects-2
+    slice-write-objects-3
+    same-length
+    returns)

@@ -1,0 +1,91 @@
+-- Insertion: RULES.md 6.
+-- Assumes nothing.
+use Prim.Native.Nat.{ℕ, zero, suc, _+_, _-_, _*_, _≤_, _<_}
+use mathlib.Core.Path.{_≡_}
+use mathlib.Core.Bool.{Bool, false, cond, _&&_, _||_}
+use mathlib.Core.List.{List, [], _∷_}
+use lib.ListN.{length}
+use lib.Dec.{eqb, leb, ltb}
+use Rattle.answers.specs.declared.Refusal.the-variants.{Malformed, BadValue, Occupied, Full}
+use Rattle.value.specs.Codec.{isText}
+use Rattle.entry.specs.Model.{Obj, used, size, insertAt}
+use Rattle.entry.specs.Table.{Dict, indexAt, modelOf, laid, numberOf, valuesOf, usedOf}
+use Rattle.entry.specs.Judge.{wellFormed}
+use Rattle.insertion.specs.declared.Head.{Head}
+use Rattle.insertion.specs.declared.Inserted.{Inserted}
+use Rattle.insertion.specs.declared.Inserted.the-variants.{Done, Refused}
+use Rattle.insertion.specs.Given.{typeIn, roomIn, lengthIn, lengthsIn, objIn, rightIn}
+
+-- the memory with the object o as the one at place i: R6.6
+abbrev pub inserted : ℕ → Obj → Dict → Dict
+inserted i o d = laid (insertAt i o (modelOf d)) d
+
+-- how many objects come before index x, and whether one has it
+unfoldable pub below : ℕ → List Obj → ℕ
+below x [] = 0
+below x (o ∷ os) = cond (ltb (o .index) x) (suc (below x os)) 0
+
+unfoldable pub taken : ℕ → List Obj → Bool
+taken x [] = false
+taken x (o ∷ os) = eqb (o .index) x || taken x os
+
+-- whether there is room for one object more, of u values and g bytes: R6.4
+unfoldable pub fitsIn : Dict → ℕ → ℕ → Bool
+fitsIn d u g =
+    ltb (numberOf (d .objects)) 1024 && (leb (12 * numberOf (d .objects) + 24) (length (d .objects)) && (leb (valuesOf (d .objects) + u) 6144 && (leb (3 * (valuesOf (d .objects) + u)) (length (d .slots))
+    && (leb (valuesOf (d .objects) + u) (length (d .words)) && (leb (usedOf (d .objects) + g) 32768 && leb (usedOf (d .objects) + g) (length (d .bytes)))))))
+
+-- ---- the answer: R6.2
+unfoldable pub answerOf : Head → List ℕ → List ℕ → List ℕ → Dict → Inserted
+answerOf h name vals encodings d =
+    cond (wellFormed d)
+    (cond (rightIn h name vals encodings)
+    (cond (taken (h .index) (modelOf d))
+    (Refused Occupied)
+    (cond (fitsIn d (used (objIn h name vals encodings)) (size (objIn h name vals encodings)))
+    Done
+    (Refused Full)))
+    (Refused BadValue))
+    (Refused Malformed)
+
+-- the memory after it: a refusal leaves it as it is
+abbrev pub after : Inserted → Dict → Dict → Dict
+after Done new old = new
+after (Refused r) new old = old
+
+abbrev pub memoryOf : Head → List ℕ → List ℕ → List ℕ → Dict → Dict
+memoryOf h name vals encodings d =
+    after (answerOf h name vals encodings d) (inserted (below (h .index) (modelOf d)) (objIn h name vals encodings) d) d
+
+-- ---- what the code's parts need and say
+-- the place in the table: the first of k rows from row i on whose index is not below x
+unfoldable pub placeFrom : List ℕ → ℕ → ℕ → ℕ → ℕ
+placeFrom objects x zero i = i
+placeFrom objects x (suc k) i = cond (ltb (indexAt objects i) x) (placeFrom objects x k (suc i)) i
+
+-- its row
+abbrev pub rowIn : Head → ℕ → ℕ → ℕ → ℕ → List ℕ
+rowIn h v b len u = h .index ∷ h .kind ∷ h .access ∷ (u - h .default) ∷ v ∷ b ∷ len ∷ h .default ∷ 0 ∷ 0 ∷ 0 ∷ 0 ∷ []
+
+-- there is room for one object more, of u values and g bytes
+pub record Room (objects slots words bytes : List ℕ) (i u g : ℕ) : Type 0 where
+  pub place : i ≤ numberOf objects
+  pub few : numberOf objects < 1024
+  pub rows : 12 * numberOf objects + 24 ≤ length objects
+  pub values : valuesOf objects + u ≤ 6144
+  pub slotted : 3 * (valuesOf objects + u) ≤ length slots
+  pub worded : valuesOf objects + u ≤ length words
+  pub total : usedOf objects + g ≤ 32768
+  pub arena : usedOf objects + g ≤ length bytes
+
+-- how many bytes of its room a value takes
+abbrev pub heldIn : List ℕ → ℕ → ℕ
+heldIn vals j = cond (isText (typeIn vals j)) (lengthIn vals j) 0
+
+-- u values that fit their rooms and lie within the encodings
+pub record Values (vals encodings : List ℕ) (u : ℕ) : Type 0 where
+  pub few : u ≤ 255
+  pub long : 3 * u ≤ length vals
+  pub encoded : lengthsIn vals u 0 ≤ length encodings
+  pub within : (j : ℕ) → j < u → heldIn vals j ≤ roomIn vals j
+  pub short : (j : ℕ) → j < u → isText (typeIn vals j) ≡ false → lengthIn vals j ≤ 8

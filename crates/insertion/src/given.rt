@@ -1,0 +1,118 @@
+// Judging what an insertion is given.
+ghost use mathlib.Core.Path.{_≡_};
+ghost use mathlib.Core.Bool.{true, false};
+ghost use Prim.Native.Nat.{_+_, _*_, _≤_};
+ghost use lib.ListN.{length, take, drop};
+ghost use Rattle.text.specs.Machine.{judge};
+ghost use Rattle.value.specs.Codec.{isText};
+ghost use Rattle.entry.specs.Rules.{isGood, headOk};
+ghost use Rattle.insertion.specs.Given.{valueOk, valsIn, sizeIn};
+use crate::Head;
+use crate::Size;
+use text::Text;
+use value::Word;
+
+fn head_ok(head: Head, count: usize, len: usize) -> bool
+    ensures { λ r. ⌜ r ≡ headOk (head .index) (head .kind) (head .access) count (head .default) len ⌝ }
+{
+    let index = head.index as u64;
+    (index < 65536)
+        & ((head.kind < 3)
+            & ((head.access < 8)
+                & ((count <= 254)
+                    & ((!(head.kind == 0) | (count == 1)) & ((head.default <= 1) & (len <= 32))))))
+}
+
+fn is_good(name: &[u8]) -> bool
+    ensures { λ r. ⌜ r ≡ isGood (judge (now (name .entry))) ⌝ }
+{
+    match text::text_ok(name) {
+        Text::Good => true,
+        Text::Bad(_) => false,
+    }
+}
+
+// A string of type t: within its room, and good over its length. As the default it has just its bytes.
+fn string_ok(element: bool, t: u64, room: u64, s: &[u8], start: usize, len: usize) -> bool
+    requires { ⌜ (start + len ≤ length (now s)) × (isText t ≡ true) × (room ≤ 1490) ⌝ }
+    ensures { λ r. ⌜ r ≡ valueOk element t room (take len (drop start (now (s .entry)))) ⌝ }
+{
+    let end = start + len;
+    if room < len as u64 {
+        return false;
+    }
+    let Word::Takes(_) = value::decode_word(t, &s[start..end]) else {
+        return false;
+    };
+    element | (room == len as u64)
+}
+
+fn value_ok(element: bool, t: u64, room: u64, s: &[u8], start: usize, len: usize) -> bool
+    requires { ⌜ start + len ≤ length (now s) ⌝ }
+    ensures { λ r. ⌜ r ≡ valueOk element t room (take len (drop start (now (s .entry)))) ⌝ }
+{
+    if 20 < t {
+        return false;
+    }
+    if 1490 < room {
+        return false;
+    }
+    if value::is_text(t) {
+        return string_ok(element, t, room, s, start, len);
+    }
+    let n = value::size_of(t);
+    if len != n {
+        return false;
+    }
+    element | (room == 0)
+}
+
+fn vals_in(vals: &[u64], encodings: &[u8], count: usize, u: usize, g: usize) -> Size
+    requires { ⌜ (u ≤ 255) × (3 * u ≤ length (now vals)) × (g ≤ 32) ⌝ }
+    ensures { λ r. ⌜ r ≡ valsIn (now (vals .entry)) (now (encodings .entry)) count u 0 0 g ⌝ }
+{
+    let mut j = 0;
+    let mut t = 0;
+    let mut size = g;
+    while j < u {
+        let kind = vals[3 * j];
+        let room = vals[3 * j + 1];
+        let len = vals[3 * j + 2] as usize;
+        let left = encodings.len() - t;
+        if left < len {
+            return Size::Bad;
+        }
+        if !value_ok(j < count, kind, room, encodings, t, len) {
+            return Size::Bad;
+        }
+        t += len;
+        size += room as usize;
+        j += 1;
+    }
+    if t == encodings.len() {
+        return Size::Upto(size);
+    }
+    Size::Bad
+}
+
+// The bytes that the object takes, where its description adds up and it keeps the rules.
+pub fn size_in(head: Head, name: &[u8], vals: &[u64], encodings: &[u8]) -> Size
+    ensures { λ r. ⌜ r ≡ sizeIn head (now (name .entry)) (now (vals .entry)) (now (encodings .entry)) ⌝ }
+{
+    let u = vals.len() / 3;
+    let flag = head.default as usize;
+    let m = 3 * u;
+    if m != vals.len() {
+        return Size::Bad;
+    }
+    if u < flag {
+        return Size::Bad;
+    }
+    if !head_ok(head, u - flag, name.len()) {
+        return Size::Bad;
+    }
+    if !is_good(name) {
+        return Size::Bad;
+    }
+    vals_in(vals, encodings, u - flag, u, name.len())
+}
