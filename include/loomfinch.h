@@ -15,13 +15,26 @@ extern "C" {
 
 enum {
     LOOMFINCH_DONE = 0,
+    LOOMFINCH_MALFORMED = 1,
     LOOMFINCH_BAD_VALUE = 2,
+    LOOMFINCH_OBJECT_NOT_FOUND = 3,
+    LOOMFINCH_SUB_OBJECT_NOT_FOUND = 4,
     LOOMFINCH_TYPE_MISMATCH = 5,
-    LOOMFINCH_BUFFER_TOO_SHORT = 12
+    LOOMFINCH_BUFFER_TOO_SHORT = 12,
+    LOOMFINCH_OCCUPIED = 16,
+    LOOMFINCH_FULL = 17
 };
 
 /* How many numbers a call needs room for. */
-enum { LOOMFINCH_DECODE_NUMBERS = 7, LOOMFINCH_FROM_U64_NUMBERS = 9 };
+enum { LOOMFINCH_DECODE_NUMBERS = 7, LOOMFINCH_FROM_U64_NUMBERS = 9, LOOMFINCH_READ_NUMBERS = 3 };
+
+/* What a dictionary of n objects with v values and defaults and b bytes of names, rooms and defaults takes. */
+#define LOOMFINCH_OBJECTS_WORDS(n) (12 * (n) + 12)
+#define LOOMFINCH_SLOTS_WORDS(v) (3 * (v))
+#define LOOMFINCH_WORDS_WORDS(v) (v)
+
+/* The most that a dictionary has of each. */
+enum { LOOMFINCH_MOST_OBJECTS = 1024, LOOMFINCH_MOST_VALUES = 6144, LOOMFINCH_MOST_BYTES = 32768 };
 
 /* Decodes the value of type 0..20 that the data begins with.
  * Answers 2 for no such type; 5 for a VisibleString that is not UTF-8 or a UnicodeString of an odd count; 12 for fewer bytes
@@ -46,6 +59,69 @@ uint64_t loomfinch_from_u64(uint64_t word, uint64_t *numbers, size_t numbers_len
 
 /* The mapping word of an index, a sub-index, an offset and a length in bits. Never refuses. */
 uint64_t loomfinch_to_u64(uint16_t index, uint8_t sub_index, uint16_t offset_bits, uint16_t length_bits);
+
+/* The dictionary is four lent slices: objects (a header and the rows), slots (type, start and size of each value's room), words
+ * (a number for each value: a fixed type's bits or a string's length) and bytes (names, rooms and defaults). Only these calls
+ * write them. They may be longer than needed; what lies behind the used part stays and is not looked at. Every call below but
+ * loomfinch_new judges the four first and answers 1 where they are no dictionary.
+ * An index is 0..FFFFh and a sub-index 0..255. A list's sub-index 0 is the count of its elements. */
+
+/* Makes an empty dictionary: lays the header, 12 words; the words behind it stay, and the other slices need no preparation.
+ * Answers 17 for fewer than 12 words. */
+uint64_t loomfinch_new(uint64_t *objects, size_t objects_len);
+
+/* Inserts an object. Kind: 0 Variable, 1 Array, 2 Record. Access: 0 ReadOnly, 1 WriteOnly, 2 WriteOnlyStore, 3 ReadWrite,
+ * 4 ReadWriteStore, 5 Constant, 6 Conditional, 7 none. The values are a Variable's one value or a list's elements, then the
+ * default where has_default is 1. Each takes three numbers of vals: its type 0..20, the size of its room (a default's: just its
+ * length for types 11..14, else 0), and the byte count of its encoding; the encodings lie back to back.
+ * Answers 1; 2 where a rule for objects is broken, or the counts do not add up; 16 where the index is taken; 17 where the
+ * dictionary's bounds or the lent slices have no room for it; in this order.
+ * Done: the object is in its place, what comes behind it has moved up, and each other object keeps its name, values and rooms;
+ * bytes of the new rooms behind their values are 0. */
+uint64_t loomfinch_insert(uint64_t *objects, size_t objects_len, uint64_t *slots, size_t slots_len, uint64_t *words,
+                          size_t words_len, uint8_t *bytes, size_t bytes_len, uint16_t index, uint64_t kind, uint64_t access,
+                          uint64_t has_default, const uint8_t *name, size_t name_len, const uint64_t *vals, size_t vals_len,
+                          const uint8_t *encodings, size_t encodings_len);
+
+/* Reads a value. Answers 1; 3 for no such object; 4 for no such element; 12 for fewer than 3 numbers; in this order.
+ * Done: numbers[0] is the value's type, numbers[1] its word, and for types 11..14 its numbers[1] bytes start at
+ * bytes + numbers[2]. Numbers behind stay. */
+uint64_t loomfinch_read(const uint64_t *objects, size_t objects_len, const uint64_t *slots, size_t slots_len,
+                        const uint64_t *words, size_t words_len, const uint8_t *bytes, size_t bytes_len, uint16_t index,
+                        uint8_t sub_index, uint64_t *numbers, size_t numbers_len);
+
+/* Reads a number of one type. Answers 1; 3; 4; 5 for a value of another type; in this order. Done: *number is it. */
+uint64_t loomfinch_read_u8(const uint64_t *objects, size_t objects_len, const uint64_t *slots, size_t slots_len,
+                           const uint64_t *words, size_t words_len, const uint8_t *bytes, size_t bytes_len, uint16_t index,
+                           uint8_t sub_index, uint64_t *number);
+uint64_t loomfinch_read_u16(const uint64_t *objects, size_t objects_len, const uint64_t *slots, size_t slots_len,
+                            const uint64_t *words, size_t words_len, const uint8_t *bytes, size_t bytes_len, uint16_t index,
+                            uint8_t sub_index, uint64_t *number);
+uint64_t loomfinch_read_u32(const uint64_t *objects, size_t objects_len, const uint64_t *slots, size_t slots_len,
+                            const uint64_t *words, size_t words_len, const uint8_t *bytes, size_t bytes_len, uint16_t index,
+                            uint8_t sub_index, uint64_t *number);
+uint64_t loomfinch_read_u64(const uint64_t *objects, size_t objects_len, const uint64_t *slots, size_t slots_len,
+                            const uint64_t *words, size_t words_len, const uint8_t *bytes, size_t bytes_len, uint16_t index,
+                            uint8_t sub_index, uint64_t *number);
+
+/* Finds the lowest index of a name, which names sub-index 0. Answers 1; 2 for a name over 32 bytes or not UTF-8; 3 for no
+ * object of that name; in this order. Done: *index is it. */
+uint64_t loomfinch_find_by_name(const uint64_t *objects, size_t objects_len, const uint64_t *slots, size_t slots_len,
+                                const uint64_t *words, size_t words_len, const uint8_t *bytes, size_t bytes_len,
+                                const uint8_t *name, size_t name_len, uint64_t *index);
+
+/* Lists the configured nodes: the numbers of those elements of the Array 1F81h that are Unsigned32 with bit 0 set and bit 8
+ * clear, rising; none where 1F81h is no Array. Answers 1; 12 for an output shorter than the list; in this order.
+ * Done: the list lies at the output's start, bytes behind it stay, and *count is its length, at most 254. */
+uint64_t loomfinch_get_configured_cns(const uint64_t *objects, size_t objects_len, const uint64_t *slots, size_t slots_len,
+                                      const uint64_t *words, size_t words_len, const uint8_t *bytes, size_t bytes_len,
+                                      uint8_t *out, size_t out_len, uint64_t *count);
+
+/* Adds 1 modulo 2^32 to an Unsigned32 that is a Variable or a Record's element; elsewhere nothing happens, and that is Done
+ * too. Answers 1. */
+uint64_t loomfinch_increment_counter(const uint64_t *objects, size_t objects_len, const uint64_t *slots, size_t slots_len,
+                                     uint64_t *words, size_t words_len, const uint8_t *bytes, size_t bytes_len, uint16_t index,
+                                     uint8_t sub_index);
 
 #ifdef __cplusplus
 }

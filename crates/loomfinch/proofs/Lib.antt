@@ -1,1 +1,3 @@
 pub mod CLaws
+pub mod Unique
+pub mod UniqueC

@@ -11,6 +11,7 @@ pub use empty::new;
 pub use names::find_by_name;
 pub use nodes::get_configured_cns;
 pub use reading::read;
+pub use reading::read_number;
 pub use reading::read_part;
 pub use reading::read_u8;
 pub use reading::read_u16;

@@ -90,7 +90,7 @@ fn of_type(found: Stored, t: u64) -> Number
 }
 
 // The number of type t at an index and a sub-index.
-fn read_number(
+pub fn read_number(
     objects: &[u64],
     slots: &[u64],
     words: &[u64],

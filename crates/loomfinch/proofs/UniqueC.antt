@@ -1,0 +1,76 @@
+-- The same of each call for C. Assumes nothing.
+use mathlib.Core.Path.{_≡_, refl, ap, _∙_, sym}
+use Rattle.entry.specs.Table.{Dict}
+use Rattle.loomfinch.specs.C.{Lent, Written}
+use Rattle.loomfinch.specs.Dictionary.{Told}
+use Rattle.loomfinch.proofs.Unique.{Unique, both}
+use Rattle.loomfinch.proofs.c.loomfinch_decode.Reads as c-decode
+use Rattle.loomfinch.proofs.c.loomfinch_decode.Kinds as c-decode-kinds
+use Rattle.loomfinch.proofs.c.loomfinch_encode.Reads as c-encode
+use Rattle.loomfinch.proofs.c.loomfinch_encode.Kinds as c-encode-kinds
+use Rattle.loomfinch.proofs.c.loomfinch_from_u64.Reads as c-from-u64
+use Rattle.loomfinch.proofs.c.loomfinch_from_u64.Kinds as c-from-u64-kinds
+use Rattle.loomfinch.proofs.c.loomfinch_to_u64.Reads as c-to-u64
+use Rattle.loomfinch.proofs.c.loomfinch_to_u64.Kinds as c-to-u64-kinds
+use Rattle.loomfinch.proofs.dictionary.loomfinch_new.Reads as c-new
+use Rattle.loomfinch.proofs.dictionary.loomfinch_new.Kinds as c-new-kinds
+use Rattle.loomfinch.proofs.dictionary.loomfinch_insert.Reads as c-insert
+use Rattle.loomfinch.proofs.dictionary.loomfinch_insert.Kinds as c-insert-kinds
+use Rattle.loomfinch.proofs.dictionary.loomfinch_read.Reads as c-read
+use Rattle.loomfinch.proofs.dictionary.loomfinch_read.Kinds as c-read-kinds
+use Rattle.loomfinch.proofs.dictionary.loomfinch_read_u8.Reads as c-read-u8
+use Rattle.loomfinch.proofs.dictionary.loomfinch_read_u8.Kinds as c-read-u8-kinds
+use Rattle.loomfinch.proofs.dictionary.loomfinch_read_u16.Reads as c-read-u16
+use Rattle.loomfinch.proofs.dictionary.loomfinch_read_u16.Kinds as c-read-u16-kinds
+use Rattle.loomfinch.proofs.dictionary.loomfinch_read_u32.Reads as c-read-u32
+use Rattle.loomfinch.proofs.dictionary.loomfinch_read_u32.Kinds as c-read-u32-kinds
+use Rattle.loomfinch.proofs.dictionary.loomfinch_read_u64.Reads as c-read-u64
+use Rattle.loomfinch.proofs.dictionary.loomfinch_read_u64.Kinds as c-read-u64-kinds
+use Rattle.loomfinch.proofs.dictionary.loomfinch_find_by_name.Reads as c-find-by-name
+use Rattle.loomfinch.proofs.dictionary.loomfinch_find_by_name.Kinds as c-find-by-name-kinds
+use Rattle.loomfinch.proofs.dictionary.loomfinch_get_configured_cns.Reads as c-get-configured-cns
+use Rattle.loomfinch.proofs.dictionary.loomfinch_get_configured_cns.Kinds as c-get-configured-cns-kinds
+use Rattle.loomfinch.proofs.dictionary.loomfinch_increment_counter.Reads as c-increment-counter
+use Rattle.loomfinch.proofs.dictionary.loomfinch_increment_counter.Kinds as c-increment-counter-kinds
+
+pub c-decode-unique : Unique 2 c-decode-kinds.ps c-decode-kinds.r c-decode.Post
+c-decode-unique κs a z₁ z₂ w₁ w₂ p q = both (λ (x : Lent). x .answer) (λ x. (tt, (tt, (x .numbers, tt)))) p q
+
+pub c-encode-unique : Unique 3 c-encode-kinds.ps c-encode-kinds.r c-encode.Post
+c-encode-unique κs a z₁ z₂ w₁ w₂ p q = both (λ (x : Written). x .answer) (λ x. (tt, (tt, (tt, (x .out, (x .written, tt)))))) p q
+
+pub c-from-u64-unique : Unique 1 c-from-u64-kinds.ps c-from-u64-kinds.r c-from-u64.Post
+c-from-u64-unique κs a z₁ z₂ w₁ w₂ p q = both (λ (x : Lent). x .answer) (λ x. (tt, (x .numbers, tt))) p q
+
+pub c-to-u64-unique : Unique 0 c-to-u64-kinds.ps c-to-u64-kinds.r c-to-u64.Post
+c-to-u64-unique κs a z₁ z₂ w₁ w₂ p q = (p ∙ sym q, refl)
+
+pub c-new-unique : Unique 1 c-new-kinds.ps c-new-kinds.r c-new.Post
+c-new-unique κs a z₁ z₂ w₁ w₂ p q = (p .0 ∙ sym (q .0), ap (λ x. (x, tt)) (p .1 ∙ sym (q .1)))
+
+pub c-insert-unique : Unique 7 c-insert-kinds.ps c-insert-kinds.r c-insert.Post
+c-insert-unique κs a z₁ z₂ w₁ w₂ p q = (p .0 ∙ sym (q .0), ap (λ (x : Dict). (x .objects, (x .slots, (x .words, (x .bytes, (tt, (tt, (tt, (tt, (tt, (tt, (tt, tt)))))))))))) (p .1 ∙ sym (q .1)))
+
+pub c-read-unique : Unique 5 c-read-kinds.ps c-read-kinds.r c-read.Post
+c-read-unique κs a z₁ z₂ w₁ w₂ p q = both (λ (x : Lent). x .answer) (λ x. (tt, (tt, (tt, (tt, (tt, (tt, (x .numbers, tt)))))))) p q
+
+pub c-read-u8-unique : Unique 5 c-read-u8-kinds.ps c-read-u8-kinds.r c-read-u8.Post
+c-read-u8-unique κs a z₁ z₂ w₁ w₂ p q = both (λ (x : Told). x .answer) (λ x. (tt, (tt, (tt, (tt, (tt, (tt, (x .number, tt)))))))) p q
+
+pub c-read-u16-unique : Unique 5 c-read-u16-kinds.ps c-read-u16-kinds.r c-read-u16.Post
+c-read-u16-unique κs a z₁ z₂ w₁ w₂ p q = both (λ (x : Told). x .answer) (λ x. (tt, (tt, (tt, (tt, (tt, (tt, (x .number, tt)))))))) p q
+
+pub c-read-u32-unique : Unique 5 c-read-u32-kinds.ps c-read-u32-kinds.r c-read-u32.Post
+c-read-u32-unique κs a z₁ z₂ w₁ w₂ p q = both (λ (x : Told). x .answer) (λ x. (tt, (tt, (tt, (tt, (tt, (tt, (x .number, tt)))))))) p q
+
+pub c-read-u64-unique : Unique 5 c-read-u64-kinds.ps c-read-u64-kinds.r c-read-u64.Post
+c-read-u64-unique κs a z₁ z₂ w₁ w₂ p q = both (λ (x : Told). x .answer) (λ x. (tt, (tt, (tt, (tt, (tt, (tt, (x .number, tt)))))))) p q
+
+pub c-find-by-name-unique : Unique 6 c-find-by-name-kinds.ps c-find-by-name-kinds.r c-find-by-name.Post
+c-find-by-name-unique κs a z₁ z₂ w₁ w₂ p q = both (λ (x : Told). x .answer) (λ x. (tt, (tt, (tt, (tt, (tt, (x .number, tt))))))) p q
+
+pub c-get-configured-cns-unique : Unique 6 c-get-configured-cns-kinds.ps c-get-configured-cns-kinds.r c-get-configured-cns.Post
+c-get-configured-cns-unique κs a z₁ z₂ w₁ w₂ p q = both (λ (x : Written). x .answer) (λ x. (tt, (tt, (tt, (tt, (x .out, (x .written, tt))))))) p q
+
+pub c-increment-counter-unique : Unique 4 c-increment-counter-kinds.ps c-increment-counter-kinds.r c-increment-counter.Post
+c-increment-counter-unique κs a z₁ z₂ w₁ w₂ p q = (p .0 ∙ sym (q .0), ap (λ x. (tt, (tt, (x, (tt, (tt, (tt, tt))))))) (p .1 ∙ sym (q .1)))
