@@ -72,7 +72,7 @@ fn decode_line(s: &[u8], at: usize) -> bool {
     }
 }
 
-fn same(a: &[u8], b: &[u8]) -> bool {
+pub fn same(a: &[u8], b: &[u8]) -> bool {
     if a.len() != b.len() {
         return false;
     }

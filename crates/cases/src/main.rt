@@ -1,7 +1,10 @@
 // Runs every table and writes how many lines were run, a space, how many differ, and a newline.
 // The tables are lines (see `lines`): our own, and a sample of the Rust's answers in the file rust.txt, which oracle/run --sample made.
 mod hex;
+mod histories;
+mod history;
 mod lines;
+mod memory;
 mod tables;
 mod tally;
 
@@ -26,7 +29,12 @@ fn main() {
     let numbers = tables::numbers(integers);
     let others = tables::others(numbers);
     let refused = tables::refused(others);
-    let all = stored(tables::texts(refused));
+    let texts = tables::texts(refused);
+    let read = histories::reading(texts);
+    let inserted = histories::inserting(read);
+    let counted = histories::counting(inserted);
+    let damaged = histories::damaged(counted);
+    let all = stored(damaged);
     io::print_decimal(1, all.run);
     io::write_all(1, b" ");
     io::print_decimal(1, all.differ);

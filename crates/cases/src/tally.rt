@@ -8,7 +8,7 @@ pub struct Tally {
 }
 
 // Where the next line starts.
-fn line_end(s: &[u8], at: usize) -> usize
+pub fn line_end(s: &[u8], at: usize) -> usize
     ensures { λ r. ⌜ LineEnd (now (s .entry)) at r ⌝ }
 {
     let mut i = at;

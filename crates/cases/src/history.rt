@@ -1,0 +1,323 @@
+// Histories: lines that call one lent dictionary after another, each with the answer that it must give. It has room for 8 objects,
+// 300 values and 1,200 bytes, so that each of these can be full.
+//   N ANSWER                                               an empty dictionary
+//   I INDEX KIND ACCESS DEFAULT NAME VALS BYTES ANSWER     insertion; VALS has four digits a number, BYTES the encodings
+//   R INDEX SUB ANSWER [TYPE WORD PART]                    reading, and the part
+//   U TYPE INDEX SUB ANSWER [NUMBER]                       reading a number of a type
+//   F NAME ANSWER [INDEX]                                  finding by name
+//   C SIZE ANSWER [LIST]                                   the configured nodes, into SIZE bytes
+//   P INDEX SUB ANSWER                                     counting up
+//   D SLICE PLACE VALUE                                    damage: sets an element of slice 0 to 3
+//   S SUM                                                  the sum over all that is lent
+use crate::hex::bytes;
+use crate::hex::next;
+use crate::hex::number;
+use crate::lines::same;
+use crate::memory::numbers;
+use crate::memory::pairs;
+use crate::memory::set;
+use crate::memory::set_byte;
+use crate::memory::sum_of;
+use crate::memory::sum_of_bytes;
+use crate::tally::Tally;
+use crate::tally::line_end;
+use loomfinch::Answer;
+use loomfinch::ByName;
+use loomfinch::Head;
+use loomfinch::Inserted;
+use loomfinch::Listed;
+use loomfinch::Number;
+use loomfinch::Stored;
+
+fn answer_is(a: Answer, expected: u64) -> bool {
+    match a {
+        Answer::Done => expected == 0,
+        Answer::Refused(r) => expected == answers::number(r),
+    }
+}
+
+fn index_at(s: &[u8], at: usize) -> u16 {
+    (number(s, at) % 0x1_0000) as u16
+}
+
+fn sub_at(s: &[u8], at: usize) -> u8 {
+    (number(s, at) % 0x100) as u8
+}
+
+fn insert_line(
+    s: &[u8],
+    at: usize,
+    objects: &mut [u64],
+    slots: &mut [u64],
+    words: &mut [u64],
+    arena: &mut [u8],
+) -> bool {
+    let kind = next(s, at);
+    let access = next(s, kind);
+    let default = next(s, access);
+    let name_at = next(s, default);
+    let vals_at = next(s, name_at);
+    let encodings_at = next(s, vals_at);
+    let answer = next(s, encodings_at);
+    let head = Head {
+        index: index_at(s, at),
+        kind: number(s, kind),
+        access: number(s, access),
+        default: number(s, default),
+    };
+    let mut name = io::buffer();
+    let n = bytes(s, name_at, &mut name);
+    let mut digits = io::buffer();
+    let d = bytes(s, vals_at, &mut digits);
+    let mut vals = numbers();
+    let v = pairs(&digits[..d], &mut vals);
+    let mut encodings = io::buffer();
+    let e = bytes(s, encodings_at, &mut encodings);
+    let expected = number(s, answer);
+    match loomfinch::insert(
+        objects,
+        slots,
+        words,
+        arena,
+        head,
+        &name[..n],
+        &vals[..v],
+        &encodings[..e],
+    ) {
+        Inserted::Done => expected == 0,
+        Inserted::Refused(r) => expected == answers::number(r),
+    }
+}
+
+// The part that starts at `at`; a number has none.
+fn part_is(s: &[u8], at: usize, part: &[u8]) -> bool {
+    let mut expected = io::buffer();
+    let n = bytes(s, at, &mut expected);
+    same(&expected[..n], part)
+}
+
+fn read_line(
+    s: &[u8],
+    at: usize,
+    objects: &[u64],
+    slots: &[u64],
+    words: &[u64],
+    arena: &[u8],
+) -> bool {
+    let index = index_at(s, at);
+    let sub = next(s, at);
+    let answer = next(s, sub);
+    let expected = number(s, answer);
+    let sub = sub_at(s, sub);
+    match loomfinch::read(objects, slots, words, arena, index, sub) {
+        Stored::Is {
+            kind,
+            word,
+            start: _,
+        } => {
+            let kind_at = next(s, answer);
+            let word_at = next(s, kind_at);
+            let part = loomfinch::read_part(objects, slots, words, arena, index, sub);
+            (expected == 0)
+                & (kind == number(s, kind_at))
+                & (word == number(s, word_at))
+                & part_is(s, next(s, word_at), part)
+        }
+        Stored::Refused(r) => expected == answers::number(r),
+    }
+}
+
+fn typed(
+    t: u64,
+    objects: &[u64],
+    slots: &[u64],
+    words: &[u64],
+    arena: &[u8],
+    index: u16,
+    sub: u8,
+) -> Number {
+    match t {
+        5 => loomfinch::read_u8(objects, slots, words, arena, index, sub),
+        6 => loomfinch::read_u16(objects, slots, words, arena, index, sub),
+        7 => loomfinch::read_u32(objects, slots, words, arena, index, sub),
+        _ => loomfinch::read_u64(objects, slots, words, arena, index, sub),
+    }
+}
+
+fn typed_line(
+    s: &[u8],
+    at: usize,
+    objects: &[u64],
+    slots: &[u64],
+    words: &[u64],
+    arena: &[u8],
+) -> bool {
+    let index = next(s, at);
+    let sub = next(s, index);
+    let answer = next(s, sub);
+    let expected = number(s, answer);
+    let index = index_at(s, index);
+    let sub = sub_at(s, sub);
+    match typed(number(s, at), objects, slots, words, arena, index, sub) {
+        Number::Is(n) => (expected == 0) & (n == number(s, next(s, answer))),
+        Number::Refused(r) => expected == answers::number(r),
+    }
+}
+
+fn name_line(
+    s: &[u8],
+    at: usize,
+    objects: &[u64],
+    slots: &[u64],
+    words: &[u64],
+    arena: &[u8],
+) -> bool {
+    let mut name = io::buffer();
+    let n = bytes(s, at, &mut name);
+    let answer = next(s, at);
+    let expected = number(s, answer);
+    match loomfinch::find_by_name(objects, slots, words, arena, &name[..n]) {
+        ByName::At(x) => (expected == 0) & (x as u64 == number(s, next(s, answer))),
+        ByName::Refused(r) => expected == answers::number(r),
+    }
+}
+
+// The nodes are listed in `out`, and their numbers start behind the answer at `at`.
+fn nodes_are(
+    s: &[u8],
+    at: usize,
+    objects: &[u64],
+    slots: &[u64],
+    words: &[u64],
+    arena: &[u8],
+    out: &mut [u8],
+) -> bool {
+    let expected = number(s, at);
+    match loomfinch::get_configured_cns(objects, slots, words, arena, out) {
+        Listed::Numbers(m) => {
+            if m <= out.len() {
+                (expected == 0) & part_is(s, next(s, at), &out[..m])
+            } else {
+                false
+            }
+        }
+        Listed::Refused(r) => expected == answers::number(r),
+    }
+}
+
+fn nodes_line(
+    s: &[u8],
+    at: usize,
+    objects: &[u64],
+    slots: &[u64],
+    words: &[u64],
+    arena: &[u8],
+) -> bool {
+    let mut out = io::buffer();
+    let size = (number(s, at) % 256) as usize;
+    nodes_are(
+        s,
+        next(s, at),
+        objects,
+        slots,
+        words,
+        arena,
+        &mut out[..size],
+    )
+}
+
+fn counter_line(
+    s: &[u8],
+    at: usize,
+    objects: &[u64],
+    slots: &[u64],
+    words: &mut [u64],
+    arena: &[u8],
+) -> bool {
+    let index = index_at(s, at);
+    let sub = next(s, at);
+    let answer = number(s, next(s, sub));
+    let sub = sub_at(s, sub);
+    answer_is(
+        loomfinch::increment_counter(objects, slots, words, arena, index, sub),
+        answer,
+    )
+}
+
+fn damage_line(
+    s: &[u8],
+    at: usize,
+    objects: &mut [u64],
+    slots: &mut [u64],
+    words: &mut [u64],
+    arena: &mut [u8],
+) -> bool {
+    let place = next(s, at);
+    let value = number(s, next(s, place));
+    let place = number(s, place) as usize;
+    match number(s, at) {
+        0 => set(objects, place, value),
+        1 => set(slots, place, value),
+        2 => set(words, place, value),
+        _ => set_byte(arena, place, (value % 256) as u8),
+    }
+}
+
+fn sum_line(
+    s: &[u8],
+    at: usize,
+    objects: &[u64],
+    slots: &[u64],
+    words: &[u64],
+    arena: &[u8],
+) -> bool {
+    let sum = sum_of(words, sum_of(slots, sum_of(objects, 0)));
+    sum_of_bytes(arena, sum) == number(s, at)
+}
+
+// Does the call of the line that starts at `at` give its answer on the lent dictionary?
+pub fn holds(
+    s: &[u8],
+    at: usize,
+    objects: &mut [u64],
+    slots: &mut [u64],
+    words: &mut [u64],
+    arena: &mut [u8],
+) -> bool {
+    if s.len() <= at {
+        return false;
+    }
+    let kind = s[at];
+    let first = next(s, at);
+    match kind {
+        b'N' => answer_is(loomfinch::new(objects), number(s, first)),
+        b'I' => insert_line(s, first, objects, slots, words, arena),
+        b'R' => read_line(s, first, objects, slots, words, arena),
+        b'U' => typed_line(s, first, objects, slots, words, arena),
+        b'F' => name_line(s, first, objects, slots, words, arena),
+        b'C' => nodes_line(s, first, objects, slots, words, arena),
+        b'P' => counter_line(s, first, objects, slots, words, arena),
+        b'D' => damage_line(s, first, objects, slots, words, arena),
+        b'S' => sum_line(s, first, objects, slots, words, arena),
+        _ => false,
+    }
+}
+
+// Runs the lines of a history on memory of its own.
+pub fn run(table: &[u8], before: Tally) -> Tally {
+    let mut objects = [0; 108];
+    let mut slots = [0; 900];
+    let mut words = [0; 300];
+    let mut arena = [0; 1200];
+    let mut run = before.run;
+    let mut differ = before.differ;
+    let mut at = 0;
+    while at < table.len() {
+        run = std::num::wrapping_add_u64(run, 1);
+        if !holds(table, at, &mut objects, &mut slots, &mut words, &mut arena) {
+            differ = std::num::wrapping_add_u64(differ, 1);
+        }
+        at = line_end(table, at);
+    }
+    Tally { run, differ }
+}
