@@ -14,7 +14,8 @@ use Rattle.entry.specs.Rules.{isGood, valOk, heldOk, headOk}
 use Rattle.entry.specs.Judge.{slotOk, slotsFrom, usedAt, rowOk, rowFits, rowsFrom, headerOk, wellFormed}
 use Rattle.entry.specs.declared.Sum.the-variants as sum
 use Rattle.entry.specs.declared.Walk.the-variants as walk
-use Rattle.entry.proofs.JudgeLaws.{and-true, RowOk, RowFits, by-judge, by-slot, by-row, slot-ok, row-ok, row-fits, slots-upto}
+use Rattle.entry.proofs.JudgeLaws.{and-true, RowOk, RowFits, by-judge, by-slot, by-row, slot-ok, row-ok, row-fits}
+use Rattle.entry.proofs.WalkLaws.{slots-upto}
 
 -- a value where n elements are left
 pub record SlotFacts (d : Dict) (n p : ℕ) : Type 0 where

@@ -341,45 +341,6 @@ sound d e =
       few = record { objects = omega (arith, l, h .few); values = omega (arith, w .0, h .values); bytes = omega (arith, b .0, h .total) };
     }
 
-pub and-unit : (a : Bool) → (a && true) ≡ a
-and-unit true = refl
-and-unit false = refl
-
-pub and-false : (a : Bool) → (a && false) ≡ false
-and-false true = refl
-and-false false = refl
-
--- ---- one turn of each walk
-pub slots-step : (d : Dict) (n k f j b : ℕ) → j < k → slotsFrom d n (k - j) (f + j) b ≡ cond (slotOk d n (f + j) b) (slotsFrom d (n - 1) (k - (j + 1)) (f + (j + 1)) (b + roomAt (d .slots) (f + j))) sum.Bad
-unfolding slotsFrom
-slots-step d n k f j b h =
-    let e : k - j ≡ suc (k - (j + 1)) = omega arith in
-    let q : f + (j + 1) ≡ suc (f + j) = omega arith in
-    rw (e, q)
-
-pub slots-end : (d : Dict) (n k p b : ℕ) → k ≡ 0 → slotsFrom d n k p b ≡ sum.Upto b
-unfolding slotsFrom
-slots-end d n k p b e = rw e
-
-pub rows-step : (d : Dict) (n i v b low : ℕ) → i < n → rowsFrom d (n - i) i v b low ≡ cond (rowOk (d .objects) i v b low) (cond (rowFits (d .objects) (d .bytes) i v b) (andThen (slotsFrom d (countAt (d .objects) i) (usedAt (d .objects) i) v (b + nameLenAt (d .objects) i)) (λ e. rowsFrom d (n - (i + 1)) (i + 1) (v + usedAt (d .objects) i) e (indexAt (d .objects) i + 1))) walk.Broken) walk.Broken
-unfolding rowsFrom
-rows-step d n i v b low h =
-    let e : n - i ≡ suc (n - (i + 1)) = omega arith in
-    let q : i + 1 ≡ suc i = omega arith in
-    rw (e, q)
-
-pub rows-end : (d : Dict) (k i v b low : ℕ) → k ≡ 0 → rowsFrom d k i v b low ≡ walk.Whole v b
-unfolding rowsFrom
-rows-end d k i v b low e = rw e
-
--- where a walk over slots ends
-pub slots-upto : (d : Dict) (n k p b e : ℕ) → b ≤ usedOf (d .objects) → slotsFrom d n k p b ≡ sum.Upto e → e ≤ usedOf (d .objects)
-unfolding slotsFrom
-slots-upto d n zero p b e h q = let l : b ≡ e = cc in omega arith
-slots-upto d n (suc k) p b e h q =
-    let z = by-slot (slotOk d n p b) (slotsFrom d (n - 1) k (suc p) (b + roomAt (d .slots) p)) q in
-    slots-upto d (n - 1) k (suc p) (b + roomAt (d .slots) p) e (slot-ok d n p b h (z .0) .within) (z .1)
-
 -- what the head's test says of the numbers
 pub record HeadOk (index count flag len : ℕ) : Type 0 where
   pub index-small : index < 65536
@@ -397,17 +358,6 @@ head-ok index kind access count flag len e =
     let x₄ = and-true (not (eqb kind 0) || eqb count 1) _ (x₃ .1) in
     let x₅ = and-true _ _ (x₄ .1) in
     record { index-small = ltb-true _ _ (x₀ .0); count-small = leb-true _ _ (x₃ .0); flag-small = leb-true _ _ (x₅ .0); len-small = leb-true _ _ (x₅ .1) }
-
-pub header-short : (d : Dict) → length (d .objects) < 12 → headerOk d ≡ false
-unfolding headerOk
-header-short d h =
-    let e : leb (12 * numberOf (d .objects) + 12) (length (d .objects)) ≡ false = lt-leb (12 * numberOf (d .objects) + 12) (length (d .objects)) (omega arith) in
-    rw e (and-false (leb (numberOf (d .objects)) 1024))
-
-pub header-rest : (d : Dict) → numberOf (d .objects) ≤ 1024 → 12 * numberOf (d .objects) + 12 ≤ length (d .objects) → valuesOf (d .objects) ≤ 6144
-    → headerOk d ≡ (leb (3 * valuesOf (d .objects)) (length (d .slots)) && (leb (valuesOf (d .objects)) (length (d .words)) && (leb (usedOf (d .objects)) 32768 && (leb (usedOf (d .objects)) (length (d .bytes)) && reserved (d .objects)))))
-unfolding headerOk
-header-rest d a b c = rw (le-leb _ _ a, le-leb _ _ b, le-leb _ _ c)
 
 pub headed : (d : Dict) → wellFormed d ≡ true → Header d
 unfolding wellFormed

@@ -1,5 +1,6 @@
 pub mod ModelLaws
 pub mod JudgeLaws
+pub mod WalkLaws
 pub mod BackLaws
 pub mod FactLaws
 pub mod FindLaws

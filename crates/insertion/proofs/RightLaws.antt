@@ -20,7 +20,8 @@ use Rattle.value.specs.declared.Word.the-variants.{Takes, Fails}
 use Rattle.value.proofs.CodecLaws.{size-le, text-taken}
 use Rattle.entry.specs.Model.{Val, used, size}
 use Rattle.entry.specs.Rules.{isGood, wordOk, valOk, tight, heldOk, valsOk, headOk, objOk}
-use Rattle.entry.proofs.JudgeLaws.{and-true, and-unit, head-ok}
+use Rattle.entry.proofs.JudgeLaws.{and-true, head-ok}
+use Rattle.entry.proofs.WalkLaws.{and-unit}
 use Rattle.insertion.specs.Given.{typeIn, roomIn, lengthIn, wordIn, held, roomOf, valIn, given, roomsIn, lengthsIn, countIn, objIn, sized, sizedIn, rightIn, sizeIn, valueOk, valsIn}
 use Rattle.insertion.specs.Insert.{Values}
 use Rattle.insertion.specs.declared.Head.{Head}

@@ -2,7 +2,7 @@
 use borrow.Author.Tests.{le-leb, lt-leb}
 use mathlib.Core.Path.{_≡_, sym, _∙_}
 use Rattle.entry.specs.Judge.{headerOk}
-use Rattle.entry.proofs.JudgeLaws.{header-short, header-rest}
+use Rattle.entry.proofs.WalkLaws.{header-short, header-rest}
 use borrow.Author.Needs.{needs}
 use Rattle.entry.proofs.judge.header_ok.Statement.{statement}
 use Rattle.entry.proofs.judge.header_ok.Tie as tie

@@ -6,7 +6,8 @@ use native.Mathlib.Nat.{add-zero}
 use borrow.Author.Tests.{not-true, not-false}
 use Rattle.entry.specs.Table.{Dict, dict, usedOf}
 use Rattle.entry.specs.Judge.{slotOk, slotsFrom}
-use Rattle.entry.proofs.JudgeLaws.{SlotOk, slot-ok, slots-step, slots-end}
+use Rattle.entry.proofs.JudgeLaws.{SlotOk, slot-ok}
+use Rattle.entry.proofs.WalkLaws.{slots-step, slots-end}
 use native.Mathlib.Omega.{arith}
 use borrow.Author.Needs.{needs}
 use Rattle.entry.proofs.judge.walk_slots.Statement.{statement}
