@@ -342,13 +342,14 @@ sound d e =
     }
 
 -- what the head's test says of the numbers
-pub record HeadOk (index count flag len : ℕ) : Type 0 where
+pub record HeadOk (index kind count flag len : ℕ) : Type 0 where
   pub index-small : index < 65536
   pub count-small : count ≤ 254
+  pub variable : kind ≡ 0 → count ≡ 1
   pub flag-small : flag ≤ 1
   pub len-small : len ≤ 32
 
-pub head-ok : (index kind access count flag len : ℕ) → headOk index kind access count flag len ≡ true → HeadOk index count flag len
+pub head-ok : (index kind access count flag len : ℕ) → headOk index kind access count flag len ≡ true → HeadOk index kind count flag len
 unfolding headOk
 head-ok index kind access count flag len e =
     let x₀ = and-true _ _ e in
@@ -357,7 +358,13 @@ head-ok index kind access count flag len e =
     let x₃ = and-true _ _ (x₂ .1) in
     let x₄ = and-true (not (eqb kind 0) || eqb count 1) _ (x₃ .1) in
     let x₅ = and-true _ _ (x₄ .1) in
-    record { index-small = ltb-true _ _ (x₀ .0); count-small = leb-true _ _ (x₃ .0); flag-small = leb-true _ _ (x₅ .0); len-small = leb-true _ _ (x₅ .1) }
+    record {
+      index-small = ltb-true _ _ (x₀ .0);
+      count-small = leb-true _ _ (x₃ .0);
+      variable = λ z. eqb-true count 1 (rw (eq-eqb kind 0 z) at (x₄ .0));
+      flag-small = leb-true _ _ (x₅ .0);
+      len-small = leb-true _ _ (x₅ .1);
+    }
 
 pub headed : (d : Dict) → wellFormed d ≡ true → Header d
 unfolding wellFormed

@@ -2,7 +2,7 @@
 -- of which the judgement has said all that reading and putting need.
 -- Assumes nothing.
 use mathlib.Core.Path.{_≡_, refl, sym, ap, _∙_, subst}
-use mathlib.Core.Bool.{Bool, true, false, cond, not, _&&_, _||_}
+use mathlib.Core.Bool.{Bool, true, false, cond, _&&_, _||_}
 use mathlib.Core.Logic.{_⊎_, inl, inr, _≢_}
 use mathlib.Core.List.{List}
 use mathlib.Core.Option.{some}
@@ -15,14 +15,14 @@ use lib.Dec.{eqb, leb, ltb}
 use lib.ListN.{length, take, drop, getD}
 use Rattle.value.specs.Codec.{isText, fitsType, takes, textWord}
 use Rattle.entry.specs.Model.{Obj}
-use Rattle.entry.specs.Table.{Dict, modelOf, valAt, objAt, numberOf, valuesOf, usedOf, indexAt, kindAt, accessAt, countAt, firstAt, nameLenAt, defaultAt, typeAt, startAt, roomAt}
-use Rattle.entry.specs.Rules.{wordOk, valOk, tight, heldOk, headOk}
+use Rattle.entry.specs.Table.{Dict, modelOf, valAt, objAt, numberOf, valuesOf, usedOf, indexAt, kindAt, countAt, firstAt, defaultAt, typeAt, startAt, roomAt}
+use Rattle.entry.specs.Rules.{wordOk, valOk, tight, heldOk}
 use Rattle.entry.specs.Judge.{usedAt, wellFormed}
 use Rattle.entry.specs.Find.{Rows, findFrom, findRow, subAt, onRow, placeOf, objectOf, objectIn, nth}
 use Rattle.entry.specs.declared.Found.{Found}
 use Rattle.entry.specs.declared.Found.the-variants.{At, Nothing}
 use Rattle.entry.specs.declared.Place.the-variants.{NoSub, Count, Value}
-use Rattle.entry.proofs.JudgeLaws.{and-true, headed}
+use Rattle.entry.proofs.JudgeLaws.{and-true, head-ok, headed}
 use Rattle.entry.proofs.FactLaws.{row-facts}
 use Rattle.entry.proofs.FindLaws.{found, found-row, value-there}
 use Rattle.entry.proofs.ApartLaws.{owned, rising, firsts-rise}
@@ -32,17 +32,6 @@ pub rows-of : (d : Dict) → wellFormed d ≡ true → Rows (d .objects)
 rows-of d e =
     let h = headed d e in
     record { few = h .few; long = h .rows; firsts = λ i l. omega (arith, row-facts d e i l .values, h .values) }
-
--- a Variable has one value
-pub variable-one : (index kind access count flag len : ℕ) → headOk index kind access count flag len ≡ true → kind ≡ 0 → count ≡ 1
-unfolding headOk
-variable-one index kind access count flag len e z =
-    let x₀ = and-true (ltb index 65536) _ e in
-    let x₁ = and-true (ltb kind 3) _ (x₀ .1) in
-    let x₂ = and-true (ltb access 8) _ (x₁ .1) in
-    let x₃ = and-true (leb count 254) _ (x₂ .1) in
-    let x₄ = and-true (not (eqb kind 0) || eqb count 1) _ (x₃ .1) in
-    eqb-true count 1 (rw (eq-eqb kind 0 z) at (x₄ .0))
 
 -- ---- the element that an index and a sub-index name
 pub record Element (d : Dict) (x sub p : ℕ) : Type 0 where
@@ -77,7 +66,7 @@ element-of d e x sub p q = go (findRow (d .objects) x) refl q
         let below : i < numberOf (d .objects) = omega (arith, r .below) in
         let kind : kindAt (d .objects) i ≡ 0 = eqb-true (kindAt (d .objects) i) 0 (h .0) in
         let s : sub ≡ 0 = eqb-true sub 0 (h .1) in
-        let one = variable-one (indexAt (d .objects) i) (kindAt (d .objects) i) (accessAt (d .objects) i) (countAt (d .objects) i) (defaultAt (d .objects) i) (nameLenAt (d .objects) i) (row-facts d e i below .head) kind in
+        let one : countAt (d .objects) i ≡ 1 = head-ok _ _ _ _ _ _ (row-facts d e i below .head) .variable kind in
         record { row = i; k = 0; below = below; inside = omega arith; place = omega (arith, h .2); index = r .index; found = f; variable = λ z. (s, refl); list = λ n. absurd (n kind) }
     at i f (inr h) =
         let r = found-row (d .objects) x (numberOf (d .objects)) 0 i f in

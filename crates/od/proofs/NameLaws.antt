@@ -5,14 +5,12 @@ use mathlib.Core.Bool.{Bool, true, false, cond, _&&_}
 use mathlib.Core.List.{List, [], _∷_}
 use Prim.Native.Nat.{ℕ, zero, suc, _+_, _-_, _*_, _<_, _≤_}
 use native.Mathlib.Omega.{arith}
-use borrow.Author.Tests.{ltb-true}
-use lib.Dec.{eqb, ltb}
+use lib.Dec.{eqb}
 use lib.ListN.{length, getD, take, drop, drop-of-length-le, length-drop}
 use lib.Seq.{drop-cons, length-take-le}
 use Rattle.entry.specs.Table.{Dict, numberOf, indexAt, nameAt, nameLenAt}
-use Rattle.entry.specs.Rules.{headOk}
 use Rattle.entry.specs.Judge.{wellFormed}
-use Rattle.entry.proofs.JudgeLaws.{and-true, headed}
+use Rattle.entry.proofs.JudgeLaws.{and-true, head-ok, headed}
 use Rattle.entry.proofs.FactLaws.{row-facts}
 use Rattle.answers.specs.declared.Refusal.the-variants.{ObjectNotFound}
 use Rattle.od.specs.declared.ByName.the-variants.{At, Refused}
@@ -62,10 +60,6 @@ pub record NameLies (d : Dict) (i : ℕ) : Type 0 where
   pub inside : nameAt (d .objects) i + nameLenAt (d .objects) i ≤ length (d .bytes)
   pub index : indexAt (d .objects) i < 65536
 
-low-index : (index kind access count flag len : ℕ) → headOk index kind access count flag len ≡ true → index < 65536
-unfolding headOk
-low-index index kind access count flag len e = ltb-true index 65536 (and-true (ltb index 65536) _ e .0)
-
 pub name-lies : (d : Dict) → wellFormed d ≡ true → (i : ℕ) → i < numberOf (d .objects) → NameLies d i
 name-lies d w i h =
     let r = row-facts d w i h in
@@ -75,7 +69,7 @@ name-lies d w i h =
       row = omega (arith, a .rows);
       start = omega (arith, r .bytes, a .total);
       inside = omega (arith, r .bytes, a .bytes);
-      index = low-index _ _ _ _ _ _ (r .head);
+      index = head-ok _ _ _ _ _ _ (r .head) .index-small;
     }
 
 pub name-apart : (d : Dict) → wellFormed d ≡ true → (i : ℕ) → i < numberOf (d .objects) → (name : List ℕ) → (nameLenAt (d .objects) i ≡ length name → ⊥) → same (nameOf d i) name ≡ false

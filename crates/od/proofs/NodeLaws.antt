@@ -1,18 +1,16 @@
 -- The walk over the elements of 1F81h, and where they lie.
 -- Assumes nothing.
 use mathlib.Core.Path.{_≡_, refl, sym, ap, _∙_}
-use mathlib.Core.Bool.{Bool, true, false, cond, not, _&&_, _||_}
+use mathlib.Core.Bool.{Bool, true, false, cond}
 use mathlib.Core.List.{List, [], _∷_}
 use Prim.Native.Nat.{ℕ, suc, _+_, _-_, _*_, _<_, _≤_}
 use native.Mathlib.Omega.{arith}
-use borrow.Author.Tests.{leb-true}
-use lib.Dec.{eqb, leb, ltb}
+use lib.Dec.{eqb}
 use lib.ListN.{length, getD, set, length-set}
 use Rattle.lists.specs.Lists.{over}
 use Rattle.lists.proofs.ListLaws.{over-first}
-use Rattle.entry.proofs.JudgeLaws.{and-true, headed}
-use Rattle.entry.specs.Table.{Dict, numberOf, valuesOf, indexAt, kindAt, accessAt, countAt, defaultAt, nameLenAt, firstAt, typeAt}
-use Rattle.entry.specs.Rules.{headOk}
+use Rattle.entry.proofs.JudgeLaws.{head-ok, headed}
+use Rattle.entry.specs.Table.{Dict, kindAt, countAt, firstAt, typeAt}
 use Rattle.entry.specs.Find.{findRow}
 use Rattle.entry.specs.Judge.{wellFormed}
 use Rattle.entry.specs.declared.Found.{Found}
@@ -105,14 +103,6 @@ laid-no slots words n p lent out m k out′ m′ w h e o q =
     }
 
 -- ---- where they lie
-few-elements : (index kind access count flag len : ℕ) → headOk index kind access count flag len ≡ true → count ≤ 254
-unfolding headOk
-few-elements index kind access count flag len e =
-    let x₀ = and-true (ltb index 65536) _ e in
-    let x₁ = and-true (ltb kind 3) _ (x₀ .1) in
-    let x₂ = and-true (ltb access 8) _ (x₁ .1) in
-    leb-true count 254 (and-true (leb count 254) _ (x₂ .1) .0)
-
 pub elements-lie : (d : Dict) → wellFormed d ≡ true → let e = elementsAt (d .objects) in Elements (d .slots) (d .words) (e .count) (e .first)
 unfolding elementsAt
 elements-lie d w = row (findRow (d .objects) 0x1F81) refl
@@ -125,7 +115,7 @@ elements-lie d w = row (findRow (d .objects) 0x1F81) refl
         let h = headed d w in
         let r = row-facts d w i (row-lies d w 0x1F81 i f .below) in
         record {
-          few = few-elements _ _ _ _ _ _ (r .head);
+          few = head-ok _ _ _ _ _ _ (r .head) .count-small;
           low = omega (arith, r .values, h .values);
           slotted = omega (arith, r .values, h .slots);
           worded = omega (arith, r .values, h .words);

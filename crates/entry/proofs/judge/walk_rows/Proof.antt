@@ -4,7 +4,7 @@ use mathlib.Core.Bool.{true, false}
 use Prim.Native.Nat.{_≤_, _<_, _-_, _+_, _*_}
 use lib.ListN.{length}
 use borrow.Author.Tests.{not-true, not-false}
-use Rattle.entry.specs.Table.{Dict, dict, numberOf, valuesOf, usedOf, indexAt, countAt, defaultAt, nameLenAt}
+use Rattle.entry.specs.Table.{Dict, dict, numberOf, valuesOf, usedOf, indexAt, kindAt, countAt, defaultAt, nameLenAt}
 use Rattle.entry.specs.Judge.{rowOk, rowFits, rowsFrom, slotsFrom}
 use Rattle.entry.specs.declared.Sum.the-variants as sum
 use Rattle.entry.proofs.JudgeLaws.{RowFits, HeadOk, row-ok, row-fits, head-ok}
@@ -39,7 +39,7 @@ right c = sym (c .before .row-ok .ensures) ∙ not-false _ (c .if1 .left)
 
 head : (c : tie.Else1 Inv-loop μ-loop) → let k = c .before .before .before in
     let s = begin k .args .objects .now in
-    HeadOk (indexAt s (k .loop .i)) (countAt s (k .loop .i)) (defaultAt s (k .loop .i)) (nameLenAt s (k .loop .i))
+    HeadOk (indexAt s (k .loop .i)) (kindAt s (k .loop .i)) (countAt s (k .loop .i)) (defaultAt s (k .loop .i)) (nameLenAt s (k .loop .i))
 head c = let k = c .before .before .before in head-ok _ _ _ _ _ _ (row-ok (D k) (k .loop .i) (k .loop .v) (k .loop .b) (k .loop .low) (right c) .head)
 
 fitting : (c : tie.Else2 Inv-loop μ-loop) → let k = c .before .before .before .before .before in rowFits (begin k .args .objects .now) (begin k .args .bytes .now) (k .loop .i) (k .loop .v) (k .loop .b) ≡ true
