@@ -1,55 +1,14 @@
--- Laws on a part that is moved down, and on starts that fall.
+-- Laws on the starts that fall in the rows and the slots.
 -- Assumes nothing.
-use mathlib.Core.Path.{_≡_, refl, sym, ap, _∙_}
+use mathlib.Core.Path.{_≡_, refl, ap}
 use mathlib.Core.List.{List, [], _∷_, _++_, append-assoc}
-use Prim.Native.Nat.{ℕ, zero, suc, _+_, _-_, _*_, _<_, _≤_}
-use native.Mathlib.Nat.{zero-add}
-use native.Mathlib.Numerals.{add-one}
+use Prim.Native.Nat.{ℕ, suc, _+_, _-_, _*_}
 use native.Mathlib.Omega.{arith}
-use lib.ListN.{length, take, drop, getD, set, length-append, length-set}
-use lib.Seq.{take-suc, take-at, drop-at, drop-append-le, length-take-le, slice, slice-empty, length-slice, getD-append-add}
-use Rattle.lists.specs.Lists.{over}
-use Rattle.lists.proofs.ListLaws.{over-none, over-snoc, getD-over-above}
-use Rattle.lists.proofs.SpliceLaws.{set-append-add}
+use lib.ListN.{length, length-append}
+use Rattle.lists.specs.Lists.{fallen}
+use Rattle.lists.proofs.SpliceLaws.{fallen-end, fallen-turn}
 use Rattle.entry.specs.Model.{Val, Obj, wordsOf, slotsOf, used, size, row, rowsOf, allSlots, allWords}
 use Rattle.entry.proofs.ModelLaws.{length-wordsOf, length-slotsOf}
-use Rattle.insertion.specs.Replace.{fallen}
-
--- ---- moving down
-pub down-none : (xs : List ℕ) (a f : ℕ) → xs ≡ over xs a (slice f f xs)
-down-none xs a f = rw (slice-empty f xs) (sym (over-none xs a))
-
-pub down-more : (xs ys : List ℕ) (a f j : ℕ) → a ≤ f → f ≤ j → j < length xs → ys ≡ over xs a (slice f j xs) → set ys (j - (f - a)) (getD ys j 0) ≡ over xs a (slice f (j + 1) xs)
-down-more xs ys a f j h k l e =
-    let n : length (slice f j xs) ≡ j - f = length-slice f j xs (omega arith) in
-    let v : getD ys j 0 ≡ getD xs j 0 = rw e (getD-over-above xs a (slice f j xs) j (omega arith) (omega arith)) in
-    let t : length (take j xs) ≡ j = length-take-le j xs (omega arith) in
-    let s : slice f (j + 1) xs ≡ slice f j xs ++ (getD xs j 0 ∷ []) =
-    ap (λ m. slice f m xs) (add-one j) ∙ ap (drop f) (take-suc xs j 0 l) ∙ drop-append-le f (take j xs) (getD xs j 0 ∷ []) (omega arith) in
-    rw (v, s, e) (over-snoc xs a (slice f j xs) (j - (f - a)) (getD xs j 0) (omega arith) (omega arith))
-
--- ---- elements that fall
-pub fallen-more : (d x n j p : ℕ) (xs : List ℕ) → j < n → fallen d x (n - j) p xs ≡ fallen d x (n - (j + 1)) (p + d) (set xs p (getD xs p 0 - x))
-unfolding fallen
-fallen-more d x n j p xs h =
-    let e : n - j ≡ suc (n - (j + 1)) = omega arith in
-    rw e
-
-pub fallen-end : (d x k p : ℕ) (xs : List ℕ) → k ≡ 0 → fallen d x k p xs ≡ xs
-unfolding fallen
-fallen-end d x k p xs e = rw e
-
-pub length-fallen : (d x n p : ℕ) (xs : List ℕ) → length (fallen d x n p xs) ≡ length xs
-unfolding fallen
-length-fallen d x zero p xs = refl
-length-fallen d x (suc n) p xs = length-fallen d x n (p + d) (set xs p (getD xs p 0 - x)) ∙ length-set xs p (getD xs p 0 - x)
-
-fallen-turn : (d x n p c : ℕ) (xs ys zs : List ℕ) → p ≡ length xs + c → set ys c (getD ys c 0 - x) ≡ zs → fallen d x (suc n) p (xs ++ ys) ≡ fallen d x n (p + d) (xs ++ zs)
-unfolding fallen
-fallen-turn d x n p c xs ys zs e q =
-    let g : getD (xs ++ ys) p 0 ≡ getD ys c 0 = rw e (getD-append-add xs ys c 0) in
-    let s : set (xs ++ ys) p (getD ys c 0 - x) ≡ xs ++ zs = rw e (set-append-add xs ys c (getD ys c 0 - x) ∙ ap (λ l. xs ++ l) q) in
-    rw (g, s)
 
 back : (v u : ℕ) → (v + u) - u ≡ v
 back v u = omega arith
@@ -102,25 +61,3 @@ fallen-start xs zs g b (o ∷ os) n p e q =
     let i = fallen-start (xs ++ s) zs g (b + size o) os (length (allWords os)) (p + 3 * length (o .values)) refl (rw length-append (omega arith)) in
     rw (append-assoc, f, h, fallen-slotsOf xs (allSlots ((b + size o) + g) os ++ zs) g (b + length (o .name)) (o .values) n p (length (allWords os)) w q, append-assoc)
     (rw (append-assoc, append-assoc) at i)
-
--- ---- a part that is taken out
-pub taken-out : (s ls ns cs : List ℕ) (a e m : ℕ) → s ≡ (ls ++ (ns ++ cs)) ++ drop (length (ls ++ (ns ++ cs))) s → a ≡ length ls → e ≡ length ls + length ns → m ≡ length (ls ++ (ns ++ cs)) → over s a (slice e m s) ≡ over s 0 (ls ++ cs)
-unfolding over
-taken-out s ls ns cs a e m w p q r =
-    let l = ls ++ (ns ++ cs) in
-    let z = drop (length l) s in
-    let k : slice e m s ≡ cs = ap (λ t. drop e (take m t)) w ∙ ap (drop e) (take-at l z m (sym r)) ∙ rw (← append-assoc) (drop-at (ls ++ ns) cs e (rw (length-append ls ns) (omega arith))) in
-    let t : take a s ≡ ls = ap (take a) (w ∙ append-assoc ls (ns ++ cs) z) ∙ take-at ls ((ns ++ cs) ++ z) a (sym p) in
-    let n : 0 + length (ls ++ cs) ≡ a + length cs = rw (length-append ls cs) (omega arith) in
-    rw (k, t, n) (sym (append-assoc ls cs (drop (a + length cs) s)))
-
--- what was laid, with another part as long in place of cs
-pub laid-other : (s ls cs bs : List ℕ) → length bs ≡ length cs → ls ++ (bs ++ drop (length (ls ++ cs)) s) ≡ over s 0 (ls ++ bs)
-unfolding over
-laid-other s ls cs bs e =
-    let n : 0 + length (ls ++ bs) ≡ length (ls ++ cs) = rw (length-append ls bs, length-append ls cs) (omega arith) in
-    rw n (sym (append-assoc ls bs (drop (length (ls ++ cs)) s)))
-
-pub laid-parts : (s ls cs : List ℕ) → over s 0 (ls ++ cs) ≡ ls ++ (cs ++ drop (length (ls ++ cs)) s)
-unfolding over
-laid-parts s ls cs = rw (zero-add (length (ls ++ cs))) (append-assoc ls cs (drop (length (ls ++ cs)) s))

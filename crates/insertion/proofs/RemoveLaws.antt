@@ -7,13 +7,14 @@ use native.Mathlib.Nat.{zero-add}
 use native.Mathlib.Omega.{arith}
 use lib.ListN.{length, take, drop, set, length-append}
 use lib.Seq.{slice, length-take-le}
-use Rattle.lists.specs.Lists.{over}
+use Rattle.lists.specs.Lists.{over, fallen}
+use Rattle.lists.proofs.SpliceLaws.{taken-out, laid-other, laid-parts}
 use Rattle.entry.specs.Model.{Obj, wordsOf, slotsOf, used, size, bytesOf, row, rowsOf, header, allObjects, allSlots, allWords, allBytes}
 use Rattle.entry.specs.Table.{Dict, Lies, numberOf, valuesOf, usedOf, before}
 use Rattle.entry.proofs.ModelLaws.{length-rows, length-slots, length-wordsOf, length-slotsOf, words-append, bytes-append, rows-append, slots-append, begins, totals}
-use Rattle.insertion.specs.Replace.{fallen, removeAt}
+use Rattle.insertion.specs.Replace.{removeAt}
 use Rattle.insertion.proofs.PlaceLaws.{place}
-use Rattle.insertion.proofs.FallLaws.{taken-out, laid-other, laid-parts, fallen-first, fallen-name, fallen-start}
+use Rattle.insertion.proofs.FallLaws.{fallen-first, fallen-name, fallen-start}
 
 -- ---- the four slices, where o lies between xs and ys
 module _ (xs ys : List Obj) (o : Obj) where

@@ -1,8 +1,8 @@
 -- The act as replacing the 0 or 1 objects at a place; insertion replaces none.
 -- Assumes nothing.
-use Prim.Native.Nat.{ℕ, zero, suc, _+_, _-_}
+use Prim.Native.Nat.{ℕ, _+_}
 use mathlib.Core.List.{List, _∷_, _++_}
-use lib.ListN.{getD, set, take, drop}
+use lib.ListN.{take, drop}
 use Rattle.entry.specs.Model.{Obj}
 use Rattle.entry.specs.Table.{Dict, modelOf, laid}
 use Rattle.insertion.specs.Insert.{Room}
@@ -25,8 +25,3 @@ replaced i k o d = laid (replaceAt i k o (modelOf d)) d
 -- there is room in d for one object more at place i, of u values and g bytes
 abbrev pub RoomIn : Dict → ℕ → ℕ → ℕ → Type 0
 RoomIn d i u g = Room (d .objects) (d .slots) (d .words) (d .bytes) i u g
-
--- x taken from n elements of xs, at place a and at each d further on
-unfoldable pub fallen : ℕ → ℕ → ℕ → ℕ → List ℕ → List ℕ
-fallen d x zero a xs = xs
-fallen d x (suc n) a xs = fallen d x n (a + d) (set xs a (getD xs a 0 - x))

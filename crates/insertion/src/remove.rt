@@ -3,65 +3,20 @@ ghost use mathlib.Core.Path.{_≡_};
 ghost use Prim.Native.Nat.{ℕ, _+_, _-_, _*_, _≤_, _<_};
 ghost use lib.ListN.{length, set, getD};
 ghost use lib.Seq.{slice};
-ghost use Rattle.lists.specs.Lists.{over};
+ghost use Rattle.lists.specs.Lists.{over, fallen};
 ghost use Rattle.entry.specs.Judge.{Long};
 ghost use Rattle.entry.specs.Table.{numberOf, valuesOf, usedOf, dict, modelOf, Lies};
-ghost use Rattle.insertion.specs.Replace.{fallen, without};
+ghost use Rattle.insertion.specs.Replace.{without};
 use crate::act::bytes_before;
 use crate::act::values_before;
-
-// Moves the part from `from` up to `end` down to `at`.
-fn move_down(s: &mut [u64], at: usize, from: usize, end: usize)
-    requires { ⌜ (at ≤ from) × (from ≤ end) × (end ≤ length (now s)) ⌝ }
-    ensures { λ _. ⌜ now (s .exit) ≡ over (now (s .entry)) at (slice from end (now (s .entry))) ⌝ }
-{
-    let k = from - at;
-    let mut j = from;
-    while j < end {
-        s[j - k] = s[j];
-        j += 1;
-    }
-}
-
-fn move_down_bytes(s: &mut [u8], at: usize, from: usize, end: usize)
-    requires { ⌜ (at ≤ from) × (from ≤ end) × (end ≤ length (now s)) ⌝ }
-    ensures { λ _. ⌜ now (s .exit) ≡ over (now (s .entry)) at (slice from end (now (s .entry))) ⌝ }
-{
-    let k = from - at;
-    let mut j = from;
-    while j < end {
-        s[j - k] = s[j];
-        j += 1;
-    }
-}
-
-fn less(a: u64, x: u64) -> u64
-    ensures { λ r. ⌜ r ≡ a - x ⌝ }
-{
-    if x <= a { a - x } else { 0 }
-}
-
-// Takes x from n elements, at place `at` and at each d further on.
-fn fall(s: &mut [u64], at: usize, d: usize, n: usize, x: u64)
-    requires { ⌜ (d ≤ 12) × (n ≤ 6144) × (at + d * n < length (now s) + d) × (0 < d) ⌝ }
-    ensures { λ _. ⌜ now (s .exit) ≡ fallen d x n at (now (s .entry)) ⌝ }
-{
-    let mut j = 0;
-    let mut p = at;
-    while j < n {
-        s[p] = less(s[p], x);
-        p += d;
-        j += 1;
-    }
-}
 
 // The slots from slot e up to slot m move down to slot v; their rooms start g bytes earlier.
 fn remove_slots(slots: &mut [u64], v: usize, e: usize, m: usize, g: u64)
     requires { ⌜ (v ≤ e) × (e ≤ m) × (m ≤ 6144) × (3 * m ≤ length (now slots)) ⌝ }
     ensures { λ _. ⌜ now (slots .exit) ≡ fallen 3 g (m - e) (3 * v + 1) (over (now (slots .entry)) (3 * v) (slice (3 * e) (3 * m) (now (slots .entry)))) ⌝ }
 {
-    move_down(slots, 3 * v, 3 * e, 3 * m);
-    fall(slots, 3 * v + 1, 3, m - e, g);
+    lists::move_down(slots, 3 * v, 3 * e, 3 * m);
+    lists::fall(slots, 3 * v + 1, 3, m - e, g);
 }
 
 // The rows behind row i of n move down, with u values and g bytes less before them; the header's totals fall.
@@ -69,11 +24,11 @@ fn remove_row(objects: &mut [u64], i: usize, n: usize, u: u64, g: u64)
     requires { ⌜ (i < n) × (n ≤ 1024) × (12 * n + 12 ≤ length (now objects)) ⌝ }
     ensures { λ _. ⌜ now (objects .exit) ≡ set (set (set (fallen 12 g (n - (i + 1)) (12 * i + 17) (fallen 12 u (n - (i + 1)) (12 * i + 16) (over (now (objects .entry)) (12 * i + 12) (slice (12 * i + 24) (12 * n + 12) (now (objects .entry)))))) 0 (n - 1)) 1 (valuesOf (now (objects .entry)) - u)) 2 (usedOf (now (objects .entry)) - g) ⌝ }
 {
-    let m = less(entry::values_of(objects), u);
-    let used = less(entry::used_of(objects), g);
-    move_down(objects, 12 * i + 12, 12 * i + 24, 12 * n + 12);
-    fall(objects, 12 * i + 16, 12, n - (i + 1), u);
-    fall(objects, 12 * i + 17, 12, n - (i + 1), g);
+    let m = lists::less(entry::values_of(objects), u);
+    let used = lists::less(entry::used_of(objects), g);
+    lists::move_down(objects, 12 * i + 12, 12 * i + 24, 12 * n + 12);
+    lists::fall(objects, 12 * i + 16, 12, n - (i + 1), u);
+    lists::fall(objects, 12 * i + 17, 12, n - (i + 1), g);
     objects[0] = (n - 1) as u64;
     objects[1] = m;
     objects[2] = used;
@@ -100,8 +55,8 @@ pub fn remove_at(
     let f = bytes_before(objects, i + 1);
     let u = (e - v) as u64;
     let g = (f - b) as u64;
-    move_down(words, v, e, m);
+    lists::move_down(words, v, e, m);
     remove_slots(slots, v, e, m, g);
-    move_down_bytes(bytes, b, f, used);
+    lists::move_down_bytes(bytes, b, f, used);
     remove_row(objects, i, n, u, g);
 }

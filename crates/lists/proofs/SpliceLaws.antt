@@ -1,4 +1,4 @@
--- Laws on parts of a list that are moved up and down, and on elements that grow.
+-- Laws on parts of a list that are moved up and down, and on elements that grow and fall.
 -- Assumes nothing.
 use mathlib.Core.Path.{_≡_, refl, sym, ap, _∙_}
 use mathlib.Core.List.{List, [], _∷_, _++_, append-nil, append-assoc}
@@ -7,8 +7,8 @@ use native.Mathlib.Nat.{mul-suc, mul-le-mul-left, add-zero, add-suc, zero-add, s
 use native.Mathlib.Numerals.{add-one}
 use native.Mathlib.Omega.{arith}
 use lib.ListN.{length, take, drop, getD, set, replicate, length-append, length-take, length-drop, length-set, drop-of-length-le, List·getD-append, length-replicate}
-use lib.Seq.{drop-cons, getD-take, length-take-le, take-suc, take-at, drop-at, set-at, drop-drop, slice, slice-cons, slice-empty, length-slice, take-append-le, getD-set-other, getD-append-add, getD-drop, getD-at, take-suc-set, drop-set-lt, take-take, drop-append-add, take-append-add}
-use Rattle.lists.specs.Lists.{over, grown, spliced}
+use lib.Seq.{drop-cons, getD-take, length-take-le, take-suc, take-at, drop-at, set-at, drop-drop, slice, slice-cons, slice-empty, length-slice, take-append-le, drop-append-le, getD-set-other, getD-append-add, getD-drop, getD-at, take-suc-set, drop-set-lt, take-take, drop-append-add, take-append-add}
+use Rattle.lists.specs.Lists.{over, grown, fallen, spliced}
 use Rattle.lists.proofs.ListLaws.{length-over, over-none, getD-over-below, getD-over-above, over-snoc}
 
 pub over-cons : (xs : List ℕ) (a : ℕ) (ys : List ℕ) (y : ℕ) → a < length xs → set (over xs (suc a) ys) a y ≡ over xs a (y ∷ ys)
@@ -18,8 +18,8 @@ over-cons xs a ys y h =
     let g : suc a + length ys ≡ a + suc (length ys) = omega arith in
     rw (take-suc xs a 0 h, append-assoc, set-at (take a xs) _ _ y a k, g)
 
-pub up-none : (xs : List ℕ) (a u : ℕ) → xs ≡ over xs a (slice u u xs)
-up-none xs a u = rw (slice-empty u xs) (sym (over-none xs a))
+pub move-none : (xs : List ℕ) (a u : ℕ) → xs ≡ over xs a (slice u u xs)
+move-none xs a u = rw (slice-empty u xs) (sym (over-none xs a))
 
 pub up-more : (xs ys : List ℕ) (u k j : ℕ) → 0 < j → j ≤ u → u + k ≤ length xs → ys ≡ over xs (j + k) (slice j u xs) → set ys ((j - 1) + k) (getD ys (j - 1) 0) ≡ over xs ((j - 1) + k) (slice (j - 1) u xs)
 up-more xs ys u k j z h l e =
@@ -30,6 +30,15 @@ up-more xs ys u k j z h l e =
     let v : getD ys (j - 1) 0 ≡ getD xs (j - 1) 0 = rw e (getD-over-below xs (j + k) (slice j u xs) (j - 1) (omega arith) (omega arith)) in
     let w : ys ≡ over xs (suc ((j - 1) + k)) (slice j u xs) = e ∙ ap (λ n. over xs n (slice j u xs)) q in
     rw (g, f, v, w) (over-cons xs ((j - 1) + k) (slice j u xs) (getD xs (j - 1) 0) (omega arith))
+
+pub down-more : (xs ys : List ℕ) (a f j : ℕ) → a ≤ f → f ≤ j → j < length xs → ys ≡ over xs a (slice f j xs) → set ys (j - (f - a)) (getD ys j 0) ≡ over xs a (slice f (j + 1) xs)
+down-more xs ys a f j h k l e =
+    let n : length (slice f j xs) ≡ j - f = length-slice f j xs (omega arith) in
+    let v : getD ys j 0 ≡ getD xs j 0 = rw e (getD-over-above xs a (slice f j xs) j (omega arith) (omega arith)) in
+    let t : length (take j xs) ≡ j = length-take-le j xs (omega arith) in
+    let s : slice f (j + 1) xs ≡ slice f j xs ++ (getD xs j 0 ∷ []) =
+    ap (λ m. slice f m xs) (add-one j) ∙ ap (drop f) (take-suc xs j 0 l) ∙ drop-append-le f (take j xs) (getD xs j 0 ∷ []) (omega arith) in
+    rw (v, s, e) (over-snoc xs a (slice f j xs) (j - (f - a)) (getD xs j 0) (omega arith) (omega arith))
 
 pub zeros-more : (xs ys : List ℕ) (a j : ℕ) → a + j < length xs → ys ≡ over xs a (replicate {A = ℕ} j 0) → set ys (a + j) 0 ≡ over xs a (replicate (j + 1) 0)
 zeros-more xs ys a j l e =
@@ -46,6 +55,16 @@ grown-more d x n j p xs h =
 pub grown-end : (d x k p : ℕ) (xs : List ℕ) → k ≡ 0 → grown d x k p xs ≡ xs
 unfolding grown
 grown-end d x k p xs e = rw e
+
+pub fallen-more : (d x n j p : ℕ) (xs : List ℕ) → j < n → fallen d x (n - j) p xs ≡ fallen d x (n - (j + 1)) (p + d) (set xs p (getD xs p 0 - x))
+unfolding fallen
+fallen-more d x n j p xs h =
+    let e : n - j ≡ suc (n - (j + 1)) = omega arith in
+    rw e
+
+pub fallen-end : (d x k p : ℕ) (xs : List ℕ) → k ≡ 0 → fallen d x k p xs ≡ xs
+unfolding fallen
+fallen-end d x k p xs e = rw e
 
 pub length-grown : (d x n p : ℕ) (xs : List ℕ) → length (grown d x n p xs) ≡ length xs
 unfolding grown
@@ -64,6 +83,13 @@ unfolding grown
 grown-turn d x n p c xs ys zs e q =
     let g : getD (xs ++ ys) p 0 ≡ getD ys c 0 = rw e (getD-append-add xs ys c 0) in
     let s : set (xs ++ ys) p (getD ys c 0 + x) ≡ xs ++ zs = rw e (set-append-add xs ys c (getD ys c 0 + x) ∙ ap (λ l. xs ++ l) q) in
+    rw (g, s)
+
+pub fallen-turn : (d x n p c : ℕ) (xs ys zs : List ℕ) → p ≡ length xs + c → set ys c (getD ys c 0 - x) ≡ zs → fallen d x (suc n) p (xs ++ ys) ≡ fallen d x n (p + d) (xs ++ zs)
+unfolding fallen
+fallen-turn d x n p c xs ys zs e q =
+    let g : getD (xs ++ ys) p 0 ≡ getD ys c 0 = rw e (getD-append-add xs ys c 0) in
+    let s : set (xs ++ ys) p (getD ys c 0 - x) ≡ xs ++ zs = rw e (set-append-add xs ys c (getD ys c 0 - x) ∙ ap (λ l. xs ++ l) q) in
     rw (g, s)
 
 pub fill-gap : (xs : List ℕ) (a e k : ℕ) (ys : List ℕ) → length ys ≡ k → a ≤ e → e + k ≤ length xs → over (over xs (a + k) (slice a e xs)) a ys ≡ spliced a e ys xs
@@ -100,3 +126,25 @@ over-longer s l k h =
     let f : length l + (length k - length l) ≡ length k = omega arith in
     let z : 0 + length l ≡ length l = omega arith in
     rw (e, z) (ap (λ t. k ++ t) (drop-append-add l (drop (length l) s) (length k - length l) ∙ drop-drop (length k - length l) (length l) s))
+
+-- ---- a part that is taken out
+pub taken-out : (s ls ns cs : List ℕ) (a e m : ℕ) → s ≡ (ls ++ (ns ++ cs)) ++ drop (length (ls ++ (ns ++ cs))) s → a ≡ length ls → e ≡ length ls + length ns → m ≡ length (ls ++ (ns ++ cs)) → over s a (slice e m s) ≡ over s 0 (ls ++ cs)
+unfolding over
+taken-out s ls ns cs a e m w p q r =
+    let l = ls ++ (ns ++ cs) in
+    let z = drop (length l) s in
+    let k : slice e m s ≡ cs = ap (λ t. drop e (take m t)) w ∙ ap (drop e) (take-at l z m (sym r)) ∙ rw (← append-assoc) (drop-at (ls ++ ns) cs e (rw (length-append ls ns) (omega arith))) in
+    let t : take a s ≡ ls = ap (take a) (w ∙ append-assoc ls (ns ++ cs) z) ∙ take-at ls ((ns ++ cs) ++ z) a (sym p) in
+    let n : 0 + length (ls ++ cs) ≡ a + length cs = rw (length-append ls cs) (omega arith) in
+    rw (k, t, n) (sym (append-assoc ls cs (drop (a + length cs) s)))
+
+-- what was laid, with another part as long in place of cs
+pub laid-other : (s ls cs bs : List ℕ) → length bs ≡ length cs → ls ++ (bs ++ drop (length (ls ++ cs)) s) ≡ over s 0 (ls ++ bs)
+unfolding over
+laid-other s ls cs bs e =
+    let n : 0 + length (ls ++ bs) ≡ length (ls ++ cs) = rw (length-append ls bs, length-append ls cs) (omega arith) in
+    rw n (sym (append-assoc ls bs (drop (length (ls ++ cs)) s)))
+
+pub laid-parts : (s ls cs : List ℕ) → over s 0 (ls ++ cs) ≡ ls ++ (cs ++ drop (length (ls ++ cs)) s)
+unfolding over
+laid-parts s ls cs = rw (zero-add (length (ls ++ cs))) (append-assoc ls cs (drop (length (ls ++ cs)) s))

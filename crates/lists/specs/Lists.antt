@@ -1,6 +1,6 @@
 -- Parts of a list that are laid over, moved and grown.
 -- Assumes nothing.
-use Prim.Native.Nat.{ℕ, zero, suc, _+_}
+use Prim.Native.Nat.{ℕ, zero, suc, _+_, _-_}
 use mathlib.Core.List.{List, _++_}
 use lib.ListN.{take, drop, length, getD, set}
 use lib.Seq.{slice}
@@ -13,6 +13,11 @@ over xs a ys = take a xs ++ (ys ++ drop (a + length ys) xs)
 unfoldable pub grown : ℕ → ℕ → ℕ → ℕ → List ℕ → List ℕ
 grown d x zero a xs = xs
 grown d x (suc n) a xs = grown d x n (a + d) (set xs a (getD xs a 0 + x))
+
+-- and x taken from them
+unfoldable pub fallen : ℕ → ℕ → ℕ → ℕ → List ℕ → List ℕ
+fallen d x zero a xs = xs
+fallen d x (suc n) a xs = fallen d x n (a + d) (set xs a (getD xs a 0 - x))
 
 -- ys put in at place a, and what lies from there up to place e moved up
 unfoldable pub spliced : ℕ → ℕ → List ℕ → List ℕ → List ℕ

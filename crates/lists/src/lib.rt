@@ -1,9 +1,9 @@
 // Bytes laid over others, and little-endian numbers in them.
 ghost use mathlib.Core.Path.{_≡_};
-ghost use Prim.Native.Nat.{ℕ, _+_, _*_, _^_, _≤_, _<_};
+ghost use Prim.Native.Nat.{ℕ, _+_, _-_, _*_, _^_, _≤_, _<_};
 ghost use lib.ListN.{length, take, drop, getD, replicate};
 ghost use lib.Seq.{slice};
-ghost use Rattle.lists.specs.Lists.{over, grown};
+ghost use Rattle.lists.specs.Lists.{over, grown, fallen};
 ghost use Rattle.lists.specs.Numbers.{number, bytesOf};
 
 fn wide(x: u8) -> u64
@@ -87,6 +87,31 @@ pub fn move_up_bytes(s: &mut [u8], at: usize, used: usize, k: usize)
     }
 }
 
+// Moves the part from `from` up to `end` down to `at`.
+pub fn move_down(s: &mut [u64], at: usize, from: usize, end: usize)
+    requires { ⌜ (at ≤ from) × (from ≤ end) × (end ≤ length (now s)) ⌝ }
+    ensures { λ _. ⌜ now (s .exit) ≡ over (now (s .entry)) at (slice from end (now (s .entry))) ⌝ }
+{
+    let k = from - at;
+    let mut j = from;
+    while j < end {
+        s[j - k] = s[j];
+        j += 1;
+    }
+}
+
+pub fn move_down_bytes(s: &mut [u8], at: usize, from: usize, end: usize)
+    requires { ⌜ (at ≤ from) × (from ≤ end) × (end ≤ length (now s)) ⌝ }
+    ensures { λ _. ⌜ now (s .exit) ≡ over (now (s .entry)) at (slice from end (now (s .entry))) ⌝ }
+{
+    let k = from - at;
+    let mut j = from;
+    while j < end {
+        s[j - k] = s[j];
+        j += 1;
+    }
+}
+
 // Lays k zeros over s from `at` on.
 pub fn lay_zeros(s: &mut [u8], at: usize, k: usize)
     requires { ⌜ at + k ≤ length (now s) ⌝ }
@@ -109,6 +134,27 @@ pub fn grow(s: &mut [u64], at: usize, d: usize, n: usize, x: u64)
     let mut p = at;
     while j < n {
         s[p] = s[p] + x;
+        p += d;
+        j += 1;
+    }
+}
+
+// a less x, and 0 where x is more.
+pub fn less(a: u64, x: u64) -> u64
+    ensures { λ r. ⌜ r ≡ a - x ⌝ }
+{
+    if x <= a { a - x } else { 0 }
+}
+
+// Takes x from n elements, at place `at` and at each d further on.
+pub fn fall(s: &mut [u64], at: usize, d: usize, n: usize, x: u64)
+    requires { ⌜ (d ≤ 12) × (n ≤ 6144) × (at + d * n < length (now s) + d) × (0 < d) ⌝ }
+    ensures { λ _. ⌜ now (s .exit) ≡ fallen d x n at (now (s .entry)) ⌝ }
+{
+    let mut j = 0;
+    let mut p = at;
+    while j < n {
+        s[p] = less(s[p], x);
         p += d;
         j += 1;
     }

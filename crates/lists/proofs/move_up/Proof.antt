@@ -6,7 +6,7 @@ use lib.ListN.{length, length-set}
 use lib.Seq.{slice}
 use Rattle.lists.specs.Lists.{over}
 use Rattle.lists.proofs.ListLaws.{length-over}
-use Rattle.lists.proofs.SpliceLaws.{up-none, up-more}
+use Rattle.lists.proofs.SpliceLaws.{move-none, up-more}
 use Rattle.lists.proofs.move_up.Statement.{statement}
 use Rattle.lists.proofs.move_up.Tie as tie
 
@@ -17,7 +17,7 @@ abbrev μ-loop : tie.MeasureT-loop
 μ-loop s₀ at used k j₀ s j = j
 
 loop-holds : tie.Need-loop-holds Inv-loop μ-loop
-loop-holds c = (omega arith, omega arith, refl, up-none _ _ (c .args .used))
+loop-holds c = (omega arith, omega arith, refl, move-none _ _ (c .args .used))
 
 sub-j : tie.Need-sub-j Inv-loop μ-loop
 sub-j c = search needs

@@ -1,14 +1,14 @@
--- `insertion::remove::move_down` meets its contract. The loop's invariant: what was passed lies in its new place. Assumes nothing.
+-- `lists::move_down` meets its contract. The loop's invariant: what was passed lies in its new place. Assumes nothing.
 use mathlib.Core.Path.{_≡_, refl}
 use Prim.Native.Nat.{_≤_, _-_}
 use lib.ListN.{length, length-set}
 use lib.Seq.{slice}
 use Rattle.lists.specs.Lists.{over}
-use Rattle.insertion.proofs.FallLaws.{down-none, down-more}
+use Rattle.lists.proofs.SpliceLaws.{move-none, down-more}
 use native.Mathlib.Omega.{arith}
 use borrow.Author.Needs.{needs}
-use Rattle.insertion.proofs.remove.move_down.Statement.{statement}
-use Rattle.insertion.proofs.remove.move_down.Tie as tie
+use Rattle.lists.proofs.move_down.Statement.{statement}
+use Rattle.lists.proofs.move_down.Tie as tie
 
 abbrev Inv-loop : tie.InvT-loop
 Inv-loop s₀ at from end k j₀ s j = (from ≤ j) × (j ≤ end) × (length s ≡ length s₀) × (s ≡ over s₀ at (slice from j s₀))
@@ -20,7 +20,7 @@ sub-k : tie.Need-sub-k Inv-loop μ-loop
 sub-k c = search needs
 
 loop-holds : tie.Need-loop-holds Inv-loop μ-loop
-loop-holds c = (omega arith, omega arith, refl, down-none _ _ (c .args .from))
+loop-holds c = (omega arith, omega arith, refl, move-none _ _ (c .args .from))
 
 mul-s : tie.Need-mul-s Inv-loop μ-loop
 mul-s c = search needs

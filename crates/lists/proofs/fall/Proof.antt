@@ -1,16 +1,15 @@
--- `insertion::remove::fall` meets its contract. The loop's invariant: what is still to fall, from here on, gives the same. Assumes nothing.
+-- `lists::fall` meets its contract. The loop's invariant: what is still to fall, from here on, gives the same. Assumes nothing.
 use mathlib.Core.Path.{_≡_, refl, sym, _∙_}
 use Prim.Native.Nat.{_≤_, _<_, _-_, _+_, _*_}
 use native.Mathlib.Nat.{mul-suc, mul-zero}
 use native.Mathlib.Numerals.{add-one}
 use lib.ListN.{length, length-set}
-use Rattle.lists.proofs.SpliceLaws.{stride}
-use Rattle.insertion.specs.Replace.{fallen}
-use Rattle.insertion.proofs.FallLaws.{fallen-more, fallen-end}
+use Rattle.lists.specs.Lists.{fallen}
+use Rattle.lists.proofs.SpliceLaws.{stride, fallen-more, fallen-end}
 use native.Mathlib.Omega.{arith}
 use borrow.Author.Needs.{needs}
-use Rattle.insertion.proofs.remove.fall.Statement.{statement}
-use Rattle.insertion.proofs.remove.fall.Tie as tie
+use Rattle.lists.proofs.fall.Statement.{statement}
+use Rattle.lists.proofs.fall.Tie as tie
 
 abbrev Inv-loop : tie.InvT-loop
 Inv-loop s₀ at d n x j₀ p₀ s j p = (j ≤ n) × (length s ≡ length s₀) × (p ≡ at + d * j) × (fallen d x n at s₀ ≡ fallen d x (n - j) p s)
