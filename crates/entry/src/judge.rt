@@ -27,7 +27,8 @@ use crate::columns::values_of;
 use text::Text;
 use value::Word;
 
-fn is_text(s: &[u8], start: usize, len: usize) -> bool
+// Whether a part of s is text.
+pub fn is_good(s: &[u8], start: usize, len: usize) -> bool
     requires { ⌜ start + len ≤ length (now s) ⌝ }
     ensures { λ r. ⌜ r ≡ isGood (judge (take len (drop start (now (s .entry))))) ⌝ }
 {
@@ -79,7 +80,8 @@ fn tight(t: u64, w: u64, room: u64) -> bool
     }
 }
 
-fn head_ok(index: u64, kind: u64, access: u64, count: u64, flag: u64, len: u64) -> bool
+// Whether the numbers of a row or of a given object keep the rules.
+pub fn head_ok(index: u64, kind: u64, access: u64, count: u64, flag: u64, len: u64) -> bool
     ensures { λ r. ⌜ r ≡ headOk index kind access count flag len ⌝ }
 {
     (index < 65536)
@@ -93,7 +95,7 @@ fn slot_ok(
     slots: &[u64],
     words: &[u64],
     bytes: &[u8],
-    n: usize,
+    n: u64,
     p: usize,
     b: usize,
 ) -> bool
@@ -117,18 +119,12 @@ fn slot_ok(
     (0 < n) | tight(t, w, room)
 }
 
-fn less_one(n: usize) -> usize
-    ensures { λ r. ⌜ r ≡ n - 1 ⌝ }
-{
-    if 0 < n { n - 1 } else { 0 }
-}
-
 fn walk_slots(
     objects: &[u64],
     slots: &[u64],
     words: &[u64],
     bytes: &[u8],
-    elements: usize,
+    elements: u64,
     from: usize,
     k: usize,
     start: usize,
@@ -144,7 +140,7 @@ fn walk_slots(
             return Sum::Bad;
         }
         b += room_at(slots, from + j) as usize;
-        n = less_one(n);
+        n = lists::less(n, 1);
         j += 1;
     }
     Sum::Upto(b)
@@ -197,7 +193,7 @@ fn row_fits(objects: &[u64], bytes: &[u8], i: usize, v: usize, b: usize) -> bool
     if left < len {
         return false;
     }
-    is_text(bytes, b, len as usize)
+    is_good(bytes, b, len as usize)
 }
 
 fn walk_rows(objects: &[u64], slots: &[u64], words: &[u64], bytes: &[u8]) -> Walk
@@ -216,8 +212,8 @@ fn walk_rows(objects: &[u64], slots: &[u64], words: &[u64], bytes: &[u8]) -> Wal
         if !row_fits(objects, bytes, i, v, b) {
             return Walk::Broken;
         }
-        let count = count_at(objects, i) as usize;
-        let used = count + default_at(objects, i) as usize;
+        let count = count_at(objects, i);
+        let used = count as usize + default_at(objects, i) as usize;
         let len = name_len_at(objects, i) as usize;
         let index = index_at(objects, i);
         let Sum::Upto(e) = walk_slots(objects, slots, words, bytes, count, v, used, b + len) else {

@@ -18,6 +18,8 @@ pub use columns::start_at;
 pub use columns::type_at;
 pub use columns::used_of;
 pub use columns::values_of;
+pub use judge::head_ok;
+pub use judge::is_good;
 pub use judge::well_formed;
 pub use lookup::find;
 pub use lookup::locate;

@@ -3,34 +3,11 @@ ghost use mathlib.Core.Path.{_≡_};
 ghost use mathlib.Core.Bool.{true, false};
 ghost use Prim.Native.Nat.{_+_, _*_, _≤_};
 ghost use lib.ListN.{length, take, drop};
-ghost use Rattle.text.specs.Machine.{judge};
 ghost use Rattle.value.specs.Codec.{isText};
-ghost use Rattle.entry.specs.Rules.{isGood, headOk};
 ghost use Rattle.insertion.specs.Given.{valueOk, valsIn, sizeIn};
 use crate::Head;
 use crate::Size;
-use text::Text;
 use value::Word;
-
-fn head_ok(head: Head, count: usize, len: usize) -> bool
-    ensures { λ r. ⌜ r ≡ headOk (head .index) (head .kind) (head .access) count (head .default) len ⌝ }
-{
-    let index = head.index as u64;
-    (index < 65536)
-        & ((head.kind < 3)
-            & ((head.access < 8)
-                & ((count <= 254)
-                    & ((!(head.kind == 0) | (count == 1)) & ((head.default <= 1) & (len <= 32))))))
-}
-
-fn is_good(name: &[u8]) -> bool
-    ensures { λ r. ⌜ r ≡ isGood (judge (now (name .entry))) ⌝ }
-{
-    match text::text_ok(name) {
-        Text::Good => true,
-        Text::Bad(_) => false,
-    }
-}
 
 // A string of type t: within its room, and good over its length. As the default it has just its bytes.
 fn string_ok(element: bool, t: u64, room: u64, s: &[u8], start: usize, len: usize) -> bool
@@ -108,11 +85,21 @@ pub fn size_in(head: Head, name: &[u8], vals: &[u64], encodings: &[u8]) -> Size
     if u < flag {
         return Size::Bad;
     }
-    if !head_ok(head, u - flag, name.len()) {
+    let index = head.index as u64;
+    let count = (u - flag) as u64;
+    let len = name.len();
+    if !entry::head_ok(
+        index,
+        head.kind,
+        head.access,
+        count,
+        head.default,
+        len as u64,
+    ) {
         return Size::Bad;
     }
-    if !is_good(name) {
+    if !entry::is_good(name, 0, len) {
         return Size::Bad;
     }
-    vals_in(vals, encodings, u - flag, u, name.len())
+    vals_in(vals, encodings, u - flag, u, len)
 }

@@ -41,15 +41,15 @@ returns-2 c =
     let u = c .before .before in
     simp (le-leb _ _ (rw (u .before .values-of .ensures, u .before .before .before .before .count-at .ensures, u .before .before .before .default-at .ensures) at (c .before .if1 .left)), lt-leb _ _ (rw (u .used-of .ensures, u .before .before .name-len-at .ensures) at (c .if2 .taken)))
 
-is-text-requires : tie.Need-is-text-requires
-is-text-requires c κs = search needs
+is-good-requires : tie.Need-is-good-requires
+is-good-requires c κs = search needs
 
 returns-3 : tie.Need-returns-3
 unfolding rowFits
 returns-3 c =
     let u = c .before .before .before in
     simp (le-leb _ _ (rw (u .before .values-of .ensures, u .before .before .before .before .count-at .ensures, u .before .before .before .default-at .ensures) at (c .before .before .if1 .left)), le-leb _ _ (rw (u .used-of .ensures, u .before .before .name-len-at .ensures) at (c .before .if2 .left)))
-    (rw (u .before .before .name-len-at .ensures) at (c .is-text .ensures))
+    (rw (u .before .before .name-len-at .ensures) at (c .is-good .ensures))
 
 pub row-fits-spec : {M : Type 1} → statement M
 row-fits-spec =
@@ -65,5 +65,5 @@ row-fits-spec =
     sub-left
     returns
     returns-2
-    is-text-requires
+    is-good-requires
     returns-3)

@@ -59,8 +59,8 @@ room-at-requires c κs = search needs
 add-b : tie.Need-add-b Inv-loop μ-loop
 add-b c = omega (arith, c .room-at .ensures, slot (c .before) .within)
 
-less-one-requires : tie.Need-less-one-requires Inv-loop μ-loop
-less-one-requires c κs = search needs
+less-requires : tie.Need-less-requires Inv-loop μ-loop
+less-requires c κs = search needs
 
 add-j : tie.Need-add-j Inv-loop μ-loop
 add-j c = search needs
@@ -76,7 +76,7 @@ loop-again c =
     let r = c .before .room-at .ensures in (
       omega arith,
       omega (arith, r, slot e .within),
-      rw (r, c .less-one .ensures)
+      rw (r, c .less .ensures)
           (k .loop .inv .2 ∙ slots-step (D k) (k .loop .n) (a .k) (a .«from») (k .loop .j) (k .loop .b) (e .before .before .loop-test .taken) ∙ simp (right e)),
     )
 
@@ -96,7 +96,7 @@ walk-slots-spec =
     add-room-at
     room-at-requires
     add-b
-    less-one-requires
+    less-requires
     add-j
     loop-less
     loop-again

@@ -8,8 +8,8 @@ use borrow.Author.Tests.{not-true, not-false, eq-eqb, ne-eqb, lt-leb, le-leb, lt
 use Rattle.entry.specs.Rules.{isGood, wordOk, valOk, headOk}
 use Rattle.entry.specs.Judge.{slotOk, slotsFrom, rowOk, rowFits}
 use borrow.Author.Needs.{needs}
-use Rattle.entry.proofs.judge.is_text.Statement.{statement}
-use Rattle.entry.proofs.judge.is_text.Tie as tie
+use Rattle.entry.proofs.judge.is_good.Statement.{statement}
+use Rattle.entry.proofs.judge.is_good.Tie as tie
 
 part-ok-requires : tie.Need-part-ok-requires
 part-ok-requires c κs = search needs
@@ -26,5 +26,5 @@ returns c = ap isGood (sym (c .enum-told .given .1) ∙ c .before .before .part-
 returns-2 : tie.Need-returns-2
 returns-2 c = ap isGood (sym (c .enum-told2 .given .1) ∙ c .before .before .part-ok .ensures)
 
-pub is-text-spec : {M : Type 1} → statement M
-is-text-spec = tie.close (tie.spec part-ok-requires enum-told enum-told-2 returns returns-2)
+pub is-good-spec : {M : Type 1} → statement M
+is-good-spec = tie.close (tie.spec part-ok-requires enum-told enum-told-2 returns returns-2)
