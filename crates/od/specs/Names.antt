@@ -3,10 +3,10 @@ use Prim.Native.Nat.{ℕ, zero, suc}
 use mathlib.Core.Bool.{Bool, true, false, cond, _&&_}
 use mathlib.Core.List.{List, [], _∷_}
 use lib.Dec.{eqb, leb}
-use lib.ListN.{length, take, drop}
+use lib.ListN.{length}
 use Rattle.text.specs.Machine.{judge}
 use Rattle.answers.specs.declared.Refusal.the-variants.{Malformed, BadValue, ObjectNotFound}
-use Rattle.entry.specs.Table.{Dict, numberOf, indexAt, nameAt, nameLenAt}
+use Rattle.entry.specs.Table.{Dict, numberOf, indexAt, objAt}
 use Rattle.entry.specs.Rules.{isGood}
 use Rattle.entry.specs.Judge.{wellFormed}
 use Rattle.od.specs.declared.ByName.{ByName}
@@ -20,7 +20,7 @@ same (x ∷ xs) [] = false
 same (x ∷ xs) (y ∷ ys) = eqb x y && same xs ys
 
 abbrev pub nameOf : Dict → ℕ → List ℕ
-nameOf d i = take (nameLenAt (d .objects) i) (drop (nameAt (d .objects) i) (d .bytes))
+nameOf d i = objAt d i .name
 
 -- the index of the first of the k rows from row i on that has the name
 unfoldable pub nameFrom : Dict → List ℕ → ℕ → ℕ → ByName

@@ -1,10 +1,10 @@
 // The configured nodes: the Array 1F81h.
 ghost use mathlib.Core.Path.{_≡_};
 ghost use mathlib.Core.Bool.{true};
-ghost use Prim.Native.Nat.{_≤_};
-ghost use lib.ListN.{length};
+ghost use Prim.Native.Nat.{_+_, _*_, _<_, _≤_};
+ghost use lib.ListN.{length, getD};
 ghost use Rattle.lists.specs.Lists.{over};
-ghost use Rattle.entry.specs.Table.{dict};
+ghost use Rattle.entry.specs.Table.{dict, typeAt};
 ghost use Rattle.entry.specs.Judge.{wellFormed};
 ghost use Rattle.od.specs.Nodes.{configured, nodesFrom, Elements, elementsAt, given, cnsOf};
 use crate::Listed;
@@ -17,9 +17,13 @@ struct Span {
     first: usize,
 }
 
-fn is_configured(t: u64, w: u64) -> bool
-    ensures { λ r. ⌜ r ≡ configured t w ⌝ }
+// Whether value p is a configured node.
+fn is_configured(slots: &[u64], words: &[u64], p: usize) -> bool
+    requires { ⌜ (p < 6144) × (3 * p + 3 ≤ length (now slots)) × (p < length (now words)) ⌝ }
+    ensures { λ r. ⌜ r ≡ configured (typeAt (now (slots .entry)) p) (getD (now (words .entry)) p 0) ⌝ }
 {
+    let t = entry::type_at(slots, p);
+    let w = words[p];
     (t == 7) & ((w % 2 == 1) & (w / 256 % 2 == 0))
 }
 
@@ -30,7 +34,7 @@ fn count_nodes(slots: &[u64], words: &[u64], count: usize, first: usize) -> usiz
     let mut m = 0;
     let mut k = 0;
     while k < count {
-        if is_configured(entry::type_at(slots, first + k), words[first + k]) {
+        if is_configured(slots, words, first + k) {
             m += 1;
         }
         k += 1;
@@ -46,7 +50,7 @@ fn lay_nodes(slots: &[u64], words: &[u64], count: usize, first: usize, out: &mut
     let mut m = 0;
     let mut k = 0;
     while k < count {
-        if is_configured(entry::type_at(slots, first + k), words[first + k]) {
+        if is_configured(slots, words, first + k) {
             out[m] = (k + 1) as u8;
             m += 1;
         }
