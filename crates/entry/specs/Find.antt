@@ -7,7 +7,7 @@ use mathlib.Core.Option.{Option, none, some}
 use lib.Dec.{eqb, leb}
 use lib.ListN.{length}
 use Rattle.entry.specs.Model.{Val, Obj}
-use Rattle.entry.specs.Table.{Dict, numberOf, indexAt, kindAt, countAt, firstAt, objAt}
+use Rattle.entry.specs.Table.{Dict, numberOf, rowPlace, indexAt, kindAt, countAt, firstAt, objAt}
 use Rattle.entry.specs.declared.Found.{Found}
 use Rattle.entry.specs.declared.Found.the-variants.{At, Nothing}
 use Rattle.entry.specs.declared.Place.{Place}
@@ -59,5 +59,5 @@ nth (x ∷ xs) (suc j) = nth xs j
 -- ---- what looking up needs of the rows
 pub record Rows (objects : List ℕ) : Type 0 where
   pub few : numberOf objects ≤ 1024
-  pub long : 12 * numberOf objects + 12 ≤ length objects
+  pub long : rowPlace (numberOf objects) ≤ length objects
   pub firsts : (i : ℕ) → i < numberOf objects → firstAt objects i + countAt objects i ≤ 6144

@@ -7,7 +7,7 @@ use mathlib.Core.List.{List}
 use lib.ListN.{length, take, drop, getD}
 use lib.Dec.{eqb, leb, ltb}
 use Rattle.text.specs.Machine.{judge}
-use Rattle.entry.specs.Table.{Dict, Lies, modelOf, numberOf, valuesOf, usedOf, indexAt, kindAt, accessAt, countAt, firstAt, nameAt, nameLenAt, defaultAt, typeAt, startAt, roomAt}
+use Rattle.entry.specs.Table.{Dict, Lies, modelOf, numberOf, valuesOf, usedOf, rowPlace, slotPlace, indexAt, kindAt, accessAt, countAt, firstAt, nameAt, nameLenAt, defaultAt, typeAt, startAt, roomAt}
 use Rattle.entry.specs.Rules.{isGood, heldOk, headOk, objsOk, Few}
 use Rattle.entry.specs.declared.Sum.{Sum}
 use Rattle.entry.specs.declared.Sum.the-variants as sum
@@ -72,8 +72,8 @@ reserved s =
 -- the header, and that the slices are long enough for it
 unfoldable pub headerOk : Dict → Bool
 headerOk d =
-    leb (numberOf (d .objects)) 1024 && (leb (12 * numberOf (d .objects) + 12) (length (d .objects))
-    && (leb (valuesOf (d .objects)) 6144 && (leb (3 * valuesOf (d .objects)) (length (d .slots)) && (leb (valuesOf (d .objects)) (length (d .words))
+    leb (numberOf (d .objects)) 1024 && (leb (rowPlace (numberOf (d .objects))) (length (d .objects))
+    && (leb (valuesOf (d .objects)) 6144 && (leb (slotPlace (valuesOf (d .objects))) (length (d .slots)) && (leb (valuesOf (d .objects)) (length (d .words))
     && (leb (usedOf (d .objects)) 32768 && (leb (usedOf (d .objects)) (length (d .bytes))
     && reserved (d .objects)))))))
 
@@ -87,9 +87,9 @@ wellFormed d = cond (headerOk d) (wholeAt (valuesOf (d .objects)) (usedOf (d .ob
 -- what the walk over the rows needs
 pub record Long (d : Dict) : Type 0 where
   pub few : numberOf (d .objects) ≤ 1024
-  pub rows : 12 * numberOf (d .objects) + 12 ≤ length (d .objects)
+  pub rows : rowPlace (numberOf (d .objects)) ≤ length (d .objects)
   pub values : valuesOf (d .objects) ≤ 6144
-  pub slots : 3 * valuesOf (d .objects) ≤ length (d .slots)
+  pub slots : slotPlace (valuesOf (d .objects)) ≤ length (d .slots)
   pub words : valuesOf (d .objects) ≤ length (d .words)
   pub total : usedOf (d .objects) ≤ 32768
   pub bytes : usedOf (d .objects) ≤ length (d .bytes)

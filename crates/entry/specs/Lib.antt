@@ -1,5 +1,6 @@
 pub mod Model
 pub mod Table
+pub mod Rows
 pub mod Rules
 pub mod Judge
 pub mod Find

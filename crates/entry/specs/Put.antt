@@ -7,7 +7,7 @@ use lib.ListN.{length, take, set}
 use Rattle.lists.specs.Lists.{over}
 use Rattle.lists.specs.Numbers.{number}
 use Rattle.value.specs.Codec.{isText, sizeOf}
-use Rattle.entry.specs.Table.{Dict, typeAt, startAt}
+use Rattle.entry.specs.Table.{Dict, slotEnd, typeAt, startAt}
 
 -- the contents: a word a value, and the bytes
 pub record Contents : Type 0 where
@@ -38,7 +38,7 @@ put p w r d = filled d (contents (set (d .words) p w) (over (d .bytes) (startAt 
 -- what a put of s needs
 pub record Puts (slots words bytes : List ℕ) (p : ℕ) (s : List ℕ) : Type 0 where
   pub low : p < 6144
-  pub slot : 3 * p + 3 ≤ length slots
+  pub slot : slotEnd p ≤ length slots
   pub word : p < length words
   pub text : isText (typeAt slots p) ≡ true → startAt slots p + length s ≤ length bytes
   pub fixed : isText (typeAt slots p) ≡ false → sizeOf (typeAt slots p) ≤ length s

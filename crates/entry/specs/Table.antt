@@ -28,9 +28,31 @@ valuesOf objects = getD objects 1 0
 abbrev pub usedOf : List ℕ → ℕ
 usedOf objects = getD objects 2 0
 
+-- where row i and slot p begin and end, and their columns that count what lies before
+abbrev pub rowPlace : ℕ → ℕ
+rowPlace i = 12 * i + 12
+
+abbrev pub rowEnd : ℕ → ℕ
+rowEnd i = 12 * i + 24
+
+abbrev pub firstPlace : ℕ → ℕ
+firstPlace i = 12 * i + 16
+
+abbrev pub namePlace : ℕ → ℕ
+namePlace i = 12 * i + 17
+
+abbrev pub slotPlace : ℕ → ℕ
+slotPlace p = 3 * p
+
+abbrev pub slotEnd : ℕ → ℕ
+slotEnd p = 3 * p + 3
+
+abbrev pub startPlace : ℕ → ℕ
+startPlace p = 3 * p + 1
+
 -- the columns of row i, and of slot p
 abbrev pub indexAt : List ℕ → ℕ → ℕ
-indexAt objects i = getD objects (12 * i + 12) 0
+indexAt objects i = getD objects (rowPlace i) 0
 
 abbrev pub kindAt : List ℕ → ℕ → ℕ
 kindAt objects i = getD objects (12 * i + 13) 0
@@ -42,10 +64,10 @@ abbrev pub countAt : List ℕ → ℕ → ℕ
 countAt objects i = getD objects (12 * i + 15) 0
 
 abbrev pub firstAt : List ℕ → ℕ → ℕ
-firstAt objects i = getD objects (12 * i + 16) 0
+firstAt objects i = getD objects (firstPlace i) 0
 
 abbrev pub nameAt : List ℕ → ℕ → ℕ
-nameAt objects i = getD objects (12 * i + 17) 0
+nameAt objects i = getD objects (namePlace i) 0
 
 abbrev pub nameLenAt : List ℕ → ℕ → ℕ
 nameLenAt objects i = getD objects (12 * i + 18) 0
@@ -54,10 +76,10 @@ abbrev pub defaultAt : List ℕ → ℕ → ℕ
 defaultAt objects i = getD objects (12 * i + 19) 0
 
 abbrev pub typeAt : List ℕ → ℕ → ℕ
-typeAt slots p = getD slots (3 * p) 0
+typeAt slots p = getD slots (slotPlace p) 0
 
 abbrev pub startAt : List ℕ → ℕ → ℕ
-startAt slots p = getD slots (3 * p + 1) 0
+startAt slots p = getD slots (startPlace p) 0
 
 abbrev pub roomAt : List ℕ → ℕ → ℕ
 roomAt slots p = getD slots (3 * p + 2) 0
@@ -110,3 +132,9 @@ pub record Lies (os : List Obj) (d : Dict) : Type 0 where
 -- how many values (column 16, total 1) or bytes (column 17, total 2) lie before object i
 abbrev pub before : List ℕ → ℕ → ℕ → ℕ → ℕ
 before objects i column total = cond (ltb i (numberOf objects)) (getD objects (12 * i + column) 0) (getD objects total 0)
+
+abbrev pub valuesBefore : List ℕ → ℕ → ℕ
+valuesBefore objects i = before objects i 16 1
+
+abbrev pub bytesBefore : List ℕ → ℕ → ℕ
+bytesBefore objects i = before objects i 17 2

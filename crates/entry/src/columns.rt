@@ -1,8 +1,9 @@
-// The columns of the lent dictionary. Nothing else knows where a number stands.
+// The columns of the lent dictionary. Only rows.rt beside it knows too where a number stands.
 ghost use mathlib.Core.Path.{_≡_};
-ghost use Prim.Native.Nat.{_+_, _*_, _≤_, _<_};
+ghost use Prim.Native.Nat.{_≤_, _<_};
 ghost use lib.ListN.{length};
-ghost use Rattle.entry.specs.Table.{numberOf, valuesOf, usedOf, indexAt, kindAt, accessAt, countAt, firstAt, nameAt, nameLenAt, defaultAt, typeAt, startAt, roomAt};
+ghost use Rattle.entry.specs.Table.{numberOf, valuesOf, usedOf, rowPlace, rowEnd, slotPlace, slotEnd, indexAt, kindAt, accessAt, countAt, firstAt, nameAt, nameLenAt, defaultAt, typeAt, startAt, roomAt};
+ghost use Rattle.entry.specs.Judge.{rowReserved, reserved};
 
 // The header: how many objects, values (defaults counted) and bytes there are.
 pub fn number_of(objects: &[u64]) -> u64
@@ -26,80 +27,128 @@ pub fn used_of(objects: &[u64]) -> u64
     objects[2]
 }
 
+// The rest of the header.
+pub fn reserved(objects: &[u64]) -> bool
+    requires { ⌜ 12 ≤ length (now objects) ⌝ }
+    ensures { λ r. ⌜ r ≡ reserved (now (objects .entry)) ⌝ }
+{
+    (objects[3] == 1)
+        & ((objects[4] == 0)
+            & ((objects[5] == 0)
+                & ((objects[6] == 0)
+                    & ((objects[7] == 0)
+                        & ((objects[8] == 0)
+                            & ((objects[9] == 0) & ((objects[10] == 0) & (objects[11] == 0))))))))
+}
+
+// Where row i begins and ends, and where slot p begins.
+pub fn row(i: usize) -> usize
+    requires { ⌜ i ≤ 65536 ⌝ }
+    ensures { λ r. ⌜ r ≡ rowPlace i ⌝ }
+{
+    12 * i + 12
+}
+
+pub fn row_end(i: usize) -> usize
+    requires { ⌜ i ≤ 65536 ⌝ }
+    ensures { λ r. ⌜ r ≡ rowEnd i ⌝ }
+{
+    12 * i + 24
+}
+
+pub fn slot(p: usize) -> usize
+    requires { ⌜ p ≤ 65536 ⌝ }
+    ensures { λ r. ⌜ r ≡ slotPlace p ⌝ }
+{
+    3 * p
+}
+
 // Row i.
 pub fn index_at(objects: &[u64], i: usize) -> u64
-    requires { ⌜ (i < 1024) × (12 * i + 24 ≤ length (now objects)) ⌝ }
+    requires { ⌜ (i < 1024) × (rowEnd i ≤ length (now objects)) ⌝ }
     ensures { λ r. ⌜ r ≡ indexAt (now (objects .entry)) i ⌝ }
 {
     objects[12 * i + 12]
 }
 
 pub fn kind_at(objects: &[u64], i: usize) -> u64
-    requires { ⌜ (i < 1024) × (12 * i + 24 ≤ length (now objects)) ⌝ }
+    requires { ⌜ (i < 1024) × (rowEnd i ≤ length (now objects)) ⌝ }
     ensures { λ r. ⌜ r ≡ kindAt (now (objects .entry)) i ⌝ }
 {
     objects[12 * i + 13]
 }
 
 pub fn access_at(objects: &[u64], i: usize) -> u64
-    requires { ⌜ (i < 1024) × (12 * i + 24 ≤ length (now objects)) ⌝ }
+    requires { ⌜ (i < 1024) × (rowEnd i ≤ length (now objects)) ⌝ }
     ensures { λ r. ⌜ r ≡ accessAt (now (objects .entry)) i ⌝ }
 {
     objects[12 * i + 14]
 }
 
 pub fn count_at(objects: &[u64], i: usize) -> u64
-    requires { ⌜ (i < 1024) × (12 * i + 24 ≤ length (now objects)) ⌝ }
+    requires { ⌜ (i < 1024) × (rowEnd i ≤ length (now objects)) ⌝ }
     ensures { λ r. ⌜ r ≡ countAt (now (objects .entry)) i ⌝ }
 {
     objects[12 * i + 15]
 }
 
 pub fn first_at(objects: &[u64], i: usize) -> u64
-    requires { ⌜ (i < 1024) × (12 * i + 24 ≤ length (now objects)) ⌝ }
+    requires { ⌜ (i < 1024) × (rowEnd i ≤ length (now objects)) ⌝ }
     ensures { λ r. ⌜ r ≡ firstAt (now (objects .entry)) i ⌝ }
 {
     objects[12 * i + 16]
 }
 
 pub fn name_at(objects: &[u64], i: usize) -> u64
-    requires { ⌜ (i < 1024) × (12 * i + 24 ≤ length (now objects)) ⌝ }
+    requires { ⌜ (i < 1024) × (rowEnd i ≤ length (now objects)) ⌝ }
     ensures { λ r. ⌜ r ≡ nameAt (now (objects .entry)) i ⌝ }
 {
     objects[12 * i + 17]
 }
 
 pub fn name_len_at(objects: &[u64], i: usize) -> u64
-    requires { ⌜ (i < 1024) × (12 * i + 24 ≤ length (now objects)) ⌝ }
+    requires { ⌜ (i < 1024) × (rowEnd i ≤ length (now objects)) ⌝ }
     ensures { λ r. ⌜ r ≡ nameLenAt (now (objects .entry)) i ⌝ }
 {
     objects[12 * i + 18]
 }
 
 pub fn default_at(objects: &[u64], i: usize) -> u64
-    requires { ⌜ (i < 1024) × (12 * i + 24 ≤ length (now objects)) ⌝ }
+    requires { ⌜ (i < 1024) × (rowEnd i ≤ length (now objects)) ⌝ }
     ensures { λ r. ⌜ r ≡ defaultAt (now (objects .entry)) i ⌝ }
 {
     objects[12 * i + 19]
 }
 
+// The four words of a row that are kept for later.
+pub fn row_reserved(objects: &[u64], i: usize) -> bool
+    requires { ⌜ (i < 1024) × (rowEnd i ≤ length (now objects)) ⌝ }
+    ensures { λ r. ⌜ r ≡ rowReserved (now (objects .entry)) i ⌝ }
+{
+    let a = objects[12 * i + 20];
+    let b = objects[12 * i + 21];
+    let c = objects[12 * i + 22];
+    let d = objects[12 * i + 23];
+    (a == 0) & ((b == 0) & ((c == 0) & (d == 0)))
+}
+
 // Slot p.
 pub fn type_at(slots: &[u64], p: usize) -> u64
-    requires { ⌜ (p < 6144) × (3 * p + 3 ≤ length (now slots)) ⌝ }
+    requires { ⌜ (p < 6144) × (slotEnd p ≤ length (now slots)) ⌝ }
     ensures { λ r. ⌜ r ≡ typeAt (now (slots .entry)) p ⌝ }
 {
     slots[3 * p]
 }
 
 pub fn start_at(slots: &[u64], p: usize) -> u64
-    requires { ⌜ (p < 6144) × (3 * p + 3 ≤ length (now slots)) ⌝ }
+    requires { ⌜ (p < 6144) × (slotEnd p ≤ length (now slots)) ⌝ }
     ensures { λ r. ⌜ r ≡ startAt (now (slots .entry)) p ⌝ }
 {
     slots[3 * p + 1]
 }
 
 pub fn room_at(slots: &[u64], p: usize) -> u64
-    requires { ⌜ (p < 6144) × (3 * p + 3 ≤ length (now slots)) ⌝ }
+    requires { ⌜ (p < 6144) × (slotEnd p ≤ length (now slots)) ⌝ }
     ensures { λ r. ⌜ r ≡ roomAt (now (slots .entry)) p ⌝ }
 {
     slots[3 * p + 2]

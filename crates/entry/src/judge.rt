@@ -5,9 +5,9 @@ ghost use Prim.Native.Nat.{_+_, _-_, _*_, _≤_, _<_};
 ghost use lib.ListN.{length, getD, take, drop};
 ghost use Rattle.text.specs.Machine.{judge};
 ghost use Rattle.value.specs.Codec.{isText, takes, textWord};
-ghost use Rattle.entry.specs.Table.{numberOf, valuesOf, usedOf, countAt, defaultAt, dict};
+ghost use Rattle.entry.specs.Table.{numberOf, valuesOf, usedOf, rowEnd, slotPlace, slotEnd, countAt, defaultAt, dict};
 ghost use Rattle.entry.specs.Rules.{isGood, valOk, tight, headOk};
-ghost use Rattle.entry.specs.Judge.{slotOk, slotsFrom, rowReserved, rowOk, rowFits, rowsFrom, headerOk, reserved, wellFormed, Long};
+ghost use Rattle.entry.specs.Judge.{slotOk, slotsFrom, rowOk, rowFits, rowsFrom, headerOk, wellFormed, Long};
 use crate::Sum;
 use crate::Walk;
 use crate::columns::access_at;
@@ -19,7 +19,11 @@ use crate::columns::kind_at;
 use crate::columns::name_at;
 use crate::columns::name_len_at;
 use crate::columns::number_of;
+use crate::columns::reserved;
 use crate::columns::room_at;
+use crate::columns::row;
+use crate::columns::row_reserved;
+use crate::columns::slot;
 use crate::columns::start_at;
 use crate::columns::type_at;
 use crate::columns::used_of;
@@ -99,7 +103,7 @@ fn slot_ok(
     p: usize,
     b: usize,
 ) -> bool
-    requires { ⌜ (p < 6144) × (3 * p + 3 ≤ length (now slots)) × (p < length (now words)) × (12 ≤ length (now objects)) × (b ≤ usedOf (now objects)) × (usedOf (now objects) ≤ length (now bytes)) ⌝ }
+    requires { ⌜ (p < 6144) × (slotEnd p ≤ length (now slots)) × (p < length (now words)) × (12 ≤ length (now objects)) × (b ≤ usedOf (now objects)) × (usedOf (now objects) ≤ length (now bytes)) ⌝ }
     ensures { λ r. ⌜ r ≡ slotOk (dict (now (objects .entry)) (now (slots .entry)) (now (words .entry)) (now (bytes .entry))) n p b ⌝ }
 {
     let room = room_at(slots, p);
@@ -129,7 +133,7 @@ fn walk_slots(
     k: usize,
     start: usize,
 ) -> Sum
-    requires { ⌜ (from + k ≤ 6144) × (3 * (from + k) ≤ length (now slots)) × (from + k ≤ length (now words)) × (12 ≤ length (now objects)) × (start ≤ usedOf (now objects)) × (usedOf (now objects) ≤ length (now bytes)) ⌝ }
+    requires { ⌜ (from + k ≤ 6144) × (slotPlace (from + k) ≤ length (now slots)) × (from + k ≤ length (now words)) × (12 ≤ length (now objects)) × (start ≤ usedOf (now objects)) × (usedOf (now objects) ≤ length (now bytes)) ⌝ }
     ensures { λ r. ⌜ r ≡ slotsFrom (dict (now (objects .entry)) (now (slots .entry)) (now (words .entry)) (now (bytes .entry))) elements k from start ⌝ }
 {
     let mut n = elements;
@@ -146,20 +150,8 @@ fn walk_slots(
     Sum::Upto(b)
 }
 
-// The four words of a row that are kept for later.
-fn row_reserved(objects: &[u64], i: usize) -> bool
-    requires { ⌜ (i < 1024) × (12 * i + 24 ≤ length (now objects)) ⌝ }
-    ensures { λ r. ⌜ r ≡ rowReserved (now (objects .entry)) i ⌝ }
-{
-    let a = objects[12 * i + 20];
-    let b = objects[12 * i + 21];
-    let c = objects[12 * i + 22];
-    let d = objects[12 * i + 23];
-    (a == 0) & ((b == 0) & ((c == 0) & (d == 0)))
-}
-
 fn row_ok(objects: &[u64], i: usize, v: usize, b: usize, low: u64) -> bool
-    requires { ⌜ (i < 1024) × (12 * i + 24 ≤ length (now objects)) ⌝ }
+    requires { ⌜ (i < 1024) × (rowEnd i ≤ length (now objects)) ⌝ }
     ensures { λ r. ⌜ r ≡ rowOk (now (objects .entry)) i v b low ⌝ }
 {
     let index = index_at(objects, i);
@@ -179,7 +171,7 @@ fn row_ok(objects: &[u64], i: usize, v: usize, b: usize, low: u64) -> bool
 }
 
 fn row_fits(objects: &[u64], bytes: &[u8], i: usize, v: usize, b: usize) -> bool
-    requires { ⌜ (i < 1024) × (12 * i + 24 ≤ length (now objects)) × (v ≤ valuesOf (now objects)) × (b ≤ usedOf (now objects)) × (usedOf (now objects) ≤ length (now bytes)) ⌝ }
+    requires { ⌜ (i < 1024) × (rowEnd i ≤ length (now objects)) × (v ≤ valuesOf (now objects)) × (b ≤ usedOf (now objects)) × (usedOf (now objects) ≤ length (now bytes)) ⌝ }
     requires { ⌜ (countAt (now objects) i ≤ 254) × (defaultAt (now objects) i ≤ 1) ⌝ }
     ensures { λ r. ⌜ r ≡ rowFits (now (objects .entry)) (now (bytes .entry)) i v b ⌝ }
 {
@@ -227,19 +219,6 @@ fn walk_rows(objects: &[u64], slots: &[u64], words: &[u64], bytes: &[u8]) -> Wal
     Walk::Whole(v, b)
 }
 
-fn reserved(objects: &[u64]) -> bool
-    requires { ⌜ 12 ≤ length (now objects) ⌝ }
-    ensures { λ r. ⌜ r ≡ reserved (now (objects .entry)) ⌝ }
-{
-    (objects[3] == 1)
-        & ((objects[4] == 0)
-            & ((objects[5] == 0)
-                & ((objects[6] == 0)
-                    & ((objects[7] == 0)
-                        & ((objects[8] == 0)
-                            & ((objects[9] == 0) & ((objects[10] == 0) & (objects[11] == 0))))))))
-}
-
 fn header_ok(objects: &[u64], slots: &[u64], words: &[u64], bytes: &[u8]) -> bool
     ensures { λ r. ⌜ r ≡ headerOk (dict (now (objects .entry)) (now (slots .entry)) (now (words .entry)) (now (bytes .entry))) ⌝ }
 {
@@ -252,13 +231,13 @@ fn header_ok(objects: &[u64], slots: &[u64], words: &[u64], bytes: &[u8]) -> boo
     if 1024 < n {
         return false;
     }
-    if objects.len() < 12 * n + 12 {
+    if objects.len() < row(n) {
         return false;
     }
     if 6144 < m {
         return false;
     }
-    (3 * m <= slots.len())
+    (slot(m) <= slots.len())
         & ((m <= words.len()) & ((b <= 32768) & ((b <= bytes.len()) & reserved(objects))))
 }
 

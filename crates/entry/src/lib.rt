@@ -3,6 +3,7 @@ mod columns;
 mod judge;
 mod lookup;
 mod put;
+mod rows;
 
 pub use columns::access_at;
 pub use columns::count_at;
@@ -14,6 +15,8 @@ pub use columns::name_at;
 pub use columns::name_len_at;
 pub use columns::number_of;
 pub use columns::room_at;
+pub use columns::row_end;
+pub use columns::slot;
 pub use columns::start_at;
 pub use columns::type_at;
 pub use columns::used_of;
@@ -25,6 +28,12 @@ pub use lookup::find;
 pub use lookup::locate;
 pub use lookup::sub_at;
 pub use put::put_value;
+pub use rows::insert_row;
+pub use rows::open_slots;
+pub use rows::remove_row;
+pub use rows::remove_slots;
+pub use rows::set_slot;
+pub use rows::set_totals;
 
 // A row, or none.
 pub enum Found {

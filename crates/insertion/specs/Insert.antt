@@ -9,7 +9,7 @@ use lib.Dec.{eqb, leb, ltb}
 use Rattle.answers.specs.declared.Refusal.the-variants.{Malformed, BadValue, Occupied, Full}
 use Rattle.value.specs.Codec.{isText}
 use Rattle.entry.specs.Model.{Obj, used, size, insertAt}
-use Rattle.entry.specs.Table.{Dict, indexAt, modelOf, laid, numberOf, valuesOf, usedOf}
+use Rattle.entry.specs.Table.{Dict, indexAt, modelOf, laid, numberOf, valuesOf, usedOf, rowEnd, slotPlace}
 use Rattle.entry.specs.Judge.{wellFormed}
 use Rattle.insertion.specs.declared.Head.{Head}
 use Rattle.insertion.specs.declared.Inserted.{Inserted}
@@ -32,7 +32,7 @@ taken x (o ∷ os) = eqb (o .index) x || taken x os
 -- whether there is room for one object more, of u values and g bytes: R6.4
 unfoldable pub fitsIn : Dict → ℕ → ℕ → Bool
 fitsIn d u g =
-    ltb (numberOf (d .objects)) 1024 && (leb (12 * numberOf (d .objects) + 24) (length (d .objects)) && (leb (valuesOf (d .objects) + u) 6144 && (leb (3 * (valuesOf (d .objects) + u)) (length (d .slots))
+    ltb (numberOf (d .objects)) 1024 && (leb (rowEnd (numberOf (d .objects))) (length (d .objects)) && (leb (valuesOf (d .objects) + u) 6144 && (leb (slotPlace (valuesOf (d .objects) + u)) (length (d .slots))
     && (leb (valuesOf (d .objects) + u) (length (d .words)) && (leb (usedOf (d .objects) + g) 32768 && leb (usedOf (d .objects) + g) (length (d .bytes)))))))
 
 -- ---- the answer: R6.2
@@ -71,9 +71,9 @@ rowIn h v b len u = h .index ∷ h .kind ∷ h .access ∷ (u - h .default) ∷ 
 pub record Room (objects slots words bytes : List ℕ) (i u g : ℕ) : Type 0 where
   pub place : i ≤ numberOf objects
   pub few : numberOf objects < 1024
-  pub rows : 12 * numberOf objects + 24 ≤ length objects
+  pub rows : rowEnd (numberOf objects) ≤ length objects
   pub values : valuesOf objects + u ≤ 6144
-  pub slotted : 3 * (valuesOf objects + u) ≤ length slots
+  pub slotted : slotPlace (valuesOf objects + u) ≤ length slots
   pub worded : valuesOf objects + u ≤ length words
   pub total : usedOf objects + g ≤ 32768
   pub arena : usedOf objects + g ≤ length bytes

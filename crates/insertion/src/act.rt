@@ -3,11 +3,12 @@ ghost use mathlib.Core.Path.{_≡_};
 ghost use mathlib.Core.Bool.{false, cond};
 ghost use mathlib.Core.List.{_++_};
 ghost use Prim.Native.Nat.{ℕ, _+_, _-_, _*_, _^_, _≤_, _<_};
-ghost use lib.ListN.{length, getD, set, take, drop};
+ghost use lib.ListN.{length, getD, take, drop};
 ghost use Rattle.lists.specs.Lists.{over, grown, spliced};
 ghost use Rattle.value.specs.Codec.{isText};
 ghost use Rattle.entry.specs.Model.{rooms, wordsOf};
-ghost use Rattle.entry.specs.Table.{numberOf, valuesOf, usedOf, before, dict, modelOf, Lies};
+ghost use Rattle.entry.specs.Table.{numberOf, valuesOf, usedOf, rowPlace, rowEnd, firstPlace, namePlace, slotPlace, startPlace, valuesBefore, bytesBefore, dict, modelOf, Lies};
+ghost use Rattle.entry.specs.Rows.{rowsGrown, startsGrown, totalled};
 ghost use Rattle.insertion.specs.Given.{wordIn, roomOf, given, roomsIn, slotsIn, countIn, objIn};
 ghost use Rattle.insertion.specs.Insert.{rowIn, inserted, Room, Values};
 use crate::Head;
@@ -32,18 +33,15 @@ fn held_of(t: u64, len: usize) -> usize
 
 // The new object's slots, words and rooms, laid into the gaps.
 fn fill_slots(slots: &mut [u64], v: usize, b: usize, vals: &[u64], u: usize)
-    requires { ⌜ (u ≤ 255) × (v + u ≤ 6144) × (3 * (v + u) ≤ length (now slots)) × (3 * u ≤ length (now vals)) ⌝ }
+    requires { ⌜ (u ≤ 255) × (v + u ≤ 6144) × (slotPlace (v + u) ≤ length (now slots)) × (3 * u ≤ length (now vals)) ⌝ }
     requires { ⌜ b + roomsIn (now vals) u 0 ≤ 32768 ⌝ }
-    ensures { λ _. ⌜ now (slots .exit) ≡ over (now (slots .entry)) (3 * v) (slotsIn (now (vals .entry)) u 0 b) ⌝ }
+    ensures { λ _. ⌜ now (slots .exit) ≡ over (now (slots .entry)) (slotPlace v) (slotsIn (now (vals .entry)) u 0 b) ⌝ }
 {
     let mut j = 0;
     let mut start = b;
     while j < u {
-        let p = 3 * (v + j);
         let room = vals[3 * j + 1];
-        slots[p] = vals[3 * j];
-        slots[p + 1] = start as u64;
-        slots[p + 2] = room;
+        entry::set_slot(slots, v + j, vals[3 * j], start as u64, room);
         start += room as usize;
         j += 1;
     }
@@ -103,12 +101,11 @@ fn insert_words(words: &mut [u64], v: usize, m: usize, vals: &[u64], encodings: 
 
 // Their slots, whose rooms start at b; the rooms behind start g bytes further on.
 fn insert_slots(slots: &mut [u64], v: usize, m: usize, b: usize, vals: &[u64], u: usize, g: u64)
-    requires { ⌜ (u ≤ 255) × (v ≤ m) × (m + u ≤ 6144) × (3 * (m + u) ≤ length (now slots)) × (3 * u ≤ length (now vals)) × (b + roomsIn (now vals) u 0 ≤ 32768) ⌝ }
-    requires { ⌜ ((j : ℕ) → j < m - v → getD (now slots) (3 * v + 1 + 3 * j) 0 + g < 2 ^ 64) ⌝ }
-    ensures { λ _. ⌜ now (slots .exit) ≡ spliced (3 * v) (3 * m) (slotsIn (now (vals .entry)) u 0 b) (grown 3 g (m - v) (3 * v + 1) (now (slots .entry))) ⌝ }
+    requires { ⌜ (u ≤ 255) × (v ≤ m) × (m + u ≤ 6144) × (slotPlace (m + u) ≤ length (now slots)) × (3 * u ≤ length (now vals)) × (b + roomsIn (now vals) u 0 ≤ 32768) ⌝ }
+    requires { ⌜ ((j : ℕ) → j < m - v → getD (now slots) (startPlace v + 3 * j) 0 + g < 2 ^ 64) ⌝ }
+    ensures { λ _. ⌜ now (slots .exit) ≡ spliced (slotPlace v) (slotPlace m) (slotsIn (now (vals .entry)) u 0 b) (startsGrown v (m - v) g (now (slots .entry))) ⌝ }
 {
-    lists::grow(slots, 3 * v + 1, 3, m - v, g);
-    lists::move_up(slots, 3 * v, 3 * m, 3 * u);
+    entry::open_slots(slots, v, m, u, g);
     fill_slots(slots, v, b, vals, u);
 }
 
@@ -131,19 +128,6 @@ fn insert_bytes(
     fill_rooms(bytes, b + name.len(), vals, encodings, u);
 }
 
-// The row at place i of n, with u values and g bytes before the objects behind it.
-fn insert_row(objects: &mut [u64], i: usize, n: usize, row: &[u64; 12], u: u64, g: u64)
-    requires { ⌜ (i ≤ n) × (n < 1024) × (12 * n + 24 ≤ length (now objects)) ⌝ }
-    requires { ⌜ ((j : ℕ) → j < n - i → getD (now objects) (12 * i + 16 + 12 * j) 0 + u < 2 ^ 64) ⌝ }
-    requires { ⌜ ((j : ℕ) → j < n - i → getD (grown 12 u (n - i) (12 * i + 16) (now objects)) (12 * i + 17 + 12 * j) 0 + g < 2 ^ 64) ⌝ }
-    ensures { λ _. ⌜ now (objects .exit) ≡ spliced (12 * i + 12) (12 * n + 12) (now (row .entry)) (grown 12 g (n - i) (12 * i + 17) (grown 12 u (n - i) (12 * i + 16) (now (objects .entry)))) ⌝ }
-{
-    lists::grow(objects, 12 * i + 16, 12, n - i, u);
-    lists::grow(objects, 12 * i + 17, 12, n - i, g);
-    lists::move_up(objects, 12 * i + 12, 12 * n + 12, 12);
-    lists::lay_words(objects, 12 * i + 12, row);
-}
-
 // The row and the header's totals.
 fn insert_object(
     objects: &mut [u64],
@@ -156,11 +140,11 @@ fn insert_object(
     u: usize,
     g: usize,
 )
-    requires { ⌜ (i ≤ n) × (n < 1024) × (12 * n + 24 ≤ length (now objects)) × (head .default ≤ u) ⌝ }
+    requires { ⌜ (i ≤ n) × (n < 1024) × (rowEnd n ≤ length (now objects)) × (head .default ≤ u) ⌝ }
     requires { ⌜ (valuesOf (now objects) + u < 2 ^ 64) × (usedOf (now objects) + g < 2 ^ 64) ⌝ }
-    requires { ⌜ ((j : ℕ) → j < n - i → getD (now objects) (12 * i + 16 + 12 * j) 0 + u < 2 ^ 64) ⌝ }
-    requires { ⌜ ((j : ℕ) → j < n - i → getD (grown 12 u (n - i) (12 * i + 16) (now objects)) (12 * i + 17 + 12 * j) 0 + g < 2 ^ 64) ⌝ }
-    ensures { λ _. ⌜ now (objects .exit) ≡ set (set (set (spliced (12 * i + 12) (12 * n + 12) (rowIn head v b len u) (grown 12 g (n - i) (12 * i + 17) (grown 12 u (n - i) (12 * i + 16) (now (objects .entry))))) 0 (n + 1)) 1 (valuesOf (now (objects .entry)) + u)) 2 (usedOf (now (objects .entry)) + g) ⌝ }
+    requires { ⌜ ((j : ℕ) → j < n - i → getD (now objects) (firstPlace i + 12 * j) 0 + u < 2 ^ 64) ⌝ }
+    requires { ⌜ ((j : ℕ) → j < n - i → getD (grown 12 u (n - i) (firstPlace i) (now objects)) (namePlace i + 12 * j) 0 + g < 2 ^ 64) ⌝ }
+    ensures { λ _. ⌜ now (objects .exit) ≡ totalled (n + 1) (valuesOf (now (objects .entry)) + u) (usedOf (now (objects .entry)) + g) (spliced (rowPlace i) (rowPlace n) (rowIn head v b len u) (rowsGrown i (n - i) u g (now (objects .entry)))) ⌝ }
 {
     let m = entry::values_of(objects);
     let used = entry::used_of(objects);
@@ -178,16 +162,14 @@ fn insert_object(
         0,
         0,
     ];
-    insert_row(objects, i, n, &row, u as u64, g as u64);
-    objects[0] = (n + 1) as u64;
-    objects[1] = m + u as u64;
-    objects[2] = used + g as u64;
+    entry::insert_row(objects, i, n, &row, u as u64, g as u64);
+    entry::set_totals(objects, (n + 1) as u64, m + u as u64, used + g as u64);
 }
 
 // How many values, and how many bytes, lie before object i.
 pub fn values_before(objects: &[u64], i: usize) -> usize
-    requires { ⌜ (numberOf (now objects) ≤ 1024) × (12 * numberOf (now objects) + 12 ≤ length (now objects)) ⌝ }
-    ensures { λ r. ⌜ r ≡ before (now (objects .entry)) i 16 1 ⌝ }
+    requires { ⌜ (numberOf (now objects) ≤ 1024) × (rowPlace (numberOf (now objects)) ≤ length (now objects)) ⌝ }
+    ensures { λ r. ⌜ r ≡ valuesBefore (now (objects .entry)) i ⌝ }
 {
     let n = entry::number_of(objects) as usize;
     if i < n {
@@ -197,8 +179,8 @@ pub fn values_before(objects: &[u64], i: usize) -> usize
 }
 
 pub fn bytes_before(objects: &[u64], i: usize) -> usize
-    requires { ⌜ (numberOf (now objects) ≤ 1024) × (12 * numberOf (now objects) + 12 ≤ length (now objects)) ⌝ }
-    ensures { λ r. ⌜ r ≡ before (now (objects .entry)) i 17 2 ⌝ }
+    requires { ⌜ (numberOf (now objects) ≤ 1024) × (rowPlace (numberOf (now objects)) ≤ length (now objects)) ⌝ }
+    ensures { λ r. ⌜ r ≡ bytesBefore (now (objects .entry)) i ⌝ }
 {
     let n = entry::number_of(objects) as usize;
     if i < n {

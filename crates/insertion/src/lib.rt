@@ -10,7 +10,7 @@ ghost use mathlib.Core.Bool.{false, cond};
 ghost use Prim.Native.Nat.{_+_, _*_, _≤_};
 ghost use lib.Dec.{eqb, ltb};
 ghost use lib.ListN.{length};
-ghost use Rattle.entry.specs.Table.{dict, numberOf, valuesOf, usedOf, indexAt};
+ghost use Rattle.entry.specs.Table.{dict, numberOf, valuesOf, usedOf, rowPlace, indexAt};
 ghost use Rattle.insertion.specs.Insert.{fitsIn, placeFrom, answerOf, memoryOf};
 
 // What an insertion is given beside its name and its values. With a default (1, else 0) the last of the values is the default.
@@ -34,7 +34,7 @@ pub enum Size {
 
 // How many rows have a smaller index.
 fn place(objects: &[u64], x: u64) -> usize
-    requires { ⌜ (numberOf (now objects) ≤ 1024) × (12 * numberOf (now objects) + 12 ≤ length (now objects)) ⌝ }
+    requires { ⌜ (numberOf (now objects) ≤ 1024) × (rowPlace (numberOf (now objects)) ≤ length (now objects)) ⌝ }
     ensures { λ r. ⌜ r ≡ placeFrom (now (objects .entry)) x (numberOf (now (objects .entry))) 0 ⌝ }
 {
     let n = entry::number_of(objects) as usize;
@@ -51,7 +51,7 @@ fn place(objects: &[u64], x: u64) -> usize
 
 // Whether the row at place i has the index.
 fn occupied(objects: &[u64], i: usize, x: u64) -> bool
-    requires { ⌜ (numberOf (now objects) ≤ 1024) × (12 * numberOf (now objects) + 12 ≤ length (now objects)) ⌝ }
+    requires { ⌜ (numberOf (now objects) ≤ 1024) × (rowPlace (numberOf (now objects)) ≤ length (now objects)) ⌝ }
     ensures { λ r. ⌜ r ≡ cond (ltb i (numberOf (now (objects .entry)))) (eqb (indexAt (now (objects .entry)) i) x) false ⌝ }
 {
     let n = entry::number_of(objects) as usize;
@@ -70,9 +70,9 @@ fn fits(objects: &[u64], slots: &[u64], words: &[u64], bytes: &[u8], u: usize, g
     let m = entry::values_of(objects) as usize + u;
     let b = entry::used_of(objects) as usize + g;
     (n < 1024)
-        & ((12 * n + 24 <= objects.len())
+        & ((entry::row_end(n) <= objects.len())
             & ((m <= 6144)
-                & ((3 * m <= slots.len())
+                & ((entry::slot(m) <= slots.len())
                     & ((m <= words.len()) & ((b <= 32768) & (b <= bytes.len()))))))
 }
 

@@ -6,7 +6,7 @@ use lib.Dec.{eqb, ltb}
 use lib.ListN.{length, getD}
 use Rattle.lists.specs.Lists.{over}
 use Rattle.answers.specs.declared.Refusal.the-variants.{Malformed, BufferTooShort}
-use Rattle.entry.specs.Table.{Dict, kindAt, countAt, firstAt, typeAt}
+use Rattle.entry.specs.Table.{Dict, kindAt, countAt, firstAt, typeAt, slotPlace}
 use Rattle.entry.specs.Find.{findRow}
 use Rattle.entry.specs.Judge.{wellFormed}
 use Rattle.entry.specs.declared.Found.{Found}
@@ -60,5 +60,5 @@ cnsOf d out =
 pub record Elements (slots words : List ℕ) (count first : ℕ) : Type 0 where
   pub few : count ≤ 254
   pub low : first + count ≤ 6144
-  pub slotted : 3 * (first + count) ≤ length slots
+  pub slotted : slotPlace (first + count) ≤ length slots
   pub worded : first + count ≤ length words

@@ -1,10 +1,10 @@
 // The configured nodes: the Array 1F81h.
 ghost use mathlib.Core.Path.{_≡_};
 ghost use mathlib.Core.Bool.{true};
-ghost use Prim.Native.Nat.{_+_, _*_, _<_, _≤_};
+ghost use Prim.Native.Nat.{_<_, _≤_};
 ghost use lib.ListN.{length, getD};
 ghost use Rattle.lists.specs.Lists.{over};
-ghost use Rattle.entry.specs.Table.{dict, typeAt};
+ghost use Rattle.entry.specs.Table.{dict, typeAt, slotEnd};
 ghost use Rattle.entry.specs.Judge.{wellFormed};
 ghost use Rattle.od.specs.Nodes.{configured, nodesFrom, Elements, elementsAt, given, cnsOf};
 use crate::Listed;
@@ -19,7 +19,7 @@ struct Span {
 
 // Whether value p is a configured node.
 fn is_configured(slots: &[u64], words: &[u64], p: usize) -> bool
-    requires { ⌜ (p < 6144) × (3 * p + 3 ≤ length (now slots)) × (p < length (now words)) ⌝ }
+    requires { ⌜ (p < 6144) × (slotEnd p ≤ length (now slots)) × (p < length (now words)) ⌝ }
     ensures { λ r. ⌜ r ≡ configured (typeAt (now (slots .entry)) p) (getD (now (words .entry)) p 0) ⌝ }
 {
     let t = entry::type_at(slots, p);

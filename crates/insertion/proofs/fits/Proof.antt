@@ -19,18 +19,15 @@ used-of-requires c κs = search needs
 add-b : tie.Need-add-b
 add-b c = search needs
 
-mul-result : tie.Need-mul-result
-mul-result c = search needs
+row-end-requires : tie.Need-row-end-requires
+row-end-requires c κs = search needs
 
-add-result : tie.Need-add-result
-add-result c = search needs
-
-mul-result-2 : tie.Need-mul-result-2
-mul-result-2 c = search needs
+slot-requires : tie.Need-slot-requires
+slot-requires c κs = search needs
 
 returns : tie.Need-returns
 unfolding fitsIn
-returns c = rw (c .before .before .number-of .ensures, c .before .values-of .ensures, c .used-of .ensures)
+returns c = rw (c .slot .ensures, c .before .row-end .ensures, c .before .before .used-of .ensures, c .before .before .before .values-of .ensures, c .before .before .before .before .number-of .ensures)
 
 pub fits-spec : {M : Type 1} → statement M
 fits-spec =
@@ -41,7 +38,6 @@ fits-spec =
     add-m
     used-of-requires
     add-b
-    mul-result
-    add-result
-    mul-result-2
+    row-end-requires
+    slot-requires
     returns)

@@ -23,38 +23,36 @@ returns-2 : tie.Need-returns-2
 unfolding headerOk
 returns-2 c = simp (lt-leb _ _ (rw (c .before .before .before .number-of .ensures) at (c .if2 .taken)))
 
-mul-if3 : tie.Need-mul-if3
-mul-if3 c = search needs
-
-add-if3 : tie.Need-add-if3
-add-if3 c = search needs
+row-requires : tie.Need-row-requires
+row-requires c κs = search needs
 
 returns-3 : tie.Need-returns-3
 unfolding headerOk
 returns-3 c =
-    let n = c .before .before .before .before .number-of .ensures in
-    simp (le-leb _ _ (rw n at (c .before .if2 .left)), lt-leb _ _ (rw n at (c .if3 .taken)))
+    let n = c .before .before .before .before .before .number-of .ensures in
+    simp (le-leb _ _ (rw n at (c .before .before .if2 .left)), lt-leb _ _ (rw (c .before .row .ensures, n) at (c .if3 .taken)))
 
 returns-4 : tie.Need-returns-4
 unfolding headerOk
 returns-4 c =
-    let u = c .before .before .before in
+    let u = c .before .before .before .before in
     let n = u .before .before .number-of .ensures in
-    simp (le-leb _ _ (rw n at (c .before .before .if2 .left)), le-leb _ _ (rw n at (c .before .if3 .left)), lt-leb _ _ (rw (u .before .values-of .ensures) at (c .if4 .taken)))
+    simp (le-leb _ _ (rw n at (c .before .before .before .if2 .left)), le-leb _ _ (rw (c .before .before .row .ensures, n) at (c .before .if3 .left)), lt-leb _ _ (rw (u .before .values-of .ensures) at (c .if4 .taken)))
 
-mul-result : tie.Need-mul-result
-mul-result c = search needs
+slot-requires : tie.Need-slot-requires
+slot-requires c κs = search needs
 
 reserved-requires : tie.Need-reserved-requires
 reserved-requires c κs = search needs
 
 returns-5 : tie.Need-returns-5
 returns-5 c =
-    let u = c .before .before .before .before in
+    let r = c .before .before .before .before in
+    let u = r .before .before in
     let n = u .before .before .number-of .ensures in
     let m = u .before .values-of .ensures in
-    rw (m, u .used-of .ensures, c .reserved .ensures)
-    (sym (header-rest _ (rw n at (c .before .before .before .if2 .left)) (rw n at (c .before .before .if3 .left)) (rw m at (c .before .if4 .left))))
+    rw (c .before .slot .ensures, m, u .used-of .ensures, c .reserved .ensures)
+    (sym (header-rest _ (rw n at (r .before .if2 .left)) (rw (r .row .ensures, n) at (c .before .before .before .if3 .left)) (rw m at (c .before .before .if4 .left))))
 
 pub header-ok-spec : {M : Type 1} → statement M
 header-ok-spec =
@@ -65,10 +63,9 @@ header-ok-spec =
     values-of-requires
     used-of-requires
     returns-2
-    mul-if3
-    add-if3
+    row-requires
     returns-3
     returns-4
-    mul-result
+    slot-requires
     reserved-requires
     returns-5)

@@ -3,7 +3,7 @@ use mathlib.Core.Path.{_≡_, refl, sym, _∙_}
 use native.Mathlib.Omega.{arith}
 use borrow.Author.Needs.{needs}
 use Prim.Native.Nat.{_≤_, _-_, _+_, _*_}
-use lib.ListN.{length, length-set}
+use lib.ListN.{length}
 use native.Mathlib.Nat.{add-zero}
 use Rattle.lists.specs.Lists.{over}
 use Rattle.insertion.specs.Given.{roomsIn, slotsIn, roomIn}
@@ -19,7 +19,7 @@ abbrev μ-loop : tie.MeasureT-loop
 μ-loop slots₀ v b vals u j₀ start₀ slots j start = u - j
 
 abbrev start-of : tie.At-loop Inv-loop μ-loop → tie.Start Inv-loop μ-loop
-start-of k = k .before
+start-of k = k .before .before .before
 
 room-fits : (c : tie.In-loop Inv-loop μ-loop) → c .before .loop .start + roomIn (start-of (c .before) .args .vals .now) (c .before .loop .j) ≤ 32768
 room-fits c =
@@ -27,14 +27,9 @@ room-fits c =
 
 loop-holds : tie.Need-loop-holds Inv-loop μ-loop
 loop-holds c =
-    let f : c .args .u - 0 ≡ c .args .u = omega arith in
+    let a = c .before .before .args in
+    let f : a .u - 0 ≡ a .u = omega arith in
     (omega arith, refl, rw f, rw (f, add-zero))
-
-add-p : tie.Need-add-p Inv-loop μ-loop
-add-p c = search needs
-
-mul-p : tie.Need-mul-p Inv-loop μ-loop
-mul-p c = search needs
 
 mul-room : tie.Need-mul-room Inv-loop μ-loop
 mul-room c = search needs
@@ -48,41 +43,23 @@ mul-room-2 c = search needs
 shared-slice-read-room : tie.Need-shared-slice-read-room Inv-loop μ-loop
 shared-slice-read-room c = search needs
 
-mul-slots : tie.Need-mul-slots Inv-loop μ-loop
-mul-slots c = search needs
+add-set-slot : tie.Need-add-set-slot Inv-loop μ-loop
+add-set-slot c = search needs
 
-mul-slots-2 : tie.Need-mul-slots-2 Inv-loop μ-loop
-mul-slots-2 c = search needs
+mul-set-slot : tie.Need-mul-set-slot Inv-loop μ-loop
+mul-set-slot c = search needs
 
-shared-slice-read-slots : tie.Need-shared-slice-read-slots Inv-loop μ-loop
-shared-slice-read-slots c = search needs
+mul-set-slot-2 : tie.Need-mul-set-slot-2 Inv-loop μ-loop
+mul-set-slot-2 c = search needs
 
-mul-slots-3 : tie.Need-mul-slots-3 Inv-loop μ-loop
-mul-slots-3 c = search needs
+shared-slice-read-set-slot : tie.Need-shared-slice-read-set-slot Inv-loop μ-loop
+shared-slice-read-set-slot c = search needs
 
-slice-write-slots : tie.Need-slice-write-slots Inv-loop μ-loop
-slice-write-slots c = search needs
-
-add-slots : tie.Need-add-slots Inv-loop μ-loop
-add-slots c = search needs
-
-mul-slots-4 : tie.Need-mul-slots-4 Inv-loop μ-loop
-mul-slots-4 c = search needs
-
-slice-write-slots-2 : tie.Need-slice-write-slots-2 Inv-loop μ-loop
-slice-write-slots-2 c = rw length-set (omega arith)
-
-add-slots-2 : tie.Need-add-slots-2 Inv-loop μ-loop
-add-slots-2 c = search needs
-
-mul-slots-5 : tie.Need-mul-slots-5 Inv-loop μ-loop
-mul-slots-5 c = search needs
-
-slice-write-slots-3 : tie.Need-slice-write-slots-3 Inv-loop μ-loop
-slice-write-slots-3 c = rw (length-set, length-set) (omega arith)
+set-slot-requires : tie.Need-set-slot-requires Inv-loop μ-loop
+set-slot-requires c κs = search needs
 
 add-start : tie.Need-add-start Inv-loop μ-loop
-add-start c = omega (arith, room-fits (c .before .before))
+add-start c = omega (arith, room-fits (c .before .before .before .before .before .before))
 
 add-j : tie.Need-add-j Inv-loop μ-loop
 add-j c = search needs
@@ -92,12 +69,13 @@ loop-less c = search needs
 
 loop-again : tie.Need-loop-again Inv-loop μ-loop
 loop-again c =
-    let k = c .before .before .before in
-    let a = k .before .args in (
+    let k = c .before .before .before .before .before .before in
+    let l = k .before .loop in
+    let a = start-of (k .before) .args in (
       omega arith,
-      simp length-set (k .loop .inv .1),
-      omega (arith, rooms-more (a .vals .now) (a .u) (k .loop .j) (c .before .before .loop-test .taken), k .loop .inv .2),
-      k .loop .inv .3 ∙ slots-more (a .vals .now) (k .loop .slots) (a .v) (a .u) (k .loop .j) (k .loop .start) (omega arith) (omega arith),
+      omega arith,
+      omega (arith, rooms-more (a .vals .now) (a .u) (l .j) (k .loop-test .taken), l .inv .2),
+      l .inv .3 ∙ slots-more (a .vals .now) (l .slots) (a .v) (a .u) (l .j) (l .start) (omega arith) (omega arith) ∙ rw (c .before .before .set-slot .ensures),
     )
 
 same-length : tie.Need-same-length Inv-loop μ-loop
@@ -113,23 +91,15 @@ fill-slots-spec =
     Inv-loop
     μ-loop
     loop-holds
-    add-p
-    mul-p
     mul-room
     add-room
     mul-room-2
     shared-slice-read-room
-    mul-slots
-    mul-slots-2
-    shared-slice-read-slots
-    mul-slots-3
-    slice-write-slots
-    add-slots
-    mul-slots-4
-    slice-write-slots-2
-    add-slots-2
-    mul-slots-5
-    slice-write-slots-3
+    add-set-slot
+    mul-set-slot
+    mul-set-slot-2
+    shared-slice-read-set-slot
+    set-slot-requires
     add-start
     add-j
     loop-less

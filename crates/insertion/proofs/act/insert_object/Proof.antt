@@ -1,6 +1,5 @@
 -- `insertion::act::insert_object` meets its contract. Assumes nothing.
-use lib.ListN.{length-set}
-use native.Mathlib.Omega.{arith}
+use mathlib.Core.Path.{_∙_}
 use borrow.Author.Needs.{needs}
 use Rattle.insertion.proofs.act.insert_object.Statement.{statement}
 use Rattle.insertion.proofs.act.insert_object.Tie as tie
@@ -14,35 +13,29 @@ used-of-requires c κs = search needs
 cast-insert-row : tie.Need-cast-insert-row
 cast-insert-row c = search needs
 
-sub-t19 : tie.Need-sub-t19
-sub-t19 c = search needs
+sub-set-totals : tie.Need-sub-set-totals
+sub-set-totals c = search needs
 
 insert-row-requires : tie.Need-insert-row-requires
 insert-row-requires c κs = search needs
 
-add-objects : tie.Need-add-objects
-add-objects c = search needs
+add-set-totals : tie.Need-add-set-totals
+add-set-totals c = search needs
 
-slice-write-objects : tie.Need-slice-write-objects
-slice-write-objects c = search needs
+add-set-totals-2 : tie.Need-add-set-totals-2
+add-set-totals-2 c = search needs
 
-add-objects-2 : tie.Need-add-objects-2
-add-objects-2 c = search needs
+add-set-totals-3 : tie.Need-add-set-totals-3
+add-set-totals-3 c = search needs
 
-slice-write-objects-2 : tie.Need-slice-write-objects-2
-slice-write-objects-2 c = rw length-set (omega arith)
-
-add-objects-3 : tie.Need-add-objects-3
-add-objects-3 c = search needs
-
-slice-write-objects-3 : tie.Need-slice-write-objects-3
-slice-write-objects-3 c = rw (length-set, length-set) (omega arith)
+set-totals-requires : tie.Need-set-totals-requires
+set-totals-requires c κs = search needs
 
 same-length : tie.Need-same-length
 same-length c = search needs
 
 returns : tie.Need-returns
-returns c = rw (c .before .before .insert-row .ensures, c .before .before .before .before .before .before .before .used-of .ensures, c .before .before .before .before .before .before .before .before .before .values-of .ensures)
+returns c = c .before .before .set-totals .ensures ∙ rw (c .before .before .before .before .before .before .insert-row .ensures, c .before .before .before .before .before .before .before .before .before .before .before .used-of .ensures, c .before .before .before .before .before .before .before .before .before .before .before .before .before .values-of .ensures)
 
 pub insert-object-spec : {M : Type 1} → statement M
 insert-object-spec =
@@ -51,13 +44,11 @@ insert-object-spec =
     values-of-requires
     used-of-requires
     cast-insert-row
-    sub-t19
+    sub-set-totals
     insert-row-requires
-    add-objects
-    slice-write-objects
-    add-objects-2
-    slice-write-objects-2
-    add-objects-3
-    slice-write-objects-3
+    add-set-totals
+    add-set-totals-2
+    add-set-totals-3
+    set-totals-requires
     same-length
     returns)

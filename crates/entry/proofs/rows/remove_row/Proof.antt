@@ -1,9 +1,8 @@
--- `insertion::remove::remove_row` meets its contract. Assumes nothing.
-use lib.ListN.{length-set}
-use native.Mathlib.Omega.{arith}
+-- `entry::rows::remove_row` meets its contract. Assumes nothing.
+use mathlib.Core.Path.{_∙_}
 use borrow.Author.Needs.{needs}
-use Rattle.insertion.proofs.remove.remove_row.Statement.{statement}
-use Rattle.insertion.proofs.remove.remove_row.Tie as tie
+use Rattle.entry.proofs.rows.remove_row.Statement.{statement}
+use Rattle.entry.proofs.rows.remove_row.Tie as tie
 
 values-of-requires : tie.Need-values-of-requires
 values-of-requires c κs = search needs
@@ -68,23 +67,20 @@ sub-fall-2 c = search needs
 fall-requires-2 : tie.Need-fall-requires-2
 fall-requires-2 c κs = search needs
 
-sub-objects : tie.Need-sub-objects
-sub-objects c = search needs
+sub-set-totals : tie.Need-sub-set-totals
+sub-set-totals c = search needs
 
-slice-write-objects : tie.Need-slice-write-objects
-slice-write-objects c = search needs
-
-slice-write-objects-2 : tie.Need-slice-write-objects-2
-slice-write-objects-2 c = rw length-set (omega arith)
-
-slice-write-objects-3 : tie.Need-slice-write-objects-3
-slice-write-objects-3 c = rw (length-set, length-set) (omega arith)
+set-totals-requires : tie.Need-set-totals-requires
+set-totals-requires c κs = search needs
 
 same-length : tie.Need-same-length
-same-length c = rw (length-set, length-set, length-set) (omega arith)
+same-length c = search needs
 
 returns : tie.Need-returns
-returns c = rw (c .before .before .fall2 .ensures, c .before .before .before .before .before .before .fall .ensures, c .before .before .before .before .before .before .before .before .before .before .move-down .ensures, c .before .before .before .before .before .before .before .before .before .before .before .before .less2 .ensures, c .before .before .before .before .before .before .before .before .before .before .before .before .before .used-of .ensures, c .before .before .before .before .before .before .before .before .before .before .before .before .before .before .before .less .ensures, c .before .before .before .before .before .before .before .before .before .before .before .before .before .before .before .before .values-of .ensures)
+returns c =
+    let d = c .before .before .before .before .before .before .before .before .before .before .before .before .before .before in
+    c .before .before .set-totals .ensures
+    ∙ rw (c .before .before .before .before .before .before .fall2 .ensures, c .before .before .before .before .before .before .before .before .before .before .fall .ensures, d .move-down .ensures, d .before .before .less2 .ensures, d .before .before .before .used-of .ensures, d .before .before .before .before .before .less .ensures, d .before .before .before .before .before .before .values-of .ensures)
 
 pub remove-row-spec : {M : Type 1} → statement M
 remove-row-spec =
@@ -111,9 +107,7 @@ remove-row-spec =
     add-fall-4
     sub-fall-2
     fall-requires-2
-    sub-objects
-    slice-write-objects
-    slice-write-objects-2
-    slice-write-objects-3
+    sub-set-totals
+    set-totals-requires
     same-length
     returns)

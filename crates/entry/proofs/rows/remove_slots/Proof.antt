@@ -1,8 +1,8 @@
--- `insertion::remove::remove_slots` meets its contract. Assumes nothing.
+-- `entry::rows::remove_slots` meets its contract. Assumes nothing.
 use mathlib.Core.Path.{_∙_}
 use borrow.Author.Needs.{needs}
-use Rattle.insertion.proofs.remove.remove_slots.Statement.{statement}
-use Rattle.insertion.proofs.remove.remove_slots.Tie as tie
+use Rattle.entry.proofs.rows.remove_slots.Statement.{statement}
+use Rattle.entry.proofs.rows.remove_slots.Tie as tie
 
 mul-move-down : tie.Need-mul-move-down
 mul-move-down c = search needs

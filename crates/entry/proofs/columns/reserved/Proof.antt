@@ -1,11 +1,9 @@
-use mathlib.Core.Path.{_≡_, refl, sym, ap, _∙_}
-use native.Mathlib.Omega.{arith}
-use borrow.Author.Needs.{needs}
+-- `entry::columns::reserved` meets its contract. Assumes nothing.
+use mathlib.Core.Path.{refl}
 use Rattle.entry.specs.Judge.{reserved}
-use native.Mathlib.Omega.{arith}
 use borrow.Author.Needs.{needs}
-use Rattle.entry.proofs.judge.reserved.Statement.{statement}
-use Rattle.entry.proofs.judge.reserved.Tie as tie
+use Rattle.entry.proofs.columns.reserved.Statement.{statement}
+use Rattle.entry.proofs.columns.reserved.Tie as tie
 
 shared-slice-read-result : tie.Need-shared-slice-read-result
 shared-slice-read-result c = search needs

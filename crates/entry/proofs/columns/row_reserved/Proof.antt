@@ -1,9 +1,9 @@
--- `entry::judge::row_reserved` meets its contract. Assumes nothing.
+-- `entry::columns::row_reserved` meets its contract. Assumes nothing.
 use mathlib.Core.Path.{refl}
 use Rattle.entry.specs.Judge.{rowReserved}
 use borrow.Author.Needs.{needs}
-use Rattle.entry.proofs.judge.row_reserved.Statement.{statement}
-use Rattle.entry.proofs.judge.row_reserved.Tie as tie
+use Rattle.entry.proofs.columns.row_reserved.Statement.{statement}
+use Rattle.entry.proofs.columns.row_reserved.Tie as tie
 
 mul-a : tie.Need-mul-a
 mul-a c = search needs

@@ -1,4 +1,4 @@
--- `insertion::act::insert_row` meets its contract. Assumes nothing.
+-- `entry::rows::insert_row` meets its contract. Assumes nothing.
 use mathlib.Core.Path.{_≡_, _∙_}
 use native.Mathlib.Omega.{arith}
 use borrow.Author.Needs.{needs}
@@ -7,8 +7,8 @@ use lib.ListN.{length}
 use Rattle.lists.specs.Lists.{grown}
 use Rattle.lists.proofs.SpliceLaws.{fill-gap, length-grown}
 use borrow.Author.Needs.{needs}
-use Rattle.insertion.proofs.act.insert_row.Statement.{statement}
-use Rattle.insertion.proofs.act.insert_row.Tie as tie
+use Rattle.entry.proofs.rows.insert_row.Statement.{statement}
+use Rattle.entry.proofs.rows.insert_row.Tie as tie
 
 mul-grow : tie.Need-mul-grow
 mul-grow c = search needs
