@@ -9,3 +9,4 @@ pub mod ApartLaws
 pub mod ValueLaws
 pub mod KeepLaws
 pub mod ChangeLaws
+pub mod EncodeLaws

@@ -5,3 +5,4 @@ pub mod Rules
 pub mod Judge
 pub mod Find
 pub mod Put
+pub mod Encode

@@ -1,5 +1,6 @@
 // The lent dictionary: four slices that are judged, looked up and put into.
 mod columns;
+mod encoding;
 mod judge;
 mod lookup;
 mod put;
@@ -21,6 +22,7 @@ pub use columns::start_at;
 pub use columns::type_at;
 pub use columns::used_of;
 pub use columns::values_of;
+pub use encoding::lay_encoding;
 pub use judge::head_ok;
 pub use judge::is_good;
 pub use judge::well_formed;
