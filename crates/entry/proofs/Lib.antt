@@ -7,6 +7,7 @@ pub mod FindLaws
 pub mod PutLaws
 pub mod ApartLaws
 pub mod ValueLaws
+pub mod LookupLaws
 pub mod KeepLaws
 pub mod ChangeLaws
 pub mod EncodeLaws

@@ -7,7 +7,8 @@ use mathlib.Core.Option.{Option, none, some}
 use lib.Dec.{eqb, leb}
 use lib.ListN.{length}
 use Rattle.entry.specs.Model.{Val, Obj}
-use Rattle.entry.specs.Table.{Dict, numberOf, rowPlace, indexAt, kindAt, countAt, firstAt, objAt}
+use Rattle.entry.specs.Table.{Dict, numberOf, rowPlace, indexAt, kindAt, countAt, firstAt, valAt, objAt}
+use Rattle.entry.specs.Rules.{count}
 use Rattle.entry.specs.declared.Found.{Found}
 use Rattle.entry.specs.declared.Found.the-variants.{At, Nothing}
 use Rattle.entry.specs.declared.Place.{Place}
@@ -55,6 +56,40 @@ unfoldable pub nth : List Val → ℕ → Option Val
 nth [] j = none
 nth (x ∷ xs) zero = some x
 nth (x ∷ xs) (suc j) = nth xs j
+
+-- what an index and a sub-index name
+pub data Named : Type 0 where
+  no-object : Named
+  no-sub : Named
+  counts : ℕ → Named
+  holds : Val → Named
+
+abbrev pub heldAs : Option Val → Named
+heldAs (some v) = holds v
+heldAs none = no-sub
+
+-- document 01's rule, of an object
+unfoldable pub subOf : Obj → ℕ → Named
+subOf o sub =
+    cond (eqb (o .kind) 0)
+    (cond (eqb sub 0) (heldAs (nth (o .values) 0)) no-sub)
+    (cond (eqb sub 0)
+    (counts (count o))
+    (cond (leb sub (count o)) (heldAs (nth (o .values) (sub - 1))) no-sub))
+
+abbrev pub onObject : ℕ → Option Obj → Named
+onObject sub (some o) = subOf o sub
+onObject sub none = no-object
+
+abbrev pub namedOf : ℕ → ℕ → List Obj → Named
+namedOf x sub os = onObject sub (objectOf x os)
+
+-- what stands at a place of the table
+abbrev pub namedAt : Dict → Place → Named
+namedAt d NoObject = no-object
+namedAt d NoSub = no-sub
+namedAt d (Count n) = counts n
+namedAt d (Value p) = holds (valAt d p)
 
 -- ---- what looking up needs of the rows
 pub record Rows (objects : List ℕ) : Type 0 where
