@@ -12,6 +12,9 @@ ghost use Rattle.entry.specs.Rows.{rowsGrown, startsGrown, totalled};
 ghost use Rattle.insertion.specs.Given.{wordIn, roomOf, given, roomsIn, slotsIn, countIn, objIn};
 ghost use Rattle.insertion.specs.Insert.{rowIn, inserted, Room, Values};
 use crate::Head;
+use crate::given::length_in;
+use crate::given::room_in;
+use crate::given::type_in;
 
 // The word that an encoding says.
 fn word_in(t: u64, s: &[u8], start: usize, len: usize) -> u64
@@ -40,8 +43,8 @@ fn fill_slots(slots: &mut [u64], v: usize, b: usize, vals: &[u64], u: usize)
     let mut j = 0;
     let mut start = b;
     while j < u {
-        let room = vals[3 * j + 1];
-        entry::set_slot(slots, v + j, vals[3 * j], start as u64, room);
+        let room = room_in(vals, j);
+        entry::set_slot(slots, v + j, type_in(vals, j), start as u64, room);
         start += room as usize;
         j += 1;
     }
@@ -54,8 +57,8 @@ fn fill_words(words: &mut [u64], v: usize, vals: &[u64], encodings: &[u8], u: us
     let mut j = 0;
     let mut t = 0;
     while j < u {
-        let len = vals[3 * j + 2] as usize;
-        let word = word_in(vals[3 * j], encodings, t, len);
+        let len = length_in(vals, j) as usize;
+        let word = word_in(type_in(vals, j), encodings, t, len);
         words[v + j] = word;
         t += len;
         j += 1;
@@ -80,9 +83,9 @@ fn fill_rooms(bytes: &mut [u8], at: usize, vals: &[u64], encodings: &[u8], u: us
     let mut p = at;
     let mut t = 0;
     while j < u {
-        let room = vals[3 * j + 1] as usize;
-        let len = vals[3 * j + 2] as usize;
-        let held = held_of(vals[3 * j], len);
+        let room = room_in(vals, j) as usize;
+        let len = length_in(vals, j) as usize;
+        let held = held_of(type_in(vals, j), len);
         fill_room(bytes, p, room, encodings, t, held);
         p += room;
         t += len;

@@ -1,13 +1,35 @@
 // Judging what an insertion is given.
 ghost use mathlib.Core.Path.{_≡_};
 ghost use mathlib.Core.Bool.{true, false};
-ghost use Prim.Native.Nat.{_+_, _*_, _≤_};
+ghost use Prim.Native.Nat.{_+_, _*_, _<_, _≤_};
 ghost use lib.ListN.{length, take, drop};
 ghost use Rattle.value.specs.Codec.{isText};
-ghost use Rattle.insertion.specs.Given.{valueOk, valsIn, sizeIn};
+ghost use Rattle.insertion.specs.Given.{typeIn, roomIn, lengthIn, valueOk, valsIn, sizeIn};
 use crate::Head;
 use crate::Size;
 use value::Word;
+
+// Value j as it is described.
+pub fn type_in(vals: &[u64], j: usize) -> u64
+    requires { ⌜ (j < 255) × (3 * j + 3 ≤ length (now vals)) ⌝ }
+    ensures { λ r. ⌜ r ≡ typeIn (now (vals .entry)) j ⌝ }
+{
+    vals[3 * j]
+}
+
+pub fn room_in(vals: &[u64], j: usize) -> u64
+    requires { ⌜ (j < 255) × (3 * j + 3 ≤ length (now vals)) ⌝ }
+    ensures { λ r. ⌜ r ≡ roomIn (now (vals .entry)) j ⌝ }
+{
+    vals[3 * j + 1]
+}
+
+pub fn length_in(vals: &[u64], j: usize) -> u64
+    requires { ⌜ (j < 255) × (3 * j + 3 ≤ length (now vals)) ⌝ }
+    ensures { λ r. ⌜ r ≡ lengthIn (now (vals .entry)) j ⌝ }
+{
+    vals[3 * j + 2]
+}
 
 // A string of type t: within its room, and good over its length. As the default it has just its bytes.
 fn string_ok(element: bool, t: u64, room: u64, s: &[u8], start: usize, len: usize) -> bool
@@ -52,9 +74,9 @@ fn vals_in(vals: &[u64], encodings: &[u8], count: usize, u: usize, g: usize) -> 
     let mut t = 0;
     let mut size = g;
     while j < u {
-        let kind = vals[3 * j];
-        let room = vals[3 * j + 1];
-        let len = vals[3 * j + 2] as usize;
+        let kind = type_in(vals, j);
+        let room = room_in(vals, j);
+        let len = length_in(vals, j) as usize;
         let left = encodings.len() - t;
         if left < len {
             return Size::Bad;

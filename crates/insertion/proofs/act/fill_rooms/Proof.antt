@@ -5,6 +5,7 @@ use lib.ListN.{length}
 use Rattle.lists.specs.Lists.{over}
 use Rattle.entry.specs.Model.{rooms}
 use Rattle.insertion.specs.Given.{given, roomsIn, lengthsIn, roomIn, lengthIn}
+use Rattle.insertion.specs.Insert.{heldIn}
 use Rattle.insertion.proofs.GivenLaws.{rooms-more, lengths-more, rooms-laid, none-left, length-rooms, rooms-none, held-few}
 use native.Mathlib.Omega.{arith}
 use borrow.Author.Needs.{needs}
@@ -30,44 +31,24 @@ fits c =
       omega (arith, lengths-more (a .vals .now) (a .u) (k .loop .j) (c .loop-test .taken), k .loop .inv .3, s .pre .1 .encoded),
     )
 
+-- how many bytes of its room the value takes
+held-is : (c : tie.After-held-of Inv-loop μ-loop) → let k = c .before .before .before .before .before in c .held-of .result ≡ heldIn (start k .args .vals .now) (k .loop .j)
+held-is c = rw (c .before .type-in .ensures, c .before .before .length-in .ensures) at (c .held-of .ensures)
+
 loop-holds : tie.Need-loop-holds Inv-loop μ-loop
 loop-holds c =
     let a = c .before .before .before .args in
     let f : a .u - 0 ≡ a .u = omega arith in
     (omega arith, refl, rw f, rw f (omega arith), rw f)
 
-mul-room : tie.Need-mul-room Inv-loop μ-loop
-mul-room c = search needs
+room-in-requires : tie.Need-room-in-requires Inv-loop μ-loop
+room-in-requires c κs = search needs
 
-add-room : tie.Need-add-room Inv-loop μ-loop
-add-room c = search needs
+length-in-requires : tie.Need-length-in-requires Inv-loop μ-loop
+length-in-requires c κs = search needs
 
-mul-room-2 : tie.Need-mul-room-2 Inv-loop μ-loop
-mul-room-2 c = search needs
-
-shared-slice-read-room : tie.Need-shared-slice-read-room Inv-loop μ-loop
-shared-slice-read-room c = search needs
-
-mul-len : tie.Need-mul-len Inv-loop μ-loop
-mul-len c = search needs
-
-add-len : tie.Need-add-len Inv-loop μ-loop
-add-len c = search needs
-
-mul-len-2 : tie.Need-mul-len-2 Inv-loop μ-loop
-mul-len-2 c = search needs
-
-shared-slice-read-len : tie.Need-shared-slice-read-len Inv-loop μ-loop
-shared-slice-read-len c = search needs
-
-mul-held-of : tie.Need-mul-held-of Inv-loop μ-loop
-mul-held-of c = search needs
-
-mul-held-of-2 : tie.Need-mul-held-of-2 Inv-loop μ-loop
-mul-held-of-2 c = search needs
-
-shared-slice-read-held-of : tie.Need-shared-slice-read-held-of Inv-loop μ-loop
-shared-slice-read-held-of c = search needs
+type-in-requires : tie.Need-type-in-requires Inv-loop μ-loop
+type-in-requires c κs = search needs
 
 held-of-requires : tie.Need-held-of-requires Inv-loop μ-loop
 held-of-requires c κs = search needs
@@ -76,7 +57,9 @@ fill-room-requires : tie.Need-fill-room-requires Inv-loop μ-loop
 fill-room-requires c κs =
     let k = c .before .before .before .before .before in
     let w = start (k .before) .pre .1 .within (k .before .loop .j) (k .loop-test .taken) in
-    (omega (arith, fits k .0, k .before .loop .inv .1), omega (arith, fits k .1, held-few (start (k .before) .args .vals .now) (k .before .loop .j), c .before .held-of .ensures), omega (arith, w, c .before .held-of .ensures))
+    let r = c .before .before .before .before .room-in .ensures in
+    let n = held-is (c .before) in
+    (omega (arith, fits k .0, k .before .loop .inv .1, r), omega (arith, fits k .1, held-few (start (k .before) .args .vals .now) (k .before .loop .j), n), omega (arith, w, n, r))
 
 add-p : tie.Need-add-p Inv-loop μ-loop
 add-p c = omega (arith, fits (c .before .before .before .before .before .before .before .before) .0)
@@ -96,12 +79,12 @@ loop-again c =
     let l = k .before .loop in
     let a = start (k .before) .args in
     let h = k .loop-test .taken in
-    let n = c .before .before .before .before .held-of .ensures in (
+    let n = held-is (c .before .before .before .before) in (
       omega arith,
       omega arith,
       omega (arith, rooms-more (a .vals .now) (a .u) (l .j) h, l .inv .2),
       omega (arith, lengths-more (a .vals .now) (a .u) (l .j) h, l .inv .3),
-      l .inv .4 ∙ rooms-laid (a .vals .now) (a .encodings .now) (l .bytes) (a .u) (l .j) (l .p) (l .t) h (omega (arith, fits k .0, l .inv .1)) ∙ rw (c .before .before .fill-room .ensures, n),
+      l .inv .4 ∙ rooms-laid (a .vals .now) (a .encodings .now) (l .bytes) (a .u) (l .j) (l .p) (l .t) h (omega (arith, fits k .0, l .inv .1)) ∙ rw (c .before .before .fill-room .ensures, n, c .before .before .before .before .before .before .before .room-in .ensures, c .before .before .before .before .before .before .length-in .ensures),
     )
 
 same-length : tie.Need-same-length Inv-loop μ-loop
@@ -118,17 +101,9 @@ fill-rooms-spec =
     Inv-loop
     μ-loop
     loop-holds
-    mul-room
-    add-room
-    mul-room-2
-    shared-slice-read-room
-    mul-len
-    add-len
-    mul-len-2
-    shared-slice-read-len
-    mul-held-of
-    mul-held-of-2
-    shared-slice-read-held-of
+    room-in-requires
+    length-in-requires
+    type-in-requires
     held-of-requires
     fill-room-requires
     add-p

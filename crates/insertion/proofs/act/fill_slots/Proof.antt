@@ -31,29 +31,14 @@ loop-holds c =
     let f : a .u - 0 ≡ a .u = omega arith in
     (omega arith, refl, rw f, rw (f, add-zero))
 
-mul-room : tie.Need-mul-room Inv-loop μ-loop
-mul-room c = search needs
-
-add-room : tie.Need-add-room Inv-loop μ-loop
-add-room c = search needs
-
-mul-room-2 : tie.Need-mul-room-2 Inv-loop μ-loop
-mul-room-2 c = search needs
-
-shared-slice-read-room : tie.Need-shared-slice-read-room Inv-loop μ-loop
-shared-slice-read-room c = search needs
+room-in-requires : tie.Need-room-in-requires Inv-loop μ-loop
+room-in-requires c κs = search needs
 
 add-set-slot : tie.Need-add-set-slot Inv-loop μ-loop
 add-set-slot c = search needs
 
-mul-set-slot : tie.Need-mul-set-slot Inv-loop μ-loop
-mul-set-slot c = search needs
-
-mul-set-slot-2 : tie.Need-mul-set-slot-2 Inv-loop μ-loop
-mul-set-slot-2 c = search needs
-
-shared-slice-read-set-slot : tie.Need-shared-slice-read-set-slot Inv-loop μ-loop
-shared-slice-read-set-slot c = search needs
+type-in-requires : tie.Need-type-in-requires Inv-loop μ-loop
+type-in-requires c κs = search needs
 
 set-slot-requires : tie.Need-set-slot-requires Inv-loop μ-loop
 set-slot-requires c κs = search needs
@@ -75,7 +60,7 @@ loop-again c =
       omega arith,
       omega arith,
       omega (arith, rooms-more (a .vals .now) (a .u) (l .j) (k .loop-test .taken), l .inv .2),
-      l .inv .3 ∙ slots-more (a .vals .now) (l .slots) (a .v) (a .u) (l .j) (l .start) (omega arith) (omega arith) ∙ rw (c .before .before .set-slot .ensures),
+      l .inv .3 ∙ slots-more (a .vals .now) (l .slots) (a .v) (a .u) (l .j) (l .start) (omega arith) (omega arith) ∙ rw (c .before .before .set-slot .ensures, c .before .before .before .type-in .ensures, c .before .before .before .before .before .room-in .ensures),
     )
 
 same-length : tie.Need-same-length Inv-loop μ-loop
@@ -91,14 +76,9 @@ fill-slots-spec =
     Inv-loop
     μ-loop
     loop-holds
-    mul-room
-    add-room
-    mul-room-2
-    shared-slice-read-room
+    room-in-requires
     add-set-slot
-    mul-set-slot
-    mul-set-slot-2
-    shared-slice-read-set-slot
+    type-in-requires
     set-slot-requires
     add-start
     add-j

@@ -26,26 +26,11 @@ loop-holds c =
     let f : a .u - 0 ≡ a .u = omega arith in
     (omega arith, refl, rw f (omega arith), rw (f, add-zero))
 
-mul-len : tie.Need-mul-len Inv-loop μ-loop
-mul-len c = search needs
+length-in-requires : tie.Need-length-in-requires Inv-loop μ-loop
+length-in-requires c κs = search needs
 
-add-len : tie.Need-add-len Inv-loop μ-loop
-add-len c = search needs
-
-mul-len-2 : tie.Need-mul-len-2 Inv-loop μ-loop
-mul-len-2 c = search needs
-
-shared-slice-read-len : tie.Need-shared-slice-read-len Inv-loop μ-loop
-shared-slice-read-len c = search needs
-
-mul-word-in : tie.Need-mul-word-in Inv-loop μ-loop
-mul-word-in c = search needs
-
-mul-word-in-2 : tie.Need-mul-word-in-2 Inv-loop μ-loop
-mul-word-in-2 c = search needs
-
-shared-slice-read-word-in : tie.Need-shared-slice-read-word-in Inv-loop μ-loop
-shared-slice-read-word-in c = search needs
+type-in-requires : tie.Need-type-in-requires Inv-loop μ-loop
+type-in-requires c κs = search needs
 
 word-in-requires : tie.Need-word-in-requires Inv-loop μ-loop
 word-in-requires c κs =
@@ -53,7 +38,7 @@ word-in-requires c κs =
     let s = l .before .before .before .before in
     let v = s .pre .1 in
     let m = lengths-more (s .args .vals .now) (s .args .u) (l .loop .j) (c .before .before .loop-test .taken) in
-    (omega (arith, m, l .loop .inv .2, v .encoded), v .short (l .loop .j) (c .before .before .loop-test .taken))
+    (omega (arith, m, l .loop .inv .2, v .encoded, c .before .length-in .ensures), rw (c .type-in .ensures, c .before .length-in .ensures) (v .short (l .loop .j) (c .before .before .loop-test .taken)))
 
 add-words : tie.Need-add-words Inv-loop μ-loop
 add-words c = search needs
@@ -68,7 +53,7 @@ add-t : tie.Need-add-t Inv-loop μ-loop
 add-t c =
     let l = c .before .before .before .before in
     let s = l .before .before .before .before in
-    omega (arith, lengths-more (s .args .vals .now) (s .args .u) (l .loop .j) (c .before .before .before .loop-test .taken), l .loop .inv .2, s .pre .1 .encoded)
+    omega (arith, lengths-more (s .args .vals .now) (s .args .u) (l .loop .j) (c .before .before .before .loop-test .taken), l .loop .inv .2, s .pre .1 .encoded, c .before .before .length-in .ensures)
 
 add-j : tie.Need-add-j Inv-loop μ-loop
 add-j c = search needs
@@ -84,8 +69,8 @@ loop-again c =
     let h = c .before .before .before .loop-test .taken in (
       omega arith,
       simp length-set (l .loop .inv .1),
-      omega (arith, lengths-more (a .vals .now) (a .u) (l .loop .j) h, l .loop .inv .2),
-      l .loop .inv .3 ∙ rw (c .word-in .ensures) (words-more (a .vals .now) (a .encodings .now) (l .loop .words) (a .v) (a .u) (l .loop .j) (l .loop .t) h (omega (arith, l .loop .inv .1, s .pre .0))),
+      omega (arith, lengths-more (a .vals .now) (a .u) (l .loop .j) h, l .loop .inv .2, c .before .before .length-in .ensures),
+      l .loop .inv .3 ∙ rw (c .word-in .ensures, c .before .type-in .ensures, c .before .before .length-in .ensures) (words-more (a .vals .now) (a .encodings .now) (l .loop .words) (a .v) (a .u) (l .loop .j) (l .loop .t) h (omega (arith, l .loop .inv .1, s .pre .0))),
     )
 
 same-length : tie.Need-same-length Inv-loop μ-loop
@@ -101,13 +86,8 @@ fill-words-spec =
     Inv-loop
     μ-loop
     loop-holds
-    mul-len
-    add-len
-    mul-len-2
-    shared-slice-read-len
-    mul-word-in
-    mul-word-in-2
-    shared-slice-read-word-in
+    length-in-requires
+    type-in-requires
     word-in-requires
     add-words
     mul-words

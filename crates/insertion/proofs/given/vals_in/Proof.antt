@@ -2,7 +2,7 @@
 use mathlib.Core.Path.{_≡_, sym, _∙_}
 use Prim.Native.Nat.{_≤_, _-_, _+_, _*_}
 use borrow.Author.Tests.{not-true, not-false, eq-eqb, ne-eqb, lt-leb, le-leb}
-use mathlib.Core.Bool.{cond, _&&_}
+use mathlib.Core.Bool.{true, cond, _&&_}
 use lib.Dec.{leb, ltb}
 use lib.ListN.{length, take, drop}
 use Rattle.insertion.specs.declared.Size.the-variants as sz
@@ -27,56 +27,41 @@ step c =
     let l = c .before .loop in
     l .inv .3 ∙ vals-step (a .vals .now) (a .encodings .now) (a .count) (a .u) (l .j) (l .t) (l .size) (c .loop-test .taken)
 
+-- what the tests before and at the value say
+known : (c : tie.After-value-ok Inv-loop μ-loop) → let k = c .before .before .before .before .before .before in let a = k .before .before .before .args in let l = k .loop in
+    c .value-ok .result ≡ valueOk (ltb (l .j) (a .count)) (typeIn (a .vals .now) (l .j)) (roomIn (a .vals .now) (l .j)) (take (lengthIn (a .vals .now) (l .j)) (drop (l .t) (a .encodings .now)))
+known c = rw (c .before .before .before .before .type-in .ensures, c .before .before .before .room-in .ensures, c .before .before .length-in .ensures) at (c .value-ok .ensures)
+
+within : (c : tie.Else1 Inv-loop μ-loop) → let k = c .before .before .before .before .before in let a = k .before .before .before .args in
+    leb (lengthIn (a .vals .now) (k .loop .j)) (length (a .encodings .now) - k .loop .t) ≡ true
+within c = le-leb _ _ (rw (c .before .length-in .ensures) at (c .if1 .left))
+
 loop-holds : tie.Need-loop-holds Inv-loop μ-loop
 loop-holds c =
     let a = c .before .before .args in
     let e : a .u - 0 ≡ a .u = omega arith in
     (omega arith, omega arith, omega (arith, c .before .before .pre), rw e)
 
-mul-kind : tie.Need-mul-kind Inv-loop μ-loop
-mul-kind c = search needs
+type-in-requires : tie.Need-type-in-requires Inv-loop μ-loop
+type-in-requires c κs = search needs
 
-mul-kind-2 : tie.Need-mul-kind-2 Inv-loop μ-loop
-mul-kind-2 c = search needs
+room-in-requires : tie.Need-room-in-requires Inv-loop μ-loop
+room-in-requires c κs = search needs
 
-shared-slice-read-kind : tie.Need-shared-slice-read-kind Inv-loop μ-loop
-shared-slice-read-kind c = search needs
-
-mul-room : tie.Need-mul-room Inv-loop μ-loop
-mul-room c = search needs
-
-add-room : tie.Need-add-room Inv-loop μ-loop
-add-room c = search needs
-
-mul-room-2 : tie.Need-mul-room-2 Inv-loop μ-loop
-mul-room-2 c = search needs
-
-shared-slice-read-room : tie.Need-shared-slice-read-room Inv-loop μ-loop
-shared-slice-read-room c = search needs
-
-mul-len : tie.Need-mul-len Inv-loop μ-loop
-mul-len c = search needs
-
-add-len : tie.Need-add-len Inv-loop μ-loop
-add-len c = search needs
-
-mul-len-2 : tie.Need-mul-len-2 Inv-loop μ-loop
-mul-len-2 c = search needs
-
-shared-slice-read-len : tie.Need-shared-slice-read-len Inv-loop μ-loop
-shared-slice-read-len c = search needs
+length-in-requires : tie.Need-length-in-requires Inv-loop μ-loop
+length-in-requires c κs = search needs
 
 sub-left : tie.Need-sub-left Inv-loop μ-loop
 sub-left c = search needs
 
 returns : tie.Need-returns Inv-loop μ-loop
-returns c = sym (step (c .before .before .before .before) ∙ simp (lt-leb _ _ (c .if1 .taken)))
+returns c = sym (step (c .before .before .before .before) ∙ simp (lt-leb _ _ (rw (c .before .length-in .ensures) at (c .if1 .taken))))
 
 value-ok-requires : tie.Need-value-ok-requires Inv-loop μ-loop
 value-ok-requires c κs = search needs
 
 returns-2 : tie.Need-returns-2 Inv-loop μ-loop
-returns-2 c = sym (step (c .before .before .before .before .before .before) ∙ simp (le-leb _ _ (c .before .before .if1 .left), sym (c .before .value-ok .ensures) ∙ not-true _ (c .if2 .taken)))
+returns-2 c = sym (step (c .before .before .before .before .before .before) ∙ simp (within (c .before .before), sym (known (c .before)) ∙ not-true _ (c .if2 .taken)))
 
 add-t : tie.Need-add-t Inv-loop μ-loop
 add-t c = omega (arith, c .before .before .if1 .left, c .before .before .before .before .before .before .before .loop .inv .1)
@@ -92,8 +77,15 @@ loop-less c = search needs
 
 loop-again : tie.Need-loop-again Inv-loop μ-loop
 loop-again c =
-    let v = sym (c .before .value-ok .ensures) ∙ not-false _ (c .if2 .left) in
-    (omega arith, omega (arith, c .before .before .if1 .left, c .before .before .before .before .before .before .before .loop .inv .1), omega (arith, c .before .before .before .before .before .before .before .loop .inv .2, value-room _ _ _ _ v), step (c .before .before .before .before .before .before) ∙ simp (le-leb _ _ (c .before .before .if1 .left), v))
+    let k = c .before .before .before .before .before .before in
+    let v = sym (known (c .before)) ∙ not-false _ (c .if2 .left) in
+    let n = c .before .before .before .length-in .ensures in
+    let r = c .before .before .before .before .room-in .ensures in (
+      omega arith,
+      omega (arith, c .before .before .if1 .left, k .before .loop .inv .1),
+      omega (arith, k .before .loop .inv .2, value-room _ _ _ _ v, r),
+      rw (n, r) (step k ∙ simp (within (c .before .before), v)),
+    )
 
 returns-3 : tie.Need-returns-3 Inv-loop μ-loop
 returns-3 c = sym (c .before .before .loop .inv .3 ∙ vals-end _ _ _ _ _ _ _ (omega arith) ∙ simp (eq-eqb _ _ (c .if3 .taken)))
@@ -108,17 +100,9 @@ vals-in-spec =
     Inv-loop
     μ-loop
     loop-holds
-    mul-kind
-    mul-kind-2
-    shared-slice-read-kind
-    mul-room
-    add-room
-    mul-room-2
-    shared-slice-read-room
-    mul-len
-    add-len
-    mul-len-2
-    shared-slice-read-len
+    type-in-requires
+    room-in-requires
+    length-in-requires
     sub-left
     returns
     value-ok-requires
