@@ -1,19 +1,17 @@
 -- A stored value's encoding: decoding it gives the value back, and putting it changes nothing.
 -- Assumes nothing.
-use mathlib.Core.Path.{_≡_, refl, sym, ap, ap₂, _∙_}
-use mathlib.Core.Bool.{Bool, true, false, _&&_}
+use mathlib.Core.Path.{_≡_, refl, sym, ap, _∙_}
+use mathlib.Core.Bool.{Bool, true, false}
 use mathlib.Core.List.{List}
 use Prim.Native.Nat.{ℕ, _+_, _*_, _^_, _<_, _≤_}
 use native.Mathlib.Omega.{arith}
 use borrow.Author.Tests.{eq-eqb, le-ltb, ltb-true}
-use lib.Dec.{eqb}
-use lib.ListN.{length, take, drop, getD, set, length-drop}
+use lib.ListN.{length, take, drop, getD, length-drop}
 use lib.Seq.{length-take-le, take-all, set-getD}
-use Rattle.lists.specs.Lists.{over}
-use Rattle.lists.specs.Numbers.{number, bytesOf}
+use Rattle.lists.specs.Numbers.{bytesOf}
 use Rattle.lists.proofs.ListLaws.{over-same}
 use Rattle.lists.proofs.NumberLaws.{length-bytesOf, number-bytesOf}
-use Rattle.value.specs.Codec.{isText, sizeOf, wordAt, decodeOf, sayable, encoding}
+use Rattle.value.specs.Codec.{isText, sizeOf, wordAt, decodeOf, sayable}
 use Rattle.value.specs.Meaning.{reading, typeOf, wordOf}
 use Rattle.value.specs.declared.ObjectValue.{ObjectValue}
 use Rattle.value.specs.declared.Decoded.the-variants.{Value}

@@ -1,20 +1,18 @@
 -- What a well-formed dictionary says of each of its rows and of each of its values.
 -- Assumes nothing.
-use mathlib.Core.Path.{_≡_, refl, sym, ap, _∙_, subst}
-use mathlib.Core.Bool.{Bool, true, false, cond, not, _&&_, _||_}
-use Prim.Native.Nat.{ℕ, zero, suc, _+_, _-_, _*_, _<_, _≤_}
+use mathlib.Core.Path.{_≡_}
+use mathlib.Core.Bool.{true}
+use Prim.Native.Nat.{ℕ, zero, suc, _+_, _-_, _<_, _≤_}
 use native.Mathlib.Nat.{add-zero, zero-add}
 use native.Mathlib.Omega.{arith}
-use borrow.Author.Tests.{leb-true, ltb-true, eqb-true, lt-ltb}
-use lib.Dec.{eqb, leb, ltb}
-use lib.ListN.{length, take, drop, getD}
+use lib.ListN.{take, drop, getD}
 use Rattle.text.specs.Machine.{judge}
 use Rattle.entry.specs.Table.{Dict, numberOf, valuesOf, usedOf, indexAt, kindAt, accessAt, countAt, firstAt, nameAt, nameLenAt, defaultAt, typeAt, startAt, roomAt}
-use Rattle.entry.specs.Rules.{isGood, valOk, heldOk, headOk}
+use Rattle.entry.specs.Rules.{isGood, heldOk, headOk}
 use Rattle.entry.specs.Judge.{slotOk, slotsFrom, usedAt, rowOk, rowFits, rowsFrom, headerOk, wellFormed}
 use Rattle.entry.specs.declared.Sum.the-variants as sum
 use Rattle.entry.specs.declared.Walk.the-variants as walk
-use Rattle.entry.proofs.JudgeLaws.{and-true, RowOk, RowFits, by-judge, by-slot, by-row, slot-ok, row-ok, row-fits}
+use Rattle.entry.proofs.JudgeLaws.{RowOk, RowFits, by-judge, by-slot, by-row, slot-ok, row-ok, row-fits}
 use Rattle.entry.proofs.WalkLaws.{slots-upto}
 
 -- a value where n elements are left

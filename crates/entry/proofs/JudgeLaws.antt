@@ -2,20 +2,20 @@
 -- Assumes nothing.
 use mathlib.Core.Path.{_≡_, refl, sym, ap, _∙_, subst}
 use mathlib.Core.Bool.{Bool, true, false, cond, not, _&&_, _||_}
-use mathlib.Core.List.{List, [], _∷_, _++_, append-nil, append-assoc}
+use mathlib.Core.List.{List, [], _∷_, _++_, append-assoc}
 use Prim.Native.Nat.{ℕ, zero, suc, _+_, _-_, _*_, _<_, _≤_}
 use native.Mathlib.Nat.{add-zero, zero-add}
 use native.Mathlib.Omega.{arith}
-use borrow.Author.Tests.{eqb-true, leb-true, ltb-true, eq-eqb, le-leb, lt-ltb, lt-leb}
+use borrow.Author.Tests.{eqb-true, leb-true, ltb-true, eq-eqb, le-leb}
 use lib.Dec.{eqb, leb, ltb, T}
 use lib.ListN.{length, take, drop, getD, length-append, length-drop, take-append-drop}
 use lib.Seq.{drop-cons, drop-drop, take-take, length-take-le}
 use Rattle.text.specs.Machine.{judge}
 use Rattle.lists.specs.Lists.{over}
-use Rattle.entry.specs.Model.{Val, Obj, rooms, wordsOf, slotsOf, used, size, bytesOf, row, rowsOf, header, allObjects, allSlots, allWords, allBytes}
+use Rattle.entry.specs.Model.{rooms, wordsOf, slotsOf, used, size, bytesOf, row, rowsOf, header, allObjects, allSlots, allWords, allBytes}
 use Rattle.value.specs.Codec.{isText, fitsType, takes, textWord, wordAt}
-use Rattle.entry.specs.Table.{Dict, Lies, modelOf, valAt, valsFrom, objAt, objsFrom, numberOf, valuesOf, usedOf, indexAt, kindAt, accessAt, countAt, firstAt, nameAt, nameLenAt, defaultAt, typeAt, startAt, roomAt}
-use Rattle.entry.specs.Rules.{isGood, wordOk, valOk, heldOk, valsOk, headOk, objOk, objsOk, Few}
+use Rattle.entry.specs.Table.{Dict, modelOf, valsFrom, objAt, objsFrom, numberOf, valuesOf, usedOf, indexAt, kindAt, accessAt, countAt, firstAt, nameAt, nameLenAt, defaultAt, typeAt, startAt, roomAt}
+use Rattle.entry.specs.Rules.{isGood, wordOk, valOk, heldOk, valsOk, headOk, objOk, objsOk}
 use Rattle.entry.specs.Judge.{Sound, slotOk, slotsFrom, usedAt, rowReserved, rowOk, rowFits, andThen, rowsFrom, reserved, headerOk, wholeAt, wellFormed}
 use Rattle.entry.specs.declared.Sum.{Sum}
 use Rattle.entry.specs.declared.Sum.the-variants as sum

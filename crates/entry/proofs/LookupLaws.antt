@@ -7,11 +7,10 @@ use native.Mathlib.Nat.{add-zero}
 use native.Mathlib.Omega.{arith}
 use borrow.Author.Tests.{eqb-true, eqb-false, leb-true}
 use lib.Dec.{eqb, leb}
-use lib.ListN.{length}
-use Rattle.entry.specs.Table.{Dict, modelOf, valsFrom, objAt, numberOf, kindAt, countAt, firstAt, defaultAt}
+use Rattle.entry.specs.Table.{Dict, modelOf, objAt, numberOf, kindAt, countAt, firstAt}
 use Rattle.entry.specs.Rules.{count}
 use Rattle.entry.specs.Judge.{usedAt, wellFormed}
-use Rattle.entry.specs.Find.{findRow, subAt, onRow, placeOf, objectOf, objectIn, nth, Named, no-object, no-sub, counts, holds, heldAs, subOf, onObject, namedOf, namedAt}
+use Rattle.entry.specs.Find.{findRow, subAt, onRow, placeOf, objectOf, objectIn, nth, no-sub, counts, heldAs, subOf, onObject, namedOf, namedAt}
 use Rattle.entry.specs.declared.Found.{Found}
 use Rattle.entry.specs.declared.Found.the-variants.{At, Nothing}
 use Rattle.entry.specs.declared.Place.the-variants.{NoSub, Count, Value}

@@ -2,10 +2,10 @@
 -- Assumes nothing.
 use Prim.Native.Nat.{ℕ, zero, suc, _+_, _*_, _-_, _≤_}
 use mathlib.Core.Path.{_≡_}
-use mathlib.Core.Bool.{Bool, true, false, cond, not, _&&_, _||_}
+use mathlib.Core.Bool.{Bool, true, false, cond, _&&_}
 use mathlib.Core.List.{List}
 use lib.ListN.{length, take, drop, getD}
-use lib.Dec.{eqb, leb, ltb}
+use lib.Dec.{eqb, leb}
 use Rattle.text.specs.Machine.{judge}
 use Rattle.entry.specs.Table.{Dict, Lies, modelOf, numberOf, valuesOf, usedOf, rowPlace, slotPlace, indexAt, kindAt, accessAt, countAt, firstAt, nameAt, nameLenAt, defaultAt, typeAt, startAt, roomAt}
 use Rattle.entry.specs.Rules.{isGood, heldOk, headOk, objsOk, Few}

@@ -1,6 +1,6 @@
 -- Rows and slots that change as objects come and go: what counts the values and bytes before them, and the totals.
 -- Assumes nothing.
-use Prim.Native.Nat.{ℕ, _+_, _-_, _*_}
+use Prim.Native.Nat.{ℕ, _+_, _*_}
 use mathlib.Core.List.{List}
 use lib.ListN.{set}
 use Rattle.lists.specs.Lists.{grown, fallen}

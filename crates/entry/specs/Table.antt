@@ -1,10 +1,10 @@
 -- The four lent slices: their columns, the objects that they hold, and what it means that they hold them in canonical layout.
 -- Assumes nothing.
-use Prim.Native.Nat.{ℕ, zero, suc, _+_, _-_, _*_}
+use Prim.Native.Nat.{ℕ, zero, suc, _+_, _*_}
 use mathlib.Core.Path.{_≡_}
-use mathlib.Core.Bool.{Bool, true, false, cond}
-use mathlib.Core.List.{List, [], _∷_, _++_}
-use lib.ListN.{length, take, drop, getD}
+use mathlib.Core.Bool.{cond}
+use mathlib.Core.List.{List, [], _∷_}
+use lib.ListN.{take, drop, getD}
 use lib.Dec.{ltb}
 use Rattle.lists.specs.Lists.{over}
 use Rattle.entry.specs.Model.{Val, Obj, allObjects, allSlots, allWords, allBytes}

@@ -1,8 +1,8 @@
 // Whether four lent slices are a dictionary: one pass over the rows, with running totals.
 ghost use mathlib.Core.Path.{_≡_};
 ghost use mathlib.Core.Bool.{true, false};
-ghost use Prim.Native.Nat.{_+_, _-_, _*_, _≤_, _<_};
-ghost use lib.ListN.{length, getD, take, drop};
+ghost use Prim.Native.Nat.{_+_, _-_, _≤_, _<_};
+ghost use lib.ListN.{length, take, drop};
 ghost use Rattle.text.specs.Machine.{judge};
 ghost use Rattle.value.specs.Codec.{isText, takes, textWord};
 ghost use Rattle.entry.specs.Table.{numberOf, valuesOf, usedOf, rowEnd, slotPlace, slotEnd, countAt, defaultAt, dict};

@@ -1,15 +1,15 @@
 -- Laws on parts of a list that are moved up and down, and on elements that grow and fall.
 -- Assumes nothing.
 use mathlib.Core.Path.{_≡_, refl, sym, ap, _∙_}
-use mathlib.Core.List.{List, [], _∷_, _++_, append-nil, append-assoc}
+use mathlib.Core.List.{List, [], _∷_, _++_, append-assoc}
 use Prim.Native.Nat.{ℕ, zero, suc, _+_, _-_, _*_, _<_, _≤_}
-use native.Mathlib.Nat.{mul-suc, mul-le-mul-left, add-zero, add-suc, zero-add, suc-add}
+use native.Mathlib.Nat.{mul-suc, mul-le-mul-left, zero-add, suc-add}
 use native.Mathlib.Numerals.{add-one}
 use native.Mathlib.Omega.{arith}
-use lib.ListN.{length, take, drop, getD, set, replicate, length-append, length-take, length-drop, length-set, drop-of-length-le, List·getD-append, length-replicate}
-use lib.Seq.{drop-cons, getD-take, length-take-le, take-suc, take-at, drop-at, set-at, drop-drop, slice, slice-cons, slice-empty, length-slice, take-append-le, drop-append-le, getD-set-other, getD-append-add, getD-drop, getD-at, take-suc-set, drop-set-lt, take-take, drop-append-add, take-append-add}
+use lib.ListN.{length, take, drop, getD, set, replicate, length-append, length-set, length-replicate}
+use lib.Seq.{length-take-le, take-suc, take-at, drop-at, set-at, drop-drop, slice, slice-cons, slice-empty, length-slice, take-append-le, drop-append-le, getD-append-add, take-take, drop-append-add}
 use Rattle.lists.specs.Lists.{over, grown, fallen, spliced}
-use Rattle.lists.proofs.ListLaws.{length-over, over-none, getD-over-below, getD-over-above, over-snoc}
+use Rattle.lists.proofs.ListLaws.{over-none, getD-over-below, getD-over-above, over-snoc}
 
 pub over-cons : (xs : List ℕ) (a : ℕ) (ys : List ℕ) (y : ℕ) → a < length xs → set (over xs (suc a) ys) a y ≡ over xs a (y ∷ ys)
 unfolding over

@@ -3,7 +3,7 @@
 use mathlib.Core.Path.{_≡_, refl, sym, ap, _∙_}
 use mathlib.Core.Bool.{Bool, true, false, cond}
 use mathlib.Core.List.{List, [], _∷_}
-use Prim.Native.Nat.{ℕ, suc, _+_, _-_, _*_, _<_, _≤_}
+use Prim.Native.Nat.{ℕ, suc, _+_, _-_, _<_, _≤_}
 use native.Mathlib.Omega.{arith}
 use lib.Dec.{eqb}
 use lib.ListN.{length, getD, set, length-set}
@@ -15,9 +15,9 @@ use Rattle.entry.specs.Find.{findRow}
 use Rattle.entry.specs.Judge.{wellFormed}
 use Rattle.entry.specs.declared.Found.{Found}
 use Rattle.entry.specs.declared.Found.the-variants.{At, Nothing}
-use Rattle.entry.proofs.FactLaws.{RowFacts, row-facts}
+use Rattle.entry.proofs.FactLaws.{row-facts}
 use Rattle.od.specs.Nodes.{configured, nodesFrom, elementsOn, elementsAt, Elements}
-use Rattle.od.proofs.CounterLaws.{RowLies, row-lies}
+use Rattle.od.proofs.CounterLaws.{row-lies}
 
 -- what is found from element k of n on
 abbrev pub rest : List ℕ → List ℕ → ℕ → ℕ → ℕ → List ℕ

@@ -1,11 +1,10 @@
-use mathlib.Core.Path.{_≡_, refl, sym, ap, _∙_}
+use mathlib.Core.Path.{_≡_, refl}
 use native.Mathlib.Omega.{arith}
 use borrow.Author.Needs.{needs}
-use Prim.Native.Nat.{ℕ, _≤_, _<_, _-_, _+_}
+use Prim.Native.Nat.{_≤_, _-_, _+_}
 use lib.ListN.{length, length-set}
 use lib.Seq.{slice}
 use Rattle.lists.specs.Lists.{over}
-use Rattle.lists.proofs.ListLaws.{length-over}
 use Rattle.lists.proofs.SpliceLaws.{move-none, up-more}
 use Rattle.lists.proofs.move_up.Statement.{statement}
 use Rattle.lists.proofs.move_up.Tie as tie

@@ -1,6 +1,6 @@
 -- `entry::judge::header_ok` meets its contract: each branch is a case of `headerOk`. Assumes nothing.
 use borrow.Author.Tests.{le-leb, lt-leb}
-use mathlib.Core.Path.{_≡_, sym, _∙_}
+use mathlib.Core.Path.{sym}
 use Rattle.entry.specs.Judge.{headerOk}
 use Rattle.entry.proofs.WalkLaws.{header-short, header-rest}
 use borrow.Author.Needs.{needs}

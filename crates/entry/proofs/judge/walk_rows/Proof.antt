@@ -1,6 +1,6 @@
 -- `entry::judge::walk_rows` meets its contract. The loop's invariant: the walk over all rows gives what the walk from here gives. Assumes nothing.
-use mathlib.Core.Path.{_≡_, refl, sym, ap, _∙_}
-use mathlib.Core.Bool.{true, false}
+use mathlib.Core.Path.{_≡_, sym, _∙_}
+use mathlib.Core.Bool.{true}
 use Prim.Native.Nat.{_≤_, _<_, _-_, _+_, _*_}
 use lib.ListN.{length}
 use borrow.Author.Tests.{not-true, not-false}

@@ -6,7 +6,6 @@ use Prim.Native.Nat.{_-_, _+_, _*_}
 use lib.ListN.{length}
 use Rattle.lists.specs.Lists.{grown}
 use Rattle.lists.proofs.SpliceLaws.{fill-gap, length-grown}
-use borrow.Author.Needs.{needs}
 use Rattle.entry.proofs.rows.insert_row.Statement.{statement}
 use Rattle.entry.proofs.rows.insert_row.Tie as tie
 

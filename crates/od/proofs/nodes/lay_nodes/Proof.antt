@@ -7,7 +7,7 @@ use Prim.Native.Nat.{_-_, _<_}
 use denote.Ref.{now}
 use lib.ListN.{length}
 use Rattle.lists.specs.Lists.{over}
-use Rattle.lists.proofs.ListLaws.{over-none, over-first}
+use Rattle.lists.proofs.ListLaws.{over-none}
 use Rattle.od.proofs.NodeLaws.{Laid, laid-yes, laid-no, walked-start, walked-free, rest-end, rest-all}
 use native.Mathlib.Omega.{arith}
 use borrow.Author.Needs.{needs}
