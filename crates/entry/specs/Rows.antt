@@ -1,7 +1,7 @@
 -- Rows and slots that change as objects come and go: what counts the values and bytes before them, and the totals.
 -- Assumes nothing.
 use Prim.Native.Nat.{ℕ, _+_, _*_}
-use mathlib.Core.List.{List}
+use mathlib.Core.List.{List, [], _∷_}
 use lib.ListN.{set}
 use Rattle.lists.specs.Lists.{grown, fallen}
 use Rattle.entry.specs.Table.{firstPlace, namePlace, slotPlace, startPlace}
@@ -19,6 +19,11 @@ startsGrown v k g slots = grown 3 g k (startPlace v) slots
 
 abbrev pub startsFallen : ℕ → ℕ → ℕ → List ℕ → List ℕ
 startsFallen v k g slots = fallen 3 g k (startPlace v) slots
+
+-- a row's words
+abbrev pub rowOf : ℕ → ℕ → ℕ → ℕ → ℕ → ℕ → ℕ → ℕ → List ℕ
+rowOf index kind access count first name len default =
+    index ∷ kind ∷ access ∷ count ∷ first ∷ name ∷ len ∷ default ∷ 0 ∷ 0 ∷ 0 ∷ 0 ∷ []
 
 -- the header's totals, and slot p, written
 abbrev pub totalled : ℕ → ℕ → ℕ → List ℕ → List ℕ

@@ -1,13 +1,24 @@
 // Rows and slots that are written, put in and taken out.
 ghost use mathlib.Core.Path.{_≡_};
+ghost use mathlib.Core.List.{[]};
 ghost use Prim.Native.Nat.{ℕ, _+_, _-_, _*_, _^_, _≤_, _<_};
 ghost use lib.ListN.{length, getD};
 ghost use lib.Seq.{slice};
 ghost use Rattle.lists.specs.Lists.{over, grown, spliced};
+ghost use Rattle.entry.specs.Model.{header};
 ghost use Rattle.entry.specs.Table.{valuesOf, usedOf, rowPlace, rowEnd, firstPlace, namePlace, slotPlace, slotEnd, startPlace};
-ghost use Rattle.entry.specs.Rows.{rowsGrown, rowsFallen, startsGrown, startsFallen, totalled, slotted};
+ghost use Rattle.entry.specs.Rows.{rowOf, rowsGrown, rowsFallen, startsGrown, startsFallen, totalled, slotted};
 use crate::columns::used_of;
 use crate::columns::values_of;
+
+// The header of a dictionary without objects.
+pub fn lay_header(objects: &mut [u64])
+    requires { ⌜ rowPlace 0 ≤ length (now objects) ⌝ }
+    ensures { λ _. ⌜ now (objects .exit) ≡ over (now (objects .entry)) 0 (header []) ⌝ }
+{
+    let words = [0, 0, 0, 1, 0, 0, 0, 0, 0, 0, 0, 0];
+    lists::lay_words(objects, 0, &words);
+}
 
 // The header's totals.
 pub fn set_totals(objects: &mut [u64], number: u64, values: u64, used: u64)
@@ -17,6 +28,35 @@ pub fn set_totals(objects: &mut [u64], number: u64, values: u64, used: u64)
     objects[0] = number;
     objects[1] = values;
     objects[2] = used;
+}
+
+// A row's words.
+pub fn row_of(
+    index: u64,
+    kind: u64,
+    access: u64,
+    count: u64,
+    first: u64,
+    name: u64,
+    len: u64,
+    default: u64,
+) -> [u64; 12]
+    ensures { λ r. ⌜ r ≡ rowOf index kind access count first name len default ⌝ }
+{
+    [
+        index,
+        kind,
+        access,
+        count,
+        first,
+        name,
+        len,
+        default,
+        0,
+        0,
+        0,
+        0,
+    ]
 }
 
 // Slot p.

@@ -10,6 +10,7 @@ use Rattle.answers.specs.declared.Refusal.the-variants.{Malformed, BadValue, Oc
 use Rattle.value.specs.Codec.{isText}
 use Rattle.entry.specs.Model.{Obj, used, size, insertAt}
 use Rattle.entry.specs.Table.{Dict, indexAt, modelOf, laid, numberOf, valuesOf, usedOf, rowEnd, slotPlace}
+use Rattle.entry.specs.Rows.{rowOf}
 use Rattle.entry.specs.Judge.{wellFormed}
 use Rattle.insertion.specs.declared.Head.{Head}
 use Rattle.insertion.specs.declared.Inserted.{Inserted}
@@ -65,7 +66,7 @@ placeFrom objects x (suc k) i = cond (ltb (indexAt objects i) x) (placeFrom obje
 
 -- its row
 abbrev pub rowIn : Head → ℕ → ℕ → ℕ → ℕ → List ℕ
-rowIn h v b len u = h .index ∷ h .kind ∷ h .access ∷ (u - h .default) ∷ v ∷ b ∷ len ∷ h .default ∷ 0 ∷ 0 ∷ 0 ∷ 0 ∷ []
+rowIn h v b len u = rowOf (h .index) (h .kind) (h .access) (u - h .default) v b len (h .default)
 
 -- there is room for one object more, of u values and g bytes
 pub record Room (objects slots words bytes : List ℕ) (i u g : ℕ) : Type 0 where

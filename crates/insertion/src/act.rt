@@ -151,7 +151,7 @@ fn insert_object(
 {
     let m = entry::values_of(objects);
     let used = entry::used_of(objects);
-    let row = [
+    let row = entry::row_of(
         head.index as u64,
         head.kind,
         head.access,
@@ -160,11 +160,7 @@ fn insert_object(
         b as u64,
         len as u64,
         head.default,
-        0,
-        0,
-        0,
-        0,
-    ];
+    );
     entry::insert_row(objects, i, n, &row, u as u64, g as u64);
     entry::set_totals(objects, (n + 1) as u64, m + u as u64, used + g as u64);
 }

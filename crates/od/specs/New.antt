@@ -7,6 +7,7 @@ use lib.ListN.{length}
 use Rattle.lists.specs.Lists.{over}
 use Rattle.answers.specs.declared.Refusal.the-variants.{Full}
 use Rattle.entry.specs.Model.{header}
+use Rattle.entry.specs.Table.{rowPlace}
 use Rattle.od.specs.declared.Answer.{Answer}
 use Rattle.od.specs.declared.Answer.the-variants.{Done, Refused}
 
@@ -20,4 +21,4 @@ made a os = record { answer = a; objects = os }
 
 -- the header of no object; where the rows cannot hold it: Full
 abbrev pub newOf : List ℕ → Made
-newOf objects = cond (ltb (length objects) 12) (made (Refused Full) objects) (made Done (over objects 0 (header [])))
+newOf objects = cond (ltb (length objects) (rowPlace 0)) (made (Refused Full) objects) (made Done (over objects 0 (header [])))

@@ -8,10 +8,10 @@ use answers::Refusal;
 pub fn new(objects: &mut [u64]) -> Answer
     ensures { λ r. ⌜ made r (now (objects .exit)) ≡ newOf (now (objects .entry)) ⌝ }
 {
-    if objects.len() < 12 {
+    let header = entry::row(0);
+    if objects.len() < header {
         return Answer::Refused(Refusal::Full);
     }
-    let header = [0, 0, 0, 1, 0, 0, 0, 0, 0, 0, 0, 0];
-    lists::lay_words(objects, 0, &header);
+    entry::lay_header(objects);
     Answer::Done
 }

@@ -10,11 +10,14 @@ values-of-requires c κs = search needs
 used-of-requires : tie.Need-used-of-requires
 used-of-requires c κs = search needs
 
-cast-insert-row : tie.Need-cast-insert-row
-cast-insert-row c = search needs
+cast-row-of : tie.Need-cast-row-of
+cast-row-of c = search needs
 
-sub-set-totals : tie.Need-sub-set-totals
-sub-set-totals c = search needs
+sub-row-of : tie.Need-sub-row-of
+sub-row-of c = search needs
+
+row-of-requires : tie.Need-row-of-requires
+row-of-requires c κs = search needs
 
 insert-row-requires : tie.Need-insert-row-requires
 insert-row-requires c κs = search needs
@@ -35,7 +38,11 @@ same-length : tie.Need-same-length
 same-length c = search needs
 
 returns : tie.Need-returns
-returns c = c .before .before .set-totals .ensures ∙ rw (c .before .before .before .before .before .before .insert-row .ensures, c .before .before .before .before .before .before .before .before .before .before .before .used-of .ensures, c .before .before .before .before .before .before .before .before .before .before .before .before .before .values-of .ensures)
+returns c =
+    let r = c .before .before .before .before .before .before in
+    let w = r .before .before .before in
+    c .before .before .set-totals .ensures
+    ∙ rw (r .insert-row .ensures, w .row-of .ensures, w .before .before .before .used-of .ensures, w .before .before .before .before .before .values-of .ensures)
 
 pub insert-object-spec : {M : Type 1} → statement M
 insert-object-spec =
@@ -43,8 +50,9 @@ insert-object-spec =
     (tie.spec
     values-of-requires
     used-of-requires
-    cast-insert-row
-    sub-set-totals
+    cast-row-of
+    sub-row-of
+    row-of-requires
     insert-row-requires
     add-set-totals
     add-set-totals-2
