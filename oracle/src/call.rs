@@ -33,6 +33,8 @@ pub struct Call {
 #[derive(PartialEq, Eq)]
 pub struct Outcome {
     pub answer: u64,
+    /// Whether memory was touched that no call may touch.
+    pub touched: bool,
     pub numbers: Vec<u64>,
     pub out: Vec<u8>,
 }
@@ -66,6 +68,7 @@ impl Call {
     pub fn lent(&self) -> Outcome {
         Outcome {
             answer: 0,
+            touched: false,
             numbers: (0..self.room + BEHIND).map(number_fill).collect(),
             out: (0..self.out + BEHIND).map(byte_fill).collect(),
         }

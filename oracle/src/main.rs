@@ -1,6 +1,9 @@
-//! Compares the port with the unchanged Rust. Arguments: the seed, the port's program.
+//! Compares the port with the unchanged Rust. Arguments: the seed, the port's
+//! program and, where only one part is to be run, that part: codec, dictionary
+//! or bench, which times calls and compares nothing.
 
 mod call;
+mod dictionary;
 mod inputs;
 mod mapping;
 mod original;
@@ -11,6 +14,8 @@ mod shrink;
 mod values;
 mod words;
 
+use port::Port;
+use random::Random;
 use std::process::ExitCode;
 
 fn main() -> ExitCode {
@@ -20,15 +25,51 @@ fn main() -> ExitCode {
         return ExitCode::from(2);
     };
     let program = arguments.next().unwrap_or_default();
-    let Ok(port) = port::Port::start(&program) else {
+    let Ok(mut port) = Port::start(&program) else {
         eprintln!("oracle: the port's program cannot be started");
         return ExitCode::from(2);
     };
+    let only = arguments.next();
+    if only.as_deref() == Some("bench") {
+        return bench(&program, &mut port, seed);
+    }
+    let chosen = |part: &str| only.as_deref().is_none_or(|only| only == part);
+    if !PARTS.iter().any(|(part, _)| chosen(part)) {
+        eprintln!("oracle: the parts are codec, dictionary and bench");
+        return ExitCode::from(2);
+    }
     // First, so that a run that does not come back can be repeated too.
     println!("oracle: seed {seed}");
-    let mut random = random::Random::new(seed);
+    let mut totals = (0, 0);
+    // Each part begins anew with the seed, so that it gives the same by itself.
+    for (part, compare) in PARTS {
+        if chosen(part) {
+            let (compared, differing) = compare(&mut port, &mut Random::new(seed));
+            totals = (totals.0 + compared, totals.1 + differing);
+        }
+    }
+    println!("oracle: {} comparisons, {} differences (seed {seed})", totals.0, totals.1);
+    ExitCode::from(u8::from(totals.1 > 0))
+}
+
+type Part = (&'static str, fn(&mut Port, &mut Random) -> (u64, u64));
+
+const PARTS: [Part; 2] = [("codec", compare_codec), ("dictionary", dictionary::compare)];
+
+/// Times, with a word on what the port's are worth.
+fn bench(program: &str, port: &mut Port, seed: u64) -> ExitCode {
+    if std::fs::read_to_string(program).is_ok_and(|start| start.contains("qemu-x86_64")) {
+        println!(
+            "The port runs under an emulator: its times are not those of an x86-64 processor."
+        );
+    }
+    dictionary::bench(port, &mut Random::new(seed));
+    ExitCode::SUCCESS
+}
+
+fn compare_codec(port: &mut Port, random: &mut Random) -> (u64, u64) {
     let mut report = report::Report::new(port);
-    values::compare(&mut report, &mut random);
-    words::compare(&mut report, &mut random);
-    ExitCode::from(u8::from(!report.finish(seed)))
+    values::compare(&mut report, random);
+    words::compare(&mut report, random);
+    report.finish()
 }

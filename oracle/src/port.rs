@@ -1,12 +1,23 @@
 //! The port, behind a pipe to the program that port.c makes.
 
 use crate::call::{BEHIND, Call, Outcome};
-use std::io::{Read, Result, Write};
-use std::process::{ChildStdin, ChildStdout, Command, Stdio};
+use std::io::{BufReader, Read, Result, Write};
+use std::process::{Child, ChildStdin, ChildStdout, Command, Stdio};
 
 /// Words before a call's memory, and the most that one batch may have: as in port.c.
 const HEADER: usize = 6;
-const LARGEST_BATCH: usize = 1 << 18;
+pub const LARGEST_BATCH: usize = 1 << 18;
+
+/// Starting the program takes long, so that one that is stopped so often is not
+/// started for further calls.
+pub const MOST_STOPS: usize = 100;
+
+/// What a batch holds: as in port.c.
+#[derive(Clone, Copy)]
+pub enum Batch {
+    Codec,
+    Dictionary,
+}
 
 /// Stands behind lent input: a text cut inside a character must not be
 /// completed by what follows it in memory.
@@ -14,31 +25,59 @@ const CONTINUATION: [u8; BEHIND] = [0x80; BEHIND];
 
 /// The program ends when its input is closed.
 pub struct Port {
+    program: String,
+    running: Child,
     calls: ChildStdin,
-    answers: ChildStdout,
+    answers: BufReader<ChildStdout>,
 }
 
 impl Port {
     pub fn start(program: &str) -> Result<Self> {
         let mut command = Command::new(program);
-        let mut program = command.stdin(Stdio::piped()).stdout(Stdio::piped()).spawn()?;
-        let calls = program.stdin.take().expect("its input is a pipe");
-        let answers = program.stdout.take().expect("its output is a pipe");
-        Ok(Self { calls, answers })
+        let mut running = command.stdin(Stdio::piped()).stdout(Stdio::piped()).spawn()?;
+        let calls = running.stdin.take().expect("its input is a pipe");
+        let answers = running.stdout.take().expect("its output is a pipe");
+        let answers = BufReader::with_capacity(1 << 16, answers);
+        Ok(Self { program: program.to_string(), running, calls, answers })
     }
 
-    /// What the port leaves after each call. It reads a batch wholly before it
-    /// answers, so neither side waits for the other to read.
-    pub fn outcomes(&mut self, calls: &[Call]) -> Vec<Outcome> {
-        let batch: Vec<u64> = calls.iter().flat_map(layout).collect();
+    /// After a call that stopped the program.
+    pub fn restart(&mut self) -> Result<()> {
+        let new = Self::start(&self.program)?;
+        let mut old = std::mem::replace(self, new);
+        drop((old.calls, old.answers));
+        old.running.wait().map(drop)
+    }
+
+    /// Sends a batch. The program reads it wholly before it answers, so neither
+    /// side waits for the other to read.
+    pub fn send(&mut self, kind: Batch, batch: &[u64]) -> Result<()> {
         assert!(batch.len() <= LARGEST_BATCH, "the batch is too long for port.c");
-        let mut bytes = (batch.len() as u64).to_le_bytes().to_vec();
-        bytes.extend(batch.iter().flat_map(|word| word.to_le_bytes()));
-        self.calls.write_all(&bytes).expect("the port takes calls");
-        self.answers.read_exact(&mut bytes[8..]).expect("the port answers");
-        let (words, _) = bytes[8..].as_chunks();
-        let mut words = words.iter().map(|word| u64::from_le_bytes(*word));
-        calls.iter().map(|call| outcome(call, &mut words)).collect()
+        let head = (kind as u64) << 32 | batch.len() as u64;
+        let words = std::iter::once(&head).chain(batch);
+        let bytes: Vec<u8> = words.flat_map(|word| word.to_le_bytes()).collect();
+        self.calls.write_all(&bytes)
+    }
+
+    pub fn words(&mut self, count: usize) -> Result<Vec<u64>> {
+        let bytes = self.bytes(8 * count)?;
+        Ok(bytes.as_chunks().0.iter().map(|word| u64::from_le_bytes(*word)).collect())
+    }
+
+    /// Bytes are filled up to whole words.
+    pub fn bytes(&mut self, count: usize) -> Result<Vec<u8>> {
+        let mut bytes = vec![0; count.next_multiple_of(8)];
+        self.answers.read_exact(&mut bytes)?;
+        bytes.truncate(count);
+        Ok(bytes)
+    }
+
+    /// What the port leaves after each call; an error where one stopped the program.
+    pub fn outcomes(&mut self, calls: &[Call]) -> Result<Vec<Outcome>> {
+        let batch: Vec<u64> = calls.iter().flat_map(layout).collect();
+        self.send(Batch::Codec, &batch)?;
+        let mut words = self.words(batch.len())?.into_iter();
+        Ok(calls.iter().map(|call| outcome(call, &mut words)).collect())
     }
 }
 
@@ -53,12 +92,13 @@ fn layout(call: &Call) -> Vec<u64> {
     words
 }
 
-fn whole_words(mut bytes: Vec<u8>) -> Vec<u64> {
+pub fn whole_words(mut bytes: Vec<u8>) -> Vec<u64> {
     bytes.resize(bytes.len().next_multiple_of(8), 0);
     bytes.as_chunks().0.iter().map(|word| u64::from_le_bytes(*word)).collect()
 }
 
-/// Reads one call of a batch that came back: the answer stands in the function's place.
+/// Reads one call of a batch that came back: the answer stands in the
+/// function's place, and in the type's place what was touched wrongly.
 fn outcome(call: &Call, words: &mut impl Iterator<Item = u64>) -> Outcome {
     let header: Vec<u64> = words.take(HEADER).collect();
     let numbers = words.take(call.room + BEHIND).collect();
@@ -70,5 +110,5 @@ fn outcome(call: &Call, words: &mut impl Iterator<Item = u64>) -> Outcome {
     };
     let out = bytes(call.out);
     bytes(call.input.len());
-    Outcome { answer: header[0], numbers, out }
+    Outcome { answer: header[0], touched: header[1] != 0, numbers, out }
 }

@@ -1,7 +1,7 @@
 //! Counts the comparisons and keeps a smallest difference of each sort.
 
 use crate::call::{Call, Function, Outcome, byte_fill, number_fill};
-use crate::port::Port;
+use crate::port::{MOST_STOPS, Port};
 use crate::shrink::smallest;
 use std::collections::BTreeMap;
 use std::fmt;
@@ -9,22 +9,34 @@ use std::fmt;
 /// Calls that are answered at one go: few enough for the longest of them to fit a batch.
 const BATCH: usize = 256;
 
-pub struct Report {
-    port: Port,
+pub struct Report<'a> {
+    port: &'a mut Port,
     waiting: Vec<Call>,
     compared: u64,
     differing: u64,
+    /// How often the port's program was stopped.
+    stops: usize,
     /// By function and type number.
     found: BTreeMap<(Function, u64), Call>,
 }
 
-impl Report {
-    pub fn new(port: Port) -> Self {
-        Self { port, waiting: Vec::new(), compared: 0, differing: 0, found: BTreeMap::new() }
+impl<'a> Report<'a> {
+    pub fn new(port: &'a mut Port) -> Self {
+        Self {
+            port,
+            waiting: Vec::new(),
+            compared: 0,
+            differing: 0,
+            stops: 0,
+            found: BTreeMap::new(),
+        }
     }
 
     /// Holds the port's whole answer against the Rust's.
     pub fn compare(&mut self, call: Call) {
+        if self.stops > MOST_STOPS {
+            return;
+        }
         self.waiting.push(call);
         if self.waiting.len() == BATCH {
             self.answer();
@@ -33,39 +45,51 @@ impl Report {
 
     fn answer(&mut self) {
         let calls = std::mem::take(&mut self.waiting);
-        let outcomes = self.port.outcomes(&calls);
+        let outcomes = outcomes(self.port, &calls);
         self.compared += calls.len() as u64;
         for (call, outcome) in calls.into_iter().zip(outcomes) {
             if outcome != call.wanted() {
                 self.differing += 1;
+                self.stops += usize::from(outcome.numbers.is_empty());
                 self.keep(call);
             }
         }
     }
 
     fn keep(&mut self, call: Call) {
-        let port = &mut self.port;
+        let port = &mut *self.port;
         let mut differs = |call: &Call| given(port, call) != call.wanted();
         let sort = (call.function, call.kind);
         self.found.entry(sort).or_insert_with(|| smallest(call, &mut differs));
     }
 
-    /// Prints the differences and the summary; true where nothing differs.
-    pub fn finish(mut self, seed: u64) -> bool {
+    /// Prints the differences; gives the comparisons and the differences.
+    pub fn finish(mut self) -> (u64, u64) {
         self.answer();
         for call in self.found.values() {
             println!("differs: {call}");
-            println!("    given:  {}", Shown(call, &given(&mut self.port, call)));
+            println!("    given:  {}", Shown(call, &given(self.port, call)));
             println!("    wanted: {}", Shown(call, &call.wanted()));
         }
-        let Self { compared, differing, .. } = self;
-        println!("oracle: {compared} comparisons, {differing} differences (seed {seed})");
-        differing == 0
+        (self.compared, self.differing)
     }
 }
 
 fn given(port: &mut Port, call: &Call) -> Outcome {
-    port.outcomes(std::slice::from_ref(call)).remove(0)
+    outcomes(port, std::slice::from_ref(call)).remove(0)
+}
+
+/// Where the program stops, each call is made by itself, and the one that stops
+/// it has an outcome without memory, which no call is wanted to have.
+fn outcomes(port: &mut Port, calls: &[Call]) -> Vec<Outcome> {
+    if let Ok(outcomes) = port.outcomes(calls) {
+        return outcomes;
+    }
+    port.restart().expect("the port's program can be started");
+    if calls.len() == 1 {
+        return vec![Outcome { answer: 0, touched: true, numbers: vec![], out: vec![] }];
+    }
+    calls.iter().map(|call| given(port, call)).collect()
 }
 
 impl fmt::Display for Call {
@@ -95,7 +119,10 @@ struct Shown<'a>(&'a Call, &'a Outcome);
 
 impl fmt::Display for Shown<'_> {
     fn fmt(&self, f: &mut fmt::Formatter<'_>) -> fmt::Result {
-        let Shown(call, Outcome { answer, numbers, out }) = self;
+        let Shown(call, Outcome { answer, touched, numbers, out }) = self;
+        if *touched {
+            write!(f, "a fault, or a touch where nothing may be touched; ")?;
+        }
         let numbers = numbers.iter().enumerate();
         let numbers = numbers.map(|(i, n)| (*n != number_fill(i)).then(|| format!("{n:X}")));
         let out = out.iter().enumerate();

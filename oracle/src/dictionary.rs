@@ -1,0 +1,39 @@
+//! The dictionary: histories of calls, and damaged memory.
+
+mod bench;
+mod bounds;
+mod breakage;
+mod calls;
+mod histories;
+mod insertion;
+mod link;
+mod malformed;
+mod malice;
+mod memory;
+mod model;
+mod objects;
+mod rust;
+mod show;
+mod shrink;
+mod spoil;
+mod step;
+mod tally;
+mod trial;
+mod world;
+
+use crate::port::Port;
+use crate::random::Random;
+
+/// Gives the comparisons and the differences.
+pub fn compare(port: &mut Port, random: &mut Random) -> (u64, u64) {
+    let mut trial = trial::Trial::new(port);
+    histories::compare(&mut trial, random);
+    bounds::compare(&mut trial, random);
+    malice::compare(&mut trial, random);
+    trial.finish()
+}
+
+/// Prints how long calls take, in the port and in the Rust.
+pub fn bench(port: &mut Port, random: &mut Random) {
+    bench::print(port, random);
+}

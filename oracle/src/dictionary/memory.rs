@@ -1,0 +1,70 @@
+//! The four lent slices of a dictionary (RULES.md 5).
+
+use crate::call::{byte_fill, number_fill};
+
+/// Words of the header and of a row, and of a slot.
+pub const ROW: usize = 12;
+pub const SLOT: usize = 3;
+
+pub const SLICES: [&str; 4] = ["objects", "slots", "words", "bytes"];
+pub const BYTES: usize = 3;
+
+#[derive(Clone, PartialEq, Eq, Default)]
+pub struct Memory {
+    pub objects: Vec<u64>,
+    pub slots: Vec<u64>,
+    pub words: Vec<u64>,
+    pub bytes: Vec<u8>,
+}
+
+/// How many elements of each slice are lent, and whether an end or the start
+/// of each lies at a page that may not be touched.
+#[derive(Clone, Copy, PartialEq, Eq)]
+pub struct Lent {
+    pub at_start: bool,
+    pub lengths: [usize; 4],
+}
+
+impl Memory {
+    /// Lent memory into which nothing has been put.
+    pub fn filled(lengths: [usize; 4]) -> Self {
+        let mut memory = Self::default();
+        memory.lend(lengths);
+        memory
+    }
+
+    /// What is there stays; what is new is filled.
+    pub fn lend(&mut self, lengths: [usize; 4]) {
+        let words = [&mut self.objects, &mut self.slots, &mut self.words];
+        for (slice, length) in words.into_iter().zip(lengths) {
+            let old = slice.len();
+            slice.truncate(length);
+            slice.extend((old..length).map(number_fill));
+        }
+        let old = self.bytes.len();
+        self.bytes.truncate(lengths[BYTES]);
+        self.bytes.extend((old..lengths[BYTES]).map(byte_fill));
+    }
+
+    pub fn lengths(&self) -> [usize; 4] {
+        [self.objects.len(), self.slots.len(), self.words.len(), self.bytes.len()]
+    }
+
+    pub fn word_slices(&mut self) -> [&mut Vec<u64>; 3] {
+        [&mut self.objects, &mut self.slots, &mut self.words]
+    }
+
+    pub fn get(&self, slice: usize, at: usize) -> u64 {
+        match slice {
+            BYTES => self.bytes[at].into(),
+            _ => [&self.objects, &self.slots, &self.words][slice][at],
+        }
+    }
+
+    pub fn put(&mut self, slice: usize, at: usize, cell: u64) {
+        match slice {
+            BYTES => self.bytes[at] = cell as u8,
+            _ => self.word_slices()[slice][at] = cell,
+        }
+    }
+}

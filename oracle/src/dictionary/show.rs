@@ -1,0 +1,148 @@
+//! Prints a history that differs.
+
+use super::insertion::Insertion;
+use super::link::Given;
+use super::memory::{Lent, Memory, SLICES};
+use super::model::{Object, Value, is_string};
+use super::step::{Call, History, Outcome, Step};
+use super::tally::answer_name;
+use super::trial::Difference;
+
+/// Cells, or objects, of one kind that are printed.
+const MOST_CELLS: usize = 24;
+
+pub fn history(history: &History) {
+    println!("differs: {}", lent(&history.first));
+    for step in &history.steps {
+        match step {
+            Step::Lend(lengths) => println!("    {}", lent(lengths)),
+            Step::Lay(objects) => lay(objects),
+            Step::Put { slice, at, cell } => println!("    {}[{at}] = {cell:X}", SLICES[*slice]),
+            Step::Call(made) => println!("    {}", call(made)),
+        }
+    }
+}
+
+pub fn difference(found: &Difference) {
+    match &found.given {
+        Some(given) => {
+            println!("    given:  {}{}", outcome(&given.outcome), strays(given));
+            given_changes(given);
+        }
+        None => println!("    given:  nothing, the program stopped (a fault, or no end)"),
+    }
+    println!("    wanted: {}", outcome(&found.wanted.outcome));
+    if let Some(cause) = found.wanted.cause {
+        println!("        because of: {cause}");
+    }
+    wanted_changes(&found.before, &found.after);
+}
+
+fn lay(objects: &[Object]) {
+    objects.iter().take(MOST_CELLS).for_each(|shown| println!("    lay {}", object(shown)));
+    if objects.len() > MOST_CELLS {
+        println!("    .. (lay {} objects in all)", objects.len());
+    }
+}
+
+fn lent(Lent { at_start, lengths }: &Lent) -> String {
+    let slices = SLICES.iter().zip(lengths).map(|(name, length)| format!("{name} {length}"));
+    let side = if *at_start { "starting" } else { "ending" };
+    format!("lent {}, each {side} at a guard page", slices.collect::<Vec<String>>().join(", "))
+}
+
+fn object(object: &Object) -> String {
+    let values: Vec<String> = object.values.iter().map(value).collect();
+    let default = object.default.as_ref().map_or("none".to_string(), value);
+    let Object { index, shape, access, name, .. } = object;
+    format!(
+        "{index:04X}h kind {shape} access {access} name {} values [{}] default {default}",
+        text(name),
+        few(values)
+    )
+}
+
+fn value(value: &Value) -> String {
+    let Value { kind, word, room } = value;
+    let bytes = if is_string(*kind) { format!(" {}", text(room)) } else { String::new() };
+    format!("(type {kind} word {word:X} room {}{bytes})", room.len())
+}
+
+fn call(call: &Call) -> String {
+    let name = call.name();
+    match call {
+        Call::New => name.to_string(),
+        Call::Insert(given) => insertion(given),
+        Call::Read { index, sub_index, numbers } => {
+            format!("{name} {index:04X}h/{sub_index}, {numbers} numbers lent")
+        }
+        Call::ReadNumber { index, sub_index, .. } | Call::IncrementCounter { index, sub_index } => {
+            format!("{name} {index:04X}h/{sub_index}")
+        }
+        Call::FindByName(wanted) => format!("{name} {}", text(wanted)),
+        Call::GetConfiguredCns(out) => format!("{name}, {out} bytes lent"),
+    }
+}
+
+fn insertion(given: &Insertion) -> String {
+    let Insertion { index, shape, access, has_default, name, numbers, encodings } = given;
+    let values = numbers.chunks(3).map(|value| format!("{value:X?}")).collect();
+    format!(
+        "insert {index:04X}h kind {shape:X} access {access:X} default {has_default:X} name {} \
+         vals (hex) [{}] encodings {}",
+        text(name),
+        few(values),
+        text(encodings)
+    )
+}
+
+fn outcome(outcome: &Outcome) -> String {
+    let Outcome { answer, numbers, out } = outcome;
+    let mut line = format!("{answer} {}", answer_name(*answer));
+    if !numbers.is_empty() {
+        line += &format!(", numbers {numbers:X?}");
+    }
+    if !out.is_empty() {
+        line += &format!(", output {}", text(out));
+    }
+    line
+}
+
+fn strays(given: &Given) -> String {
+    let places = ["what is only read", "around the results"].into_iter().chain(SLICES);
+    let touched = places.enumerate().filter(|(bit, _)| given.strays >> bit & 1 == 1);
+    touched.map(|(_, place)| format!("; touched: {place}")).collect()
+}
+
+fn given_changes(given: &Given) {
+    for change in &given.changes {
+        let cells = change.cells.iter().map(|cell| format!("{cell:X}")).collect();
+        println!("        {} from {} on: {}", SLICES[change.slice], change.first, few(cells));
+    }
+}
+
+fn wanted_changes(before: &Memory, after: &Memory) {
+    for (slice, name) in SLICES.iter().enumerate() {
+        let length = before.lengths()[slice];
+        let differs = |at: &usize| before.get(slice, *at) != after.get(slice, *at);
+        let places: Vec<usize> = (0..length).filter(differs).collect();
+        if let (Some(first), Some(last)) = (places.first(), places.last()) {
+            let cells = (*first..=*last).map(|at| format!("{:X}", after.get(slice, at))).collect();
+            println!("        {name} from {first} on: {}", few(cells));
+        }
+    }
+}
+
+fn text(bytes: &[u8]) -> String {
+    match std::str::from_utf8(bytes) {
+        Ok(text) if bytes.len() <= 40 && !text.contains(char::is_control) => format!("{text:?}"),
+        _ => format!("[{}]", few(bytes.iter().map(|byte| format!("{byte:02X}")).collect())),
+    }
+}
+
+fn few(cells: Vec<String>) -> String {
+    match cells.len() {
+        0..=MOST_CELLS => cells.join(" "),
+        length => format!("{} .. ({length} of them)", cells[..MOST_CELLS].join(" ")),
+    }
+}

@@ -1,0 +1,109 @@
+//! A history: what is done to one dictionary, from fresh memory on.
+
+use super::insertion::Insertion;
+use super::memory::Lent;
+use super::model::{Object, Used};
+
+#[derive(Clone, PartialEq, Eq)]
+pub enum Call {
+    New,
+    Insert(Insertion),
+    Read {
+        index: u16,
+        sub_index: u8,
+        /// How many numbers are lent.
+        numbers: usize,
+    },
+    ReadNumber {
+        width: Width,
+        index: u16,
+        sub_index: u8,
+    },
+    FindByName(Vec<u8>),
+    /// With the number of bytes that are lent.
+    GetConfiguredCns(usize),
+    IncrementCounter {
+        index: u16,
+        sub_index: u8,
+    },
+}
+
+#[derive(Clone, Copy, PartialEq, Eq)]
+pub enum Width {
+    U8,
+    U16,
+    U32,
+    U64,
+}
+
+pub const WIDTHS: [Width; 4] = [Width::U8, Width::U16, Width::U32, Width::U64];
+
+#[derive(Clone, PartialEq, Eq)]
+pub enum Step {
+    /// Lends other lengths; what is in memory stays.
+    Lend(Lent),
+    /// Lays objects into memory without a call; they may break rules.
+    Lay(Vec<Object>),
+    /// Changes one cell without a call.
+    Put {
+        slice: usize,
+        at: usize,
+        cell: u64,
+    },
+    Call(Call),
+}
+
+#[derive(Clone, PartialEq, Eq)]
+pub struct History {
+    pub first: Lent,
+    pub steps: Vec<Step>,
+}
+
+/// The answer of a call and what it leaves in the memory lent for results.
+#[derive(Clone, PartialEq, Eq, Debug)]
+pub struct Outcome {
+    pub answer: u64,
+    pub numbers: Vec<u64>,
+    pub out: Vec<u8>,
+}
+
+impl Step {
+    /// A history that was made smaller may lend too little for a step, which is then left out.
+    pub fn fits(&self, lengths: [usize; 4]) -> bool {
+        match self {
+            Self::Lend(_) | Self::Call(_) => true,
+            Self::Lay(objects) => {
+                let needed = Used::of(objects).lengths();
+                needed.iter().zip(lengths).all(|(needed, lent)| *needed <= lent)
+            }
+            Self::Put { slice, at, .. } => *at < lengths[*slice],
+        }
+    }
+}
+
+impl Call {
+    pub fn name(&self) -> &'static str {
+        match self {
+            Self::New => "new",
+            Self::Insert(_) => "insert",
+            Self::Read { .. } => "read",
+            Self::ReadNumber { width: Width::U8, .. } => "read_u8",
+            Self::ReadNumber { width: Width::U16, .. } => "read_u16",
+            Self::ReadNumber { width: Width::U32, .. } => "read_u32",
+            Self::ReadNumber { width: Width::U64, .. } => "read_u64",
+            Self::FindByName(_) => "find_by_name",
+            Self::GetConfiguredCns(_) => "get_configured_cns",
+            Self::IncrementCounter { .. } => "increment_counter",
+        }
+    }
+
+    /// How many numbers and how many bytes are lent for results.
+    pub fn results(&self) -> (usize, usize) {
+        match self {
+            Self::Read { numbers, .. } => (*numbers, 0),
+            Self::ReadNumber { .. } | Self::FindByName(_) => (1, 0),
+            Self::GetConfiguredCns(out) => (1, *out),
+            Self::New | Self::Insert(_) | Self::IncrementCounter { .. } => (0, 0),
+        }
+    }
+}

@@ -1,0 +1,52 @@
+//! How often each answer of each call was reached, and by which part of its rule.
+
+use super::world::Wanted;
+use std::collections::BTreeMap;
+
+#[derive(Default)]
+pub struct Tally {
+    answers: BTreeMap<&'static str, BTreeMap<u64, u64>>,
+    causes: BTreeMap<(&'static str, u64), BTreeMap<&'static str, u64>>,
+}
+
+pub fn answer_name(answer: u64) -> &'static str {
+    match answer {
+        0 => "Done",
+        1 => "Malformed",
+        2 => "BadValue",
+        3 => "ObjectNotFound",
+        4 => "SubObjectNotFound",
+        5 => "TypeMismatch",
+        12 => "BufferTooShort",
+        16 => "Occupied",
+        17 => "Full",
+        _ => "no answer of the rules",
+    }
+}
+
+impl Tally {
+    pub fn count(&mut self, call: &'static str, wanted: &Wanted) {
+        let answer = wanted.outcome.answer;
+        *self.answers.entry(call).or_default().entry(answer).or_default() += 1;
+        if let Some(cause) = wanted.cause {
+            // Every call judges alike, so its causes are counted together.
+            let call = if answer == 1 { "every call" } else { call };
+            *self.causes.entry((call, answer)).or_default().entry(cause).or_default() += 1;
+        }
+    }
+
+    pub fn print(&self) {
+        for (call, answers) in &self.answers {
+            let counts = answers.iter().map(|(answer, count)| (answer_name(*answer), count));
+            println!("    {call:20} {}", line(counts));
+        }
+        for ((call, answer), causes) in &self.causes {
+            let counts = causes.iter().map(|(cause, count)| (*cause, count));
+            println!("    {call}, {}: {}", answer_name(*answer), line(counts));
+        }
+    }
+}
+
+fn line<'a>(counts: impl Iterator<Item = (&'static str, &'a u64)>) -> String {
+    counts.map(|(name, count)| format!("{name} {count}")).collect::<Vec<String>>().join(", ")
+}

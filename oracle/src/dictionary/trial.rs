@@ -1,0 +1,233 @@
+//! Runs histories on the port and holds every call against what is wanted.
+
+use super::link::{self, Given};
+use super::memory::Memory;
+use super::show;
+use super::shrink::smallest;
+use super::step::{Call, History, Step};
+use super::tally::Tally;
+use super::world::{Wanted, World};
+use crate::port::{Batch, LARGEST_BATCH, MOST_STOPS, Port};
+use std::collections::BTreeMap;
+use std::io::Result;
+use std::time::Duration;
+
+/// For all differences together.
+const LONGEST_SHRINKING: Duration = Duration::from_secs(60);
+
+/// Words after which the waiting histories are run.
+const ENOUGH: usize = 1 << 16;
+
+pub struct Trial<'a> {
+    port: &'a mut Port,
+    waiting: Vec<History>,
+    waiting_words: usize,
+    compared: u64,
+    differing: u64,
+    /// How often the port's program was stopped.
+    stops: usize,
+    tally: Tally,
+    /// By the call and its wanted answer; with the words of its commands.
+    found: BTreeMap<(&'static str, u64), (usize, History)>,
+}
+
+/// Where a history first differs. Without `given` the port gave no answer: it
+/// was stopped by a fault, or by the clock.
+pub struct Difference {
+    pub step: usize,
+    pub call: Call,
+    pub given: Option<Given>,
+    pub wanted: Wanted,
+    pub before: Memory,
+    pub after: Memory,
+}
+
+impl<'a> Trial<'a> {
+    pub fn new(port: &'a mut Port) -> Self {
+        Self {
+            port,
+            waiting: Vec::new(),
+            waiting_words: 0,
+            compared: 0,
+            differing: 0,
+            stops: 0,
+            tally: Tally::default(),
+            found: BTreeMap::new(),
+        }
+    }
+
+    pub fn compare(&mut self, history: History) {
+        if self.stops > MOST_STOPS {
+            return;
+        }
+        let words = link::commands(&history).len();
+        if self.waiting_words + words > LARGEST_BATCH {
+            self.run();
+        }
+        self.waiting_words += words;
+        self.waiting.push(history);
+        if self.waiting_words > ENOUGH {
+            self.run();
+        }
+    }
+
+    fn run(&mut self) {
+        self.waiting_words = 0;
+        let mut histories = std::mem::take(&mut self.waiting);
+        while !histories.is_empty() {
+            send(self.port, &histories);
+            let mut run = 0;
+            for history in &histories {
+                run += 1;
+                let mut replay = Replay::new(history);
+                let ended = replay.run(self.port, |call, wanted| {
+                    self.compared += 1;
+                    self.tally.count(call.name(), wanted);
+                });
+                if let Some(found) = replay.found {
+                    self.keep(&found, history);
+                }
+                if ended.is_err() {
+                    // Those behind it were not run.
+                    self.port.restart().expect("the port's program can be started");
+                    self.stops += 1;
+                    break;
+                }
+            }
+            histories.drain(..run);
+        }
+    }
+
+    /// The shortest history of each sort is kept, since it is the easiest to make smaller.
+    fn keep(&mut self, found: &Difference, history: &History) {
+        self.differing += 1;
+        let sort = (found.call.name(), found.wanted.outcome.answer);
+        let words = link::commands(history).len();
+        let kept = self.found.get(&sort).map(|(words, _)| *words);
+        if kept.is_none_or(|kept| words < kept) {
+            self.found.insert(sort, (words, history.clone()));
+        }
+    }
+
+    /// Prints the differences and how often each answer was reached; gives the
+    /// comparisons and the differences.
+    pub fn finish(mut self) -> (u64, u64) {
+        self.run();
+        let found = std::mem::take(&mut self.found);
+        let time = LONGEST_SHRINKING / found.len().max(1) as u32;
+        for (_, history) in found.into_values() {
+            let port = &mut *self.port;
+            let mut differs = |history: &History| Some(first_difference(port, history)?.step);
+            let history = smallest(history, time, &mut differs);
+            show::history(&history);
+            match first_difference(self.port, &history) {
+                Some(found) => show::difference(&found),
+                None => println!("    (not seen again)"),
+            }
+        }
+        println!("the dictionary's answers:");
+        self.tally.print();
+        (self.compared, self.differing)
+    }
+}
+
+fn send(port: &mut Port, histories: &[History]) {
+    let words: Vec<u64> = histories.iter().flat_map(link::commands).collect();
+    port.send(Batch::Dictionary, &words).expect("the port takes commands");
+}
+
+/// Runs a history by itself.
+fn first_difference(port: &mut Port, history: &History) -> Option<Difference> {
+    send(port, std::slice::from_ref(history));
+    let mut replay = Replay::new(history);
+    if replay.run(port, |_, _| ()).is_err() {
+        port.restart().expect("the port's program can be started");
+    }
+    replay.found
+}
+
+/// Holds the replies to a history against what is wanted, up to the first
+/// difference; the replies behind that are read and dropped.
+struct Replay<'a> {
+    history: &'a History,
+    world: World,
+    found: Option<Difference>,
+}
+
+impl<'a> Replay<'a> {
+    fn new(history: &'a History) -> Self {
+        Self { history, world: World::new(history.first), found: None }
+    }
+
+    /// An error where the program stopped.
+    fn run(&mut self, port: &mut Port, mut count: impl FnMut(&Call, &Wanted)) -> Result<()> {
+        let mut lengths = self.history.first.lengths;
+        for (step, action) in self.history.steps.iter().enumerate() {
+            match action {
+                Step::Call(call) => self.call(port, step, call, &mut count)?,
+                Step::Lend(lent) => {
+                    lengths = lent.lengths;
+                    self.world.change(action);
+                }
+                _ => self.world.change(action),
+            }
+        }
+        let memory = link::fetched(port, lengths)?;
+        if self.found.is_none() {
+            assert!(memory == self.world.memory, "the changes add up to the port's memory");
+            self.world.assert_equal();
+        }
+        Ok(())
+    }
+
+    fn call(
+        &mut self,
+        port: &mut Port,
+        step: usize,
+        call: &Call,
+        count: &mut impl FnMut(&Call, &Wanted),
+    ) -> Result<()> {
+        let given = link::given(port, call);
+        let ended = given.as_ref().map(drop).map_err(|error| error.kind().into());
+        if self.found.is_none() {
+            self.found = call_differs(&mut self.world, step, call, given.ok(), count);
+        }
+        ended
+    }
+}
+
+fn call_differs(
+    world: &mut World,
+    step: usize,
+    call: &Call,
+    given: Option<Given>,
+    count: &mut impl FnMut(&Call, &Wanted),
+) -> Option<Difference> {
+    // Every other call leaves the memory, so that nothing may have changed.
+    let writes = matches!(call, Call::New | Call::Insert(_) | Call::IncrementCounter { .. });
+    let before = writes.then(|| world.memory.clone());
+    let wanted = world.call(call);
+    count(call, &wanted);
+    let same = given.as_ref().is_some_and(|given| {
+        let memory_same = match &before {
+            Some(before) => changed(before.clone(), given) == world.memory,
+            None => given.changes.is_empty(),
+        };
+        memory_same && given.strays == 0 && given.outcome == wanted.outcome
+    });
+    if same {
+        return None;
+    }
+    let after = world.memory.clone();
+    let before = before.unwrap_or_else(|| after.clone());
+    Some(Difference { step, call: call.clone(), given, wanted, before, after })
+}
+
+fn changed(mut memory: Memory, given: &Given) -> Memory {
+    for change in &given.changes {
+        for (cell, at) in change.cells.iter().zip(change.first..) {
+            memory.put(change.slice, at, *cell);
+        }
+    }
+    memory
+}
