@@ -74,7 +74,8 @@ uint64_t loomfinch_new(uint64_t *objects, size_t objects_len);
  * 4 ReadWriteStore, 5 Constant, 6 Conditional, 7 none. The values are a Variable's one value or a list's elements, then the
  * default where has_default is 1. Each takes three numbers of vals: its type 0..20, the size of its room (a default's: just its
  * length for types 11..14, else 0), and the byte count of its encoding; the encodings lie back to back.
- * Answers 1; 2 where a rule for objects is broken, or the counts do not add up; 16 where the index is taken; 17 where the
+ * Answers 1; 2 where a rule for objects is broken, has_default is above 1 or has no value, vals_len is no multiple of 3, or the
+ * byte counts do not add up to encodings_len; 16 where the index is taken; 17 where the
  * dictionary's bounds or the lent slices have no room for it; in this order.
  * Done: the object is in its place, what comes behind it has moved up, and each other object keeps its name, values and rooms;
  * bytes of the new rooms behind their values are 0. */
@@ -84,8 +85,8 @@ uint64_t loomfinch_insert(uint64_t *objects, size_t objects_len, uint64_t *slots
                           const uint8_t *encodings, size_t encodings_len);
 
 /* Reads a value. Answers 1; 3 for no such object; 4 for no such element; 12 for fewer than 3 numbers; in this order.
- * Done: numbers[0] is the value's type, numbers[1] its word, and for types 11..14 its numbers[1] bytes start at
- * bytes + numbers[2]. Numbers behind stay. */
+ * Done: numbers[0] is the value's type, numbers[1] its word, and numbers[2] where its room starts: for types 11..14 the value
+ * is the numbers[1] bytes at bytes + numbers[2]. A list's count has type 5 and start 0. Numbers behind stay. */
 uint64_t loomfinch_read(const uint64_t *objects, size_t objects_len, const uint64_t *slots, size_t slots_len,
                         const uint64_t *words, size_t words_len, const uint8_t *bytes, size_t bytes_len, uint16_t index,
                         uint8_t sub_index, uint64_t *numbers, size_t numbers_len);

@@ -4,8 +4,10 @@ mod bench;
 mod bounds;
 mod breakage;
 mod calls;
+mod damage;
 mod histories;
 mod insertion;
+mod lines;
 mod link;
 mod malformed;
 mod malice;
@@ -17,6 +19,7 @@ mod show;
 mod shrink;
 mod spoil;
 mod step;
+mod stored;
 mod tally;
 mod trial;
 mod world;
@@ -31,6 +34,11 @@ pub fn compare(port: &mut Port, random: &mut Random) -> (u64, u64) {
     bounds::compare(&mut trial, random);
     malice::compare(&mut trial, random);
     trial.finish()
+}
+
+/// Prints the histories that crates/cases replays.
+pub fn print_stored() {
+    stored::print();
 }
 
 /// Prints how long calls take, in the port and in the Rust.

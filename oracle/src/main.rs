@@ -1,9 +1,11 @@
 //! Compares the port with the unchanged Rust. Arguments: the seed, the port's
 //! program and, where only one part is to be run, that part: codec, dictionary
-//! or bench, which times calls and compares nothing.
+//! or bench, which times calls and compares nothing. Without the port: the
+//! argument --histories prints histories with the answers that they must give.
 
 mod call;
 mod dictionary;
+mod hex;
 mod inputs;
 mod mapping;
 mod original;
@@ -20,7 +22,12 @@ use std::process::ExitCode;
 
 fn main() -> ExitCode {
     let mut arguments = std::env::args().skip(1);
-    let Some(seed) = arguments.next().and_then(|seed| seed.parse().ok()) else {
+    let first = arguments.next();
+    if first.as_deref() == Some("--histories") {
+        dictionary::print_stored();
+        return ExitCode::SUCCESS;
+    }
+    let Some(seed) = first.and_then(|seed| seed.parse().ok()) else {
         eprintln!("oracle: the seed is a number below 2^64");
         return ExitCode::from(2);
     };

@@ -1,10 +1,12 @@
 //! Prints a fixed list of the unchanged Rust's answers, for replay without Rust:
 //! mapping words (w), decoded data (d) and encoded values (e).
 
+mod hex;
 mod inputs;
 mod original;
 mod random;
 
+use hex::hex;
 use inputs::{EDGE_BYTES, damaged, patterns, text};
 use original::{KINDS, UNICODE_STRING, VISIBLE_STRING, size};
 use powerlink_rs::pdo::PdoMappingEntry;
@@ -49,13 +51,6 @@ fn encode_line(kind: u64, word: u64, part: &[u8]) {
     if let Ok(bytes) = original::encode(kind, word, part) {
         println!("e {kind:X} {word:X} {} {}", hex(part), hex(&bytes));
     }
-}
-
-fn hex(bytes: &[u8]) -> String {
-    if bytes.is_empty() {
-        return "-".to_string();
-    }
-    bytes.iter().map(|byte| format!("{byte:02X}")).collect()
 }
 
 fn words(random: &mut Random) {

@@ -1,5 +1,6 @@
 // Runs every table and writes how many lines were run, a space, how many differ, and a newline.
-// The tables are lines (see `lines`): our own, and a sample of the Rust's answers in the file rust.txt, which oracle/run --sample made.
+// The tables are lines (see `lines` and `history`): our own, and those with the Rust's answers in two files, which the oracle made:
+// rust.txt is what oracle/run --sample prints, histories.txt what oracle/run --histories prints.
 mod hex;
 mod histories;
 mod history;
@@ -10,16 +11,20 @@ mod tally;
 
 use tally::Tally;
 
-// The stored sample. One that can't be read counts as a line that differs.
-fn stored(before: Tally) -> Tally {
+// The lines of a stored file, which are histories or not. One that can't be read counts as a line that differs.
+fn stored(name: &[u8], histories: bool, before: Tally) -> Tally {
     let mut buffer = io::large_buffer();
-    let file = os::open_read(b"rust.txt");
+    let file = os::open_read(name);
     if file < 0 {
         return tally::run(b"-", before);
     }
     let n = io::read_full(file, &mut buffer);
     libc::close(file);
-    tally::run(&buffer[..n], before)
+    if histories {
+        history::run(&buffer[..n], before)
+    } else {
+        tally::run(&buffer[..n], before)
+    }
 }
 
 fn main() {
@@ -34,7 +39,8 @@ fn main() {
     let inserted = histories::inserting(read);
     let counted = histories::counting(inserted);
     let damaged = histories::damaged(counted);
-    let all = stored(damaged);
+    let sampled = stored(b"rust.txt", false, damaged);
+    let all = stored(b"histories.txt", true, sampled);
     io::print_decimal(1, all.run);
     io::write_all(1, b" ");
     io::print_decimal(1, all.differ);

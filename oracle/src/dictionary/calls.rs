@@ -45,13 +45,7 @@ fn place_of_kind(random: &mut Random, objects: &[Object], kind: u64) -> (u16, u8
 }
 
 fn read_number(random: &mut Random, objects: &[Object], width: Width) -> Call {
-    let kind = match width {
-        Width::U8 => 5,
-        Width::U16 => 6,
-        Width::U32 => 7,
-        Width::U64 => 8,
-    };
-    let (index, sub_index) = place_of_kind(random, objects, kind);
+    let (index, sub_index) = place_of_kind(random, objects, width.kind());
     Call::ReadNumber { width, index, sub_index }
 }
 
@@ -77,13 +71,16 @@ fn name(random: &mut Random, objects: &[Object]) -> Vec<u8> {
     }
 }
 
+/// How many nodes a list of them has configured.
+pub fn nodes(list: &Object) -> usize {
+    let is_node = |word: u64| word & 0x101 == 1;
+    list.values.iter().filter(|value| value.kind == UNSIGNED32 && is_node(value.word)).count()
+}
+
 /// Just as many bytes as there are nodes, one less or more, or any number.
 fn room_for_nodes(random: &mut Random, objects: &[Object]) -> usize {
     let list = objects.iter().find(|object| object.index == CONFIGURED_NODES.into());
-    let values = list.map_or(&[][..], |list| &list.values);
-    let is_node = |word: u64| word & 0x101 == 1;
-    let nodes = values.iter().filter(|value| value.kind == UNSIGNED32 && is_node(value.word));
-    let nodes = nodes.count();
+    let nodes = list.map_or(0, nodes);
     match random.below(6) {
         0 => nodes.saturating_sub(1),
         1 => nodes + 1,

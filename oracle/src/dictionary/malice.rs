@@ -49,13 +49,13 @@ pub fn good(random: &mut Random) -> Vec<Object> {
 }
 
 /// Every cell that a dictionary uses, with what it holds.
-struct Cell {
-    slice: usize,
-    at: usize,
-    old: u64,
+pub struct Cell {
+    pub slice: usize,
+    pub at: usize,
+    pub old: u64,
 }
 
-fn cells(objects: &[Object]) -> Vec<Cell> {
+pub fn cells(objects: &[Object]) -> Vec<Cell> {
     let lengths = Used::of(objects).lengths();
     let mut memory = Memory::filled(lengths);
     model::lay(objects, &mut memory);
@@ -82,13 +82,15 @@ fn other_word(random: &mut Random, old: u64) -> u64 {
     }
 }
 
-fn edit(random: &mut Random, cell: &Cell) -> Step {
-    let Cell { slice, at, old } = *cell;
-    let new = match slice {
+pub fn other(random: &mut Random, cell: &Cell) -> u64 {
+    match cell.slice {
         BYTES => random.pick(&[0x00, 0x7F, 0x80, 0xC2, 0xE0, 0xF4, 0xFF]),
-        _ => other_word(random, old),
-    };
-    Step::Put { slice, at, cell: new }
+        _ => other_word(random, cell.old),
+    }
+}
+
+fn edit(random: &mut Random, cell: &Cell) -> Step {
+    Step::Put { slice: cell.slice, at: cell.at, cell: other(random, cell) }
 }
 
 fn any_edit(random: &mut Random, cells: &[Cell]) -> Step {

@@ -89,6 +89,10 @@ fn element(random: &mut Random, longest: usize, nodes: bool) -> Value {
 
 pub fn value(random: &mut Random, longest: usize) -> Value {
     let kind = kind(random);
+    value_of(random, kind, longest)
+}
+
+pub fn value_of(random: &mut Random, kind: u64, longest: usize) -> Value {
     let encoding = encoding(random, kind, longest);
     let string = if is_string(kind) { encoding.len() } else { 0 };
     let spare = match random.below(8) {
@@ -100,9 +104,13 @@ pub fn value(random: &mut Random, longest: usize) -> Value {
     Value::new(kind, (string + spare).min(LARGEST_ROOM), &encoding)
 }
 
-/// Its room is just its bytes.
-pub fn default(random: &mut Random, longest: usize) -> Value {
+fn default(random: &mut Random, longest: usize) -> Value {
     let kind = kind(random);
+    default_of(random, kind, longest)
+}
+
+/// Its room is just its bytes.
+pub fn default_of(random: &mut Random, kind: u64, longest: usize) -> Value {
     let encoding = encoding(random, kind, longest);
     Value::new(kind, if is_string(kind) { encoding.len() } else { 0 }, &encoding)
 }

@@ -38,6 +38,18 @@ pub enum Width {
 
 pub const WIDTHS: [Width; 4] = [Width::U8, Width::U16, Width::U32, Width::U64];
 
+impl Width {
+    /// The number of the type that is read.
+    pub fn kind(self) -> u64 {
+        match self {
+            Self::U8 => 5,
+            Self::U16 => 6,
+            Self::U32 => 7,
+            Self::U64 => 8,
+        }
+    }
+}
+
 #[derive(Clone, PartialEq, Eq)]
 pub enum Step {
     /// Lends other lengths; what is in memory stays.

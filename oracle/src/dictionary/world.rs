@@ -54,7 +54,12 @@ struct Done {
 
 impl World {
     pub fn new(first: Lent) -> Self {
-        Self { memory: Memory::filled(first.lengths), known: Known::Nothing }
+        Self::on(Memory::filled(first.lengths))
+    }
+
+    /// Memory with anything in it.
+    pub fn on(memory: Memory) -> Self {
+        Self { memory, known: Known::Nothing }
     }
 
     /// What is done without a call.
