@@ -27,7 +27,7 @@ use Rattle.value.specs.declared.ObjectValue.{ObjectValue}
 use Rattle.value.specs.declared.Word.{Word}
 use Rattle.value.specs.declared.Word.the-variants.{Takes, Fails}
 use Rattle.value.specs.Meaning.{reading}
-use Rattle.value.specs.Codec.{sizes, sizeOf, isText, fitsType, takes, textIs, textWord, wordAt, meant, decodeOf, sayable, encoding, after, encodeOf}
+use Rattle.value.specs.Codec.{sizes, sizeOf, isText, fitsType, takes, textIs, textWord, wordAt, meant, decodeOf, sayable, exact, encoding, after, encodeOf}
 
 -- ---- a match on t whose arms 0, 1, .. up to k - 1 did not fit
 abbrev Rest : ℕ → ℕ → Type 0
@@ -196,3 +196,16 @@ decoded t s v h = go (ltb 20 t) (wordAt t s) refl refl h
     go true x e f h = let z : _≡_ {A = ℕ} 0 1 = cc in absurd (omega arith)
     go false (Takes w) e f h = record { type-le = ltb-false 20 t e; word = w; taken = f; value = cc }
     go false (Fails g) e f h = let z : _≡_ {A = ℕ} 0 1 = cc in absurd (omega arith)
+
+-- ---- the data is a value and nothing else
+pub exact-none : (t : ℕ) (s : List ℕ) → 20 < t → exact t s ≡ false
+unfolding exact
+exact-none t s h = rw (lt-leb t 20 h)
+
+pub exact-text : (t : ℕ) (s : List ℕ) → t ≤ 20 → isText t ≡ true → exact t s ≡ takes (textWord t s)
+unfolding exact
+exact-text t s h e = rw (le-leb t 20 h, e)
+
+pub exact-fixed : (t : ℕ) (s : List ℕ) → t ≤ 20 → isText t ≡ false → exact t s ≡ eqb (length s) (sizeOf t)
+unfolding exact
+exact-fixed t s h e = rw (le-leb t 20 h, e)

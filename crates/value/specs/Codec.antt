@@ -88,6 +88,10 @@ sayable t w part =
     (eqb w (length part) && takes (textWord t part))
     (fitsType t w)
 
+-- the data is a value of type t and nothing else: what a value that is handed in, or stored, must be
+unfoldable pub exact : ℕ → List ℕ → Bool
+exact t s = leb t 20 && cond (isText t) (takes (textWord t s)) (eqb (length s) (sizeOf t))
+
 -- its bytes: those beside it, or the word as little-endian bytes, as many as the type has
 unfoldable pub encoding : ℕ → ℕ → List ℕ → List ℕ
 encoding t w part = cond (isText t) part (bytesOf (sizeOf t) w)

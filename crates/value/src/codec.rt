@@ -3,7 +3,7 @@ ghost use mathlib.Core.Path.{_≡_};
 ghost use mathlib.Core.Bool.{true, false};
 ghost use mathlib.Core.List.{[]};
 ghost use Prim.Native.Nat.{_≤_};
-ghost use Rattle.value.specs.Codec.{sizeOf, isText, fitsType, textWord, wordAt, encodeOf, after};
+ghost use Rattle.value.specs.Codec.{sizeOf, isText, fitsType, textWord, wordAt, exact, encodeOf, after};
 use crate::Encoded;
 use crate::Fault;
 use crate::Word;
@@ -92,6 +92,22 @@ pub fn decode_word(t: u64, data: &[u8]) -> Word
         return Word::Fails(Fault::Value);
     }
     Word::Takes(lists::number(data, 0, n))
+}
+
+// The data is a value of type t and nothing else.
+pub fn is_value(t: u64, data: &[u8]) -> bool
+    ensures { λ r. ⌜ r ≡ exact t (now («data» .entry)) ⌝ }
+{
+    if 20 < t {
+        return false;
+    }
+    if is_text(t) {
+        return match decode_text(t, data) {
+            Word::Takes(_) => true,
+            Word::Fails(_) => false,
+        };
+    }
+    data.len() == size_of(t)
 }
 
 fn encode_text(t: u64, word: u64, part: &[u8], out: &mut [u8]) -> Encoded

@@ -9,6 +9,7 @@ pub use codec::decode_word;
 pub use codec::encode_word;
 pub use codec::fits;
 pub use codec::is_text;
+pub use codec::is_value;
 pub use codec::size_of;
 pub use object_value::from_word;
 pub use object_value::to_word;

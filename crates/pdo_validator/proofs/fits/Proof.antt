@@ -1,0 +1,29 @@
+-- `pdo_validator::fits` meets its contract. Assumes nothing.
+use mathlib.Core.Path.{_≡_, sym, ap, _∙_}
+use borrow.Author.Tests.{le-leb, lt-leb}
+use Rattle.pdo_validator.specs.Counting.{within}
+use native.Mathlib.Omega.{arith}
+use borrow.Author.Needs.{needs}
+use Rattle.pdo_validator.proofs.fits.Statement.{statement}
+use Rattle.pdo_validator.proofs.fits.Tie as tie
+
+enum-told : tie.Need-enum-told
+enum-told c = search needs
+
+enum-known-ends : tie.Need-enum-known-ends
+enum-known-ends c = search needs
+
+returns : tie.Need-returns
+returns c =
+    let l = c .before .before .args .limit in ap (within l) (sym (c .enum-told .given .1))
+
+returns-2 : tie.Need-returns-2
+returns-2 c =
+    simp (c .before .before .ends .given .1, le-leb _ _ (c .if1 .taken))
+
+returns-3 : tie.Need-returns-3
+returns-3 c =
+    simp (c .before .before .ends .given .1, lt-leb _ _ (c .if1 .left))
+
+pub fits-spec : {M : Type 1} → statement M
+fits-spec = tie.close (tie.spec enum-told enum-known-ends returns returns-2 returns-3)

@@ -1,0 +1,18 @@
+-- `pdo_validator::is_mapping` meets its contract. Assumes nothing.
+use mathlib.Core.Path.{_≡_, ap}
+use mathlib.Core.Bool.{_||_}
+use Rattle.pdo_validator.specs.Counting.{receives}
+use native.Mathlib.Omega.{arith}
+use borrow.Author.Needs.{needs}
+use Rattle.pdo_validator.proofs.is_mapping.Statement.{statement}
+use Rattle.pdo_validator.proofs.is_mapping.Tie as tie
+
+is-sent-requires : tie.Need-is-sent-requires
+is-sent-requires c κs = search needs
+
+returns : tie.Need-returns
+returns c =
+    ap (λ b. receives (c .before .args .index) || b) (c .is-sent .ensures)
+
+pub is-mapping-spec : {M : Type 1} → statement M
+is-mapping-spec = tie.close (tie.spec is-sent-requires returns)
