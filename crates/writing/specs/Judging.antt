@@ -1,0 +1,79 @@
+-- What a write comes to, before anything is stored: RULES.md 8.
+-- Assumes nothing.
+use Prim.Native.Nat.{ℕ}
+use mathlib.Core.Bool.{Bool, cond, not, _&&_, _||_}
+use mathlib.Core.List.{List, [], _∷_}
+use lib.Dec.{eqb, leb, ltb}
+use lib.ListN.{getD, length}
+use Rattle.lists.specs.Numbers.{number}
+use Rattle.answers.specs.declared.Refusal.{Refusal}
+use Rattle.answers.specs.declared.Refusal.the-variants.{BadValue, ObjectNotFound, SubObjectNotFound, TypeMismatch, ReadOnly, BadSignature, NoStorage, CountNotWritable, TooLong}
+use Rattle.value.specs.Codec.{isText, exact}
+use Rattle.entry.specs.Table.{Dict, accessAt, typeAt, roomAt}
+use Rattle.entry.specs.Find.{findRow, subAt}
+use Rattle.entry.specs.declared.Found.{Found}
+use Rattle.entry.specs.declared.Found.the-variants.{At, Nothing}
+use Rattle.entry.specs.declared.Place.{Place}
+use Rattle.entry.specs.declared.Place.the-variants.{NoObject, NoSub, Count, Value}
+use Rattle.od.specs.declared.Answer.{Answer}
+use Rattle.od.specs.declared.Answer.the-variants as answer
+use Rattle.pdo_validator.specs.Counting.{isMapping, countOf}
+use Rattle.writing.specs.declared.Judged.{Judged}
+use Rattle.writing.specs.declared.Judged.the-variants.{Put, Kept, Save, Restore, Refused}
+
+-- R8.2: "save" and "load", as the numbers of their bytes
+abbrev pub save : ℕ
+save = number (0x73 ∷ 0x61 ∷ 0x76 ∷ 0x65 ∷ [])
+
+abbrev pub load : ℕ
+load = number (0x6C ∷ 0x6F ∷ 0x61 ∷ 0x64 ∷ [])
+
+-- the value is exactly that VisibleString, and the sub-index above 0
+unfoldable pub signedBy : ℕ → ℕ → ℕ → List ℕ → Bool
+signedBy signature sub t s = (eqb t 11 && (ltb 0 sub && eqb (length s) 4)) && eqb (number s) signature
+
+-- the command that it gives, with a store of n bytes
+unfoldable pub commandOf : ℕ → Judged → ℕ → ℕ → ℕ → List ℕ → Judged
+commandOf signature command n sub t s =
+    cond (signedBy signature sub t s) (cond (ltb n 2) (Refused NoStorage) command) (Refused BadSignature)
+
+-- R8.1, 7 and 8: place, then type, then room
+unfoldable pub atValue : List ℕ → ℕ → ℕ → List ℕ → Judged
+atValue slots p t s =
+    cond (eqb (typeAt slots p) t)
+    (cond (isText t && ltb (roomAt slots p) (length s)) (Refused TooLong) (Put p))
+    (Refused TypeMismatch)
+
+abbrev pub inPlace : Dict → ℕ → ℕ → List ℕ → Place → Judged
+inPlace d x t s NoObject = Refused ObjectNotFound
+inPlace d x t s NoSub = Refused SubObjectNotFound
+inPlace d x t s (Count n) = cond (isMapping x) Kept (Refused CountNotWritable)
+inPlace d x t s (Value p) = atValue (d .slots) p t s
+
+-- 5 and 6: object, then access, of which ReadOnly is 0 and Constant 5
+abbrev pub inObject : Dict → ℕ → ℕ → ℕ → List ℕ → Found → Judged
+inObject d x sub t s (At i) =
+    cond (eqb (accessAt (d .objects) i) 0 || eqb (accessAt (d .objects) i) 5)
+    (Refused ReadOnly)
+    (inPlace d x t s (subAt (d .objects) i sub))
+inObject d x sub t s Nothing = Refused ObjectNotFound
+
+-- 4: a mapping's count comes before object and access
+unfoldable pub countFirst : Dict → ℕ → ℕ → ℕ → List ℕ → Answer
+countFirst d x sub t s =
+    cond (eqb sub 0 && isMapping x) (cond (eqb t 5) (countOf d x (getD s 0 0)) (answer.Refused TypeMismatch)) answer.Done
+
+abbrev pub afterCount : Answer → Judged → Judged
+afterCount answer.Done next = next
+afterCount (answer.Refused r) next = Refused r
+
+-- 2 to 8, of a dictionary that was judged and a store of n bytes
+unfoldable pub judgeOf : Dict → ℕ → ℕ → ℕ → ℕ → List ℕ → Judged
+judgeOf d n x sub t s =
+    cond (exact t s)
+    (cond (eqb x 0x1010)
+    (commandOf save Save n sub t s)
+    (cond (eqb x 0x1011)
+    (commandOf load Restore n sub t s)
+    (afterCount (countFirst d x sub t s) (inObject d x sub t s (findRow (d .objects) x)))))
+    (Refused BadValue)

@@ -1,0 +1,163 @@
+// The judging half of a write: it stores nothing.
+ghost use mathlib.Core.Path.{_≡_};
+ghost use mathlib.Core.Bool.{true};
+ghost use Prim.Native.Nat.{_<_, _≤_};
+ghost use lib.ListN.{length};
+ghost use Rattle.entry.specs.Table.{dict, slotEnd};
+ghost use Rattle.value.specs.Codec.{exact};
+ghost use Rattle.entry.specs.Find.{findRow};
+ghost use Rattle.entry.specs.Judge.{wellFormed};
+ghost use Rattle.entry.specs.declared.Found.the-variants.{At};
+ghost use Rattle.writing.specs.Judging.{signedBy, commandOf, atValue, inObject, countFirst, judgeOf};
+use crate::Judged;
+use answers::Refusal;
+use entry::Found;
+use entry::Place;
+use od::Answer;
+
+// The bytes of "save" and of "load".
+const SAVE: u64 = 0x6576_6173;
+
+const LOAD: u64 = 0x6461_6F6C;
+
+fn is_signed(signature: u64, sub: u8, t: u64, data: &[u8]) -> bool
+    ensures { λ r. ⌜ r ≡ signedBy signature sub t (now («data» .entry)) ⌝ }
+{
+    if (t == 11) & ((0 < sub) & (data.len() == 4)) {
+        return lists::number(data, 0, 4) == signature;
+    }
+    false
+}
+
+// A command, where its signature is given and there is a store.
+fn command(signature: u64, given: Judged, store: usize, sub: u8, t: u64, data: &[u8]) -> Judged
+    ensures { λ r. ⌜ r ≡ commandOf signature given store sub t (now («data» .entry)) ⌝ }
+{
+    if !is_signed(signature, sub, t, data) {
+        return Judged::Refused(Refusal::BadSignature);
+    }
+    if store < 2 {
+        return Judged::Refused(Refusal::NoStorage);
+    }
+    given
+}
+
+// At value p: type, then room.
+fn at_value(slots: &[u64], p: usize, t: u64, data: &[u8]) -> Judged
+    requires { ⌜ (p < 6144) × (slotEnd p ≤ length (now slots)) ⌝ }
+    ensures { λ r. ⌜ r ≡ atValue (now (slots .entry)) p t (now («data» .entry)) ⌝ }
+{
+    if entry::type_at(slots, p) != t {
+        return Judged::Refused(Refusal::TypeMismatch);
+    }
+    let room = entry::room_at(slots, p);
+    if value::is_text(t) & (room < data.len() as u64) {
+        return Judged::Refused(Refusal::TooLong);
+    }
+    Judged::Put(p)
+}
+
+// In row i: access, then place.
+fn in_row(
+    objects: &[u64],
+    slots: &[u64],
+    words: &[u64],
+    bytes: &[u8],
+    i: usize,
+    index: u16,
+    sub: u8,
+    t: u64,
+    data: &[u8],
+) -> Judged
+    requires { ⌜ wellFormed (dict (now objects) (now slots) (now words) (now bytes)) ≡ true ⌝ }
+    requires { ⌜ findRow (now objects) index ≡ At i ⌝ }
+    ensures { λ r. ⌜ r ≡ inObject (dict (now (objects .entry)) (now (slots .entry)) (now (words .entry)) (now (bytes .entry))) index sub t (now («data» .entry)) (At i) ⌝ }
+{
+    let access = entry::access_at(objects, i);
+    if (access == 0) | (access == 5) {
+        return Judged::Refused(Refusal::ReadOnly);
+    }
+    match entry::sub_at(objects, i, sub) {
+        Place::NoObject => Judged::Refused(Refusal::ObjectNotFound),
+        Place::NoSub => Judged::Refused(Refusal::SubObjectNotFound),
+        Place::Count(_) => if pdo_validator::is_mapping(index) {
+            Judged::Kept
+        } else {
+            Judged::Refused(Refusal::CountNotWritable)
+        },
+        Place::Value(p) => at_value(slots, p, t, data),
+    }
+}
+
+fn in_object(
+    objects: &[u64],
+    slots: &[u64],
+    words: &[u64],
+    bytes: &[u8],
+    index: u16,
+    sub: u8,
+    t: u64,
+    data: &[u8],
+) -> Judged
+    requires { ⌜ wellFormed (dict (now objects) (now slots) (now words) (now bytes)) ≡ true ⌝ }
+    ensures { λ r. ⌜ r ≡ inObject (dict (now (objects .entry)) (now (slots .entry)) (now (words .entry)) (now (bytes .entry))) index sub t (now («data» .entry)) (findRow (now (objects .entry)) index) ⌝ }
+{
+    let Found::At(i) = entry::find(objects, index) else {
+        return Judged::Refused(Refusal::ObjectNotFound);
+    };
+    in_row(objects, slots, words, bytes, i, index, sub, t, data)
+}
+
+// The count of a mapping; Done elsewhere.
+fn count_first(
+    objects: &[u64],
+    slots: &[u64],
+    words: &[u64],
+    bytes: &[u8],
+    index: u16,
+    sub: u8,
+    t: u64,
+    data: &[u8],
+) -> Answer
+    requires { ⌜ wellFormed (dict (now objects) (now slots) (now words) (now bytes)) ≡ true ⌝ }
+    requires { ⌜ exact t (now «data») ≡ true ⌝ }
+    ensures { λ r. ⌜ r ≡ countFirst (dict (now (objects .entry)) (now (slots .entry)) (now (words .entry)) (now (bytes .entry))) index sub t (now («data» .entry)) ⌝ }
+{
+    if (sub == 0) & pdo_validator::is_mapping(index) {
+        if t != 5 {
+            return Answer::Refused(Refusal::TypeMismatch);
+        }
+        return pdo_validator::judge_count(objects, slots, words, bytes, index, data[0]);
+    }
+    Answer::Done
+}
+
+// What a write comes to, on a dictionary that was judged and with a store of so many bytes.
+pub fn judge_write(
+    objects: &[u64],
+    slots: &[u64],
+    words: &[u64],
+    bytes: &[u8],
+    store: usize,
+    index: u16,
+    sub: u8,
+    t: u64,
+    data: &[u8],
+) -> Judged
+    requires { ⌜ wellFormed (dict (now objects) (now slots) (now words) (now bytes)) ≡ true ⌝ }
+    ensures { λ r. ⌜ r ≡ judgeOf (dict (now (objects .entry)) (now (slots .entry)) (now (words .entry)) (now (bytes .entry))) store index sub t (now («data» .entry)) ⌝ }
+{
+    if !value::is_value(t, data) {
+        return Judged::Refused(Refusal::BadValue);
+    }
+    if index == 0x1010 {
+        return command(SAVE, Judged::Save, store, sub, t, data);
+    }
+    if index == 0x1011 {
+        return command(LOAD, Judged::Restore, store, sub, t, data);
+    }
+    match count_first(objects, slots, words, bytes, index, sub, t, data) {
+        Answer::Done => in_object(objects, slots, words, bytes, index, sub, t, data),
+        Answer::Refused(r) => Judged::Refused(r),
+    }
+}

@@ -1,0 +1,14 @@
+// Writing a value: judged wholly before anything is stored.
+mod judging;
+
+use answers::Refusal;
+pub use judging::judge_write;
+
+// What a write comes to: a value put at a slot, a count that is accepted and not kept, a command, or a refusal.
+pub enum Judged {
+    Put(usize),
+    Kept,
+    Save,
+    Restore,
+    Refused(Refusal),
+}
