@@ -1,0 +1,4 @@
+pub mod ImageLaws
+pub mod OfferLaws
+pub mod WalkLaws
+pub mod SaveLaws

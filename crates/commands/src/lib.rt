@@ -1,0 +1,12 @@
+// Saving the dictionary's values into the lent store.
+mod laying;
+mod offering;
+mod saving;
+
+use answers::Refusal;
+pub use saving::save;
+
+pub enum Saved {
+    Done,
+    Refused(Refusal),
+}
