@@ -1,8 +1,10 @@
 // Writing a value: judged wholly before anything is stored.
 mod judging;
+mod writing;
 
 use answers::Refusal;
 pub use judging::judge_write;
+pub use writing::write;
 
 // What a write comes to: a value put at a slot, a count that is accepted and not kept, a command, or a refusal.
 pub enum Judged {
@@ -10,5 +12,11 @@ pub enum Judged {
     Kept,
     Save,
     Restore,
+    Refused(Refusal),
+}
+
+pub enum Wrote {
+    Done,
+    RestoreRequested,
     Refused(Refusal),
 }

@@ -1,0 +1,129 @@
+-- Where a write puts a value, the value is of its type and fits its room; so a write keeps a dictionary well-formed.
+-- Assumes nothing.
+use mathlib.Core.Path.{_≡_, refl, sym, ap, _∙_}
+use mathlib.Core.Bool.{Bool, true, false, cond, _&&_, _||_}
+use mathlib.Core.List.{List}
+use Prim.Native.Nat.{ℕ, _<_, _≤_}
+use native.Mathlib.Omega.{arith}
+use borrow.Author.Tests.{eqb-true, ltb-false, le-ltb}
+use lib.Dec.{eqb, leb, ltb}
+use lib.ListN.{length, getD, take}
+use Rattle.lists.specs.Numbers.{number}
+use Rattle.answers.specs.declared.Refusal.the-variants.{BadValue, ReadOnly, TypeMismatch, TooLong, NoStorage, BadSignature, CountNotWritable}
+use Rattle.value.specs.Codec.{isText, sizeOf, takes, textWord, wordAt, exact}
+use Rattle.value.specs.declared.Word.the-variants.{Takes}
+use Rattle.value.proofs.CodecLaws.{text-taken}
+use Rattle.entry.specs.Table.{Dict, accessAt, typeAt, roomAt}
+use Rattle.entry.specs.Find.{findRow, subAt, placeOf, onRow}
+use Rattle.entry.specs.Judge.{wellFormed}
+use Rattle.entry.specs.declared.Found.{Found}
+use Rattle.entry.specs.declared.Found.the-variants.{At, Nothing}
+use Rattle.entry.specs.declared.Place.{Place}
+use Rattle.entry.specs.declared.Place.the-variants.{NoObject, NoSub, Count, Value}
+use Rattle.entry.proofs.JudgeLaws.{and-true}
+use Rattle.entry.proofs.ValueLaws.{ValueFacts, element-of, element-facts}
+use Rattle.entry.proofs.KeepLaws.{Fits}
+use Rattle.od.specs.declared.Answer.{Answer}
+use Rattle.od.specs.declared.Answer.the-variants as answer
+use Rattle.pdo_validator.specs.Counting.{isMapping}
+use Rattle.writing.specs.declared.Judged.{Judged}
+use Rattle.writing.specs.declared.Judged.the-variants.{Put, Kept, Save, Restore, Refused}
+use Rattle.writing.specs.Judging.{save, load, signedBy, commandOf, atValue, inPlace, inObject, countFirst, afterCount, judgeOf}
+
+-- ---- the word that a value takes
+abbrev pub wordOf : ℕ → List ℕ → ℕ
+wordOf t s = cond (isText t) (length s) (number (take (sizeOf t) s))
+
+pub exact-taken : (t : ℕ) (s : List ℕ) → exact t s ≡ true → wordAt t s ≡ Takes (wordOf t s)
+unfolding exact wordAt
+exact-taken t s e = go (isText t) refl (and-true (leb t 20) _ e .1)
+  where
+    go : (b : Bool) → isText t ≡ b → cond b (takes (textWord t s)) (eqb (length s) (sizeOf t)) ≡ true → wordAt t s ≡ Takes (wordOf t s)
+    go true q h = rw q (text-taken t s h)
+    go false q h =
+        let l : ltb (length s) (sizeOf t) ≡ false = le-ltb (length s) (sizeOf t) (omega (arith, eqb-true (length s) (sizeOf t) h)) in
+        rw (q, l)
+
+-- ---- what a put comes from
+pub record Placed (d : Dict) (x sub t : ℕ) (s : List ℕ) (p : ℕ) : Type 0 where
+  pub place : placeOf (d .objects) x sub ≡ Value p
+  pub typed : typeAt (d .slots) p ≡ t
+  pub room : isText t ≡ true → length s ≤ roomAt (d .slots) p
+
+value-placed : (slots : List ℕ) (q t : ℕ) (s : List ℕ) (p : ℕ) → atValue slots q t s ≡ Put p → (q ≡ p) × (typeAt slots q ≡ t) × (isText t ≡ true → length s ≤ roomAt slots q)
+unfolding atValue
+value-placed slots q t s p e = typed (eqb (typeAt slots q) t) refl e
+  where
+    roomy : (b : Bool) → (isText t && ltb (roomAt slots q) (length s)) ≡ b → cond b (Refused TooLong) (Put q) ≡ Put p → typeAt slots q ≡ t → (q ≡ p) × (typeAt slots q ≡ t) × (isText t ≡ true → length s ≤ roomAt slots q)
+    roomy true h e k = let z : _≡_ {A = ℕ} 0 1 = cc in absurd (omega arith)
+    roomy false h e k = ((cc), k, λ i. ltb-false (roomAt slots q) (length s) (sym (ap (λ b. b && ltb (roomAt slots q) (length s)) i) ∙ h))
+
+    typed : (b : Bool) → eqb (typeAt slots q) t ≡ b → cond b (cond (isText t && ltb (roomAt slots q) (length s)) (Refused TooLong) (Put q)) (Refused TypeMismatch) ≡ Put p → (q ≡ p) × (typeAt slots q ≡ t) × (isText t ≡ true → length s ≤ roomAt slots q)
+    typed true h e = roomy (isText t && ltb (roomAt slots q) (length s)) refl e (eqb-true _ _ h)
+    typed false h e = let z : _≡_ {A = ℕ} 0 1 = cc in absurd (omega arith)
+
+object-placed : (d : Dict) (x sub t : ℕ) (s : List ℕ) (p : ℕ) → inObject d x sub t s (findRow (d .objects) x) ≡ Put p → Placed d x sub t s p
+object-placed d x sub t s p e = row (findRow (d .objects) x) refl e
+  where
+    counted : (b : Bool) → cond b Kept (Refused CountNotWritable) ≡ Put p → Placed d x sub t s p
+    counted true e = let z : _≡_ {A = ℕ} 0 1 = cc in absurd (omega arith)
+    counted false e = let z : _≡_ {A = ℕ} 0 1 = cc in absurd (omega arith)
+
+    place : (q : Place) → placeOf (d .objects) x sub ≡ q → inPlace d x t s q ≡ Put p → Placed d x sub t s p
+    place NoObject h e = let z : _≡_ {A = ℕ} 0 1 = cc in absurd (omega arith)
+    place NoSub h e = let z : _≡_ {A = ℕ} 0 1 = cc in absurd (omega arith)
+    place (Count n) h e = counted (isMapping x) e
+    place (Value q) h e =
+        let v = value-placed (d .slots) q t s p e in
+        record { place = h ∙ ap Value (v .0); typed = sym (ap (typeAt (d .slots)) (v .0)) ∙ v .1; room = rw (v .0) at (v .2) }
+
+    allowed : (i : ℕ) → findRow (d .objects) x ≡ At i → (b : Bool) → cond b (Refused ReadOnly) (inPlace d x t s (subAt (d .objects) i sub)) ≡ Put p → Placed d x sub t s p
+    allowed i f true e = let z : _≡_ {A = ℕ} 0 1 = cc in absurd (omega arith)
+    allowed i f false e = place (subAt (d .objects) i sub) (ap (onRow (d .objects) sub) f) e
+
+    row : (f : Found) → findRow (d .objects) x ≡ f → inObject d x sub t s f ≡ Put p → Placed d x sub t s p
+    row (At i) f e = allowed i f (eqb (accessAt (d .objects) i) 0 || eqb (accessAt (d .objects) i) 5) e
+    row Nothing f e = let z : _≡_ {A = ℕ} 0 1 = cc in absurd (omega arith)
+
+no-command : (signature : ℕ) (c : Judged) (n sub t : ℕ) (s : List ℕ) (p : ℕ) → commandOf signature c n sub t s ≡ Put p → c ≡ Put p
+unfolding commandOf
+no-command signature c n sub t s p e = signed (signedBy signature sub t s) e
+  where
+    stored : (b : Bool) → cond b (Refused NoStorage) c ≡ Put p → c ≡ Put p
+    stored true e = let z : _≡_ {A = ℕ} 0 1 = cc in absurd (omega arith)
+    stored false e = e
+
+    signed : (b : Bool) → cond b (cond (ltb n 2) (Refused NoStorage) c) (Refused BadSignature) ≡ Put p → c ≡ Put p
+    signed true e = stored (ltb n 2) e
+    signed false e = let z : _≡_ {A = ℕ} 0 1 = cc in absurd (omega arith)
+
+pub judged-put : (d : Dict) (n x sub t : ℕ) (s : List ℕ) (p : ℕ) → judgeOf d n x sub t s ≡ Put p → (exact t s ≡ true) × Placed d x sub t s p
+unfolding judgeOf
+judged-put d n x sub t s p e = right (exact t s) refl e
+  where
+    counted : (a : Answer) → afterCount a (inObject d x sub t s (findRow (d .objects) x)) ≡ Put p → Placed d x sub t s p
+    counted answer.Done e = object-placed d x sub t s p e
+    counted (answer.Refused r) e = let z : _≡_ {A = ℕ} 0 1 = cc in absurd (omega arith)
+
+    loads : (b : Bool) → cond b (commandOf load Restore n sub t s) (afterCount (countFirst d x sub t s) (inObject d x sub t s (findRow (d .objects) x))) ≡ Put p → Placed d x sub t s p
+    loads true e = let c = no-command load Restore n sub t s p e in let z : _≡_ {A = ℕ} 0 1 = cc in absurd (omega arith)
+    loads false e = counted (countFirst d x sub t s) e
+
+    saves : (b : Bool) → cond b (commandOf save Save n sub t s) (cond (eqb x 0x1011) (commandOf load Restore n sub t s) (afterCount (countFirst d x sub t s) (inObject d x sub t s (findRow (d .objects) x)))) ≡ Put p → Placed d x sub t s p
+    saves true e = let c = no-command save Save n sub t s p e in let z : _≡_ {A = ℕ} 0 1 = cc in absurd (omega arith)
+    saves false e = loads (eqb x 0x1011) e
+
+    right : (b : Bool) → exact t s ≡ b → cond b (cond (eqb x 0x1010) (commandOf save Save n sub t s) (cond (eqb x 0x1011) (commandOf load Restore n sub t s) (afterCount (countFirst d x sub t s) (inObject d x sub t s (findRow (d .objects) x))))) (Refused BadValue) ≡ Put p → (exact t s ≡ true) × Placed d x sub t s p
+    right true h e = (h, saves (eqb x 0x1010) e)
+    right false h e = let z : _≡_ {A = ℕ} 0 1 = cc in absurd (omega arith)
+
+-- so it fits
+pub judged-fits : (d : Dict) (n x sub t : ℕ) (s : List ℕ) (p : ℕ) → judgeOf d n x sub t s ≡ Put p → Fits d p s (wordOf t s)
+judged-fits d n x sub t s p e =
+    let j = judged-put d n x sub t s p e in
+    let k = j .1 .typed in
+    record { taken = rw k (exact-taken t s (j .0)); room = λ h. j .1 .room (sym (ap isText k) ∙ h) }
+
+-- and its facts are those of an element
+pub judged-facts : (d : Dict) → wellFormed d ≡ true → (n x sub t : ℕ) (s : List ℕ) (p : ℕ) → judgeOf d n x sub t s ≡ Put p → ValueFacts d p
+judged-facts d w n x sub t s p e = element-facts d w (element-of d w x sub p (judged-put d n x sub t s p e .1 .place))

@@ -1,0 +1,23 @@
+-- `writing::writing::saved` meets its contract. Assumes nothing.
+use mathlib.Core.Path.{_≡_, sym, ap}
+use Rattle.writing.specs.Writing.{savedAs}
+use native.Mathlib.Omega.{arith}
+use borrow.Author.Needs.{needs}
+use Rattle.writing.proofs.writing.saved.Statement.{statement}
+use Rattle.writing.proofs.writing.saved.Tie as tie
+
+enum-told : tie.Need-enum-told
+enum-told c = search needs
+
+enum-known-a : tie.Need-enum-known-a
+enum-known-a c = search needs
+
+returns : tie.Need-returns
+returns c = search needs
+
+returns-2 : tie.Need-returns-2
+returns-2 c =
+    ap savedAs (sym (c .before .a .given .1))
+
+pub saved-spec : {M : Type 1} → statement M
+saved-spec = tie.close (tie.spec enum-told enum-known-a returns returns-2)

@@ -1,0 +1,46 @@
+-- Writing: RULES.md 8. What was judged, and what it does.
+-- Assumes nothing.
+use Prim.Native.Nat.{ℕ}
+use mathlib.Core.Bool.{cond}
+use mathlib.Core.List.{List}
+use lib.ListN.{length}
+use Rattle.answers.specs.declared.Refusal.the-variants.{Malformed}
+use Rattle.entry.specs.Table.{Dict}
+use Rattle.entry.specs.Put.{contents, putIn}
+use Rattle.entry.specs.Judge.{wellFormed}
+use Rattle.commands.specs.Save.{saveOf}
+use Rattle.commands.specs.declared.Saved.{Saved}
+use Rattle.commands.specs.declared.Saved.the-variants as saved
+use Rattle.writing.specs.declared.Judged.{Judged}
+use Rattle.writing.specs.declared.Judged.the-variants as judged
+use Rattle.writing.specs.declared.Wrote.{Wrote}
+use Rattle.writing.specs.declared.Wrote.the-variants.{Done, RestoreRequested, Refused}
+use Rattle.writing.specs.Judging.{judgeOf}
+
+-- an answer, and what was lent after it
+pub record After : Type 0 where
+  pub answer : Wrote
+  pub words : List ℕ
+  pub bytes : List ℕ
+  pub store : List ℕ
+
+abbrev pub after : Wrote → List ℕ → List ℕ → List ℕ → After
+after a ws bs st = record { answer = a; words = ws; bytes = bs; store = st }
+
+abbrev pub savedAs : Saved → Wrote
+savedAs saved.Done = Done
+savedAs (saved.Refused r) = Refused r
+
+-- R8.2 and R8.3: "Else the value is put"; "the store only by a save"
+unfoldable pub actOf : Dict → List ℕ → ℕ → List ℕ → Judged → After
+actOf d store sub s (judged.Put p) = let c = putIn (d .slots) (contents (d .words) (d .bytes)) p s in after Done (c .words) (c .bytes) store
+actOf d store sub s judged.Kept = after Done (d .words) (d .bytes) store
+actOf d store sub s judged.Save = let a = saveOf d sub store in after (savedAs (a .answer)) (d .words) (d .bytes) (a .store)
+actOf d store sub s judged.Restore = after RestoreRequested (d .words) (d .bytes) store
+actOf d store sub s (judged.Refused r) = after (Refused r) (d .words) (d .bytes) store
+
+unfoldable pub writeOf : Dict → List ℕ → ℕ → ℕ → ℕ → List ℕ → After
+writeOf d store x sub t s =
+    cond (wellFormed d)
+    (actOf d store sub s (judgeOf d (length store) x sub t s))
+    (after (Refused Malformed) (d .words) (d .bytes) store)

@@ -1,0 +1,50 @@
+// The act of a write.
+ghost use mathlib.Core.Path.{_≡_};
+ghost use mathlib.Core.Bool.{true};
+ghost use Rattle.entry.specs.Table.{dict};
+ghost use Rattle.entry.specs.Judge.{wellFormed};
+ghost use Rattle.commands.specs.Save.{saveOf};
+ghost use Rattle.writing.specs.Writing.{after, savedAs, writeOf};
+use crate::Judged;
+use crate::Wrote;
+use answers::Refusal;
+use commands::Saved;
+
+fn saved(a: Saved) -> Wrote
+    ensures { λ r. ⌜ r ≡ savedAs a ⌝ }
+{
+    match a {
+        Saved::Done => Wrote::Done,
+        Saved::Refused(r) => Wrote::Refused(r),
+    }
+}
+
+// Writes a value, given as its type and its encoding; at 1010h saves and at 1011h asks for a restore. A refusal changes nothing.
+pub fn write(
+    objects: &[u64],
+    slots: &[u64],
+    words: &mut [u64],
+    bytes: &mut [u8],
+    store: &mut [u8],
+    index: u16,
+    sub: u8,
+    t: u64,
+    data: &[u8],
+) -> Wrote
+    ensures { λ r. ⌜ after r (now (words .exit)) (now (bytes .exit)) (now (store .exit)) ≡ writeOf (dict (now (objects .entry)) (now (slots .entry)) (now (words .entry)) (now (bytes .entry))) (now (store .entry)) index sub t (now («data» .entry)) ⌝ }
+{
+    if !entry::well_formed(objects, slots, words, bytes) {
+        return Wrote::Refused(Refusal::Malformed);
+    }
+    let size = store.len();
+    match crate::judging::judge_write(objects, slots, words, bytes, size, index, sub, t, data) {
+        Judged::Put(p) => {
+            entry::put_value(slots, words, bytes, p, data);
+            Wrote::Done
+        }
+        Judged::Kept => Wrote::Done,
+        Judged::Save => saved(commands::save(objects, slots, words, bytes, sub, store)),
+        Judged::Restore => Wrote::RestoreRequested,
+        Judged::Refused(r) => Wrote::Refused(r),
+    }
+}
