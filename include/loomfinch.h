@@ -20,9 +20,18 @@ enum {
     LOOMFINCH_OBJECT_NOT_FOUND = 3,
     LOOMFINCH_SUB_OBJECT_NOT_FOUND = 4,
     LOOMFINCH_TYPE_MISMATCH = 5,
+    LOOMFINCH_READ_ONLY = 6,
+    LOOMFINCH_BAD_SIGNATURE = 7,
+    LOOMFINCH_NO_STORAGE = 8,
+    LOOMFINCH_COUNT_NOT_WRITABLE = 9,
+    LOOMFINCH_MISSING_ENTRIES = 10,
+    LOOMFINCH_PDO_MAP_OVERRUN = 11,
     LOOMFINCH_BUFFER_TOO_SHORT = 12,
+    LOOMFINCH_TOO_LONG = 13,
     LOOMFINCH_OCCUPIED = 16,
-    LOOMFINCH_FULL = 17
+    LOOMFINCH_FULL = 17,
+    LOOMFINCH_STORE_FULL = 18,
+    LOOMFINCH_RESTORE_REQUESTED = 19 /* no refusal */
 };
 
 /* How many numbers a call needs room for. */
@@ -35,6 +44,9 @@ enum { LOOMFINCH_DECODE_NUMBERS = 7, LOOMFINCH_FROM_U64_NUMBERS = 9, LOOMFINCH_R
 
 /* The most that a dictionary has of each. */
 enum { LOOMFINCH_MOST_OBJECTS = 1024, LOOMFINCH_MOST_VALUES = 6144, LOOMFINCH_MOST_BYTES = 32768 };
+
+/* The longest stored image: a store of so many bytes is full by its own bounds only. */
+enum { LOOMFINCH_MOST_STORED = 32770 };
 
 /* Decodes the value of type 0..20 that the data begins with.
  * Answers 2 for no such type; 5 for a VisibleString that is not UTF-8 or a UnicodeString of an odd count; 12 for fewer bytes
@@ -123,6 +135,26 @@ uint64_t loomfinch_get_configured_cns(const uint64_t *objects, size_t objects_le
 uint64_t loomfinch_increment_counter(const uint64_t *objects, size_t objects_len, const uint64_t *slots, size_t slots_len,
                                      uint64_t *words, size_t words_len, const uint8_t *bytes, size_t bytes_len, uint16_t index,
                                      uint8_t sub_index);
+
+/* Writes a value, given as its type and its encoding. The store is lent memory that keeps an image of saved values; a store under
+ * 2 bytes is none. Answers, in this order: 1; 2 where the data is not just a value of the type. At index 1010h: 7 unless it is the
+ * VisibleString "save" at a sub-index above 0; 8 for no store; then the values of the list that the sub-index names are saved, or
+ * 18 where the store cannot hold them. At 1011h likewise with "load", and then 19. Else: 5 for a mapping's count (sub-index 0 of
+ * 1600h..16FFh, 1A00h..1AFFh) that is no Unsigned8, and what loomfinch_validate_pdo_mapping answers for it; 3; 6 for access 0
+ * and 5; 4; 9 for the count of a list that is no mapping; 5 for another type than the one there; 13 for a string longer than its
+ * room.
+ * Done: the value is put, and bytes in its room behind it stay; a mapping's count is accepted and not kept. A refusal and 19
+ * change nothing. */
+uint64_t loomfinch_write(const uint64_t *objects, size_t objects_len, const uint64_t *slots, size_t slots_len, uint64_t *words,
+                         size_t words_len, uint8_t *bytes, size_t bytes_len, uint8_t *store, size_t store_len, uint16_t index,
+                         uint8_t sub_index, uint64_t type_number, const uint8_t *data, size_t data_len);
+
+/* May the first `count` elements of the mapping at an index be used? Answers 1; then 0 for a count of 0 or another index than a
+ * mapping's; 3 where there is no Array; 10 where one of them is missing or no Unsigned64; 11 where one of them ends behind the
+ * Unsigned16 at 1F98h/1 (1A00h..1AFFh) or 1F98h/2 (1600h..16FFh), or behind 1,490 bytes where there is none. */
+uint64_t loomfinch_validate_pdo_mapping(const uint64_t *objects, size_t objects_len, const uint64_t *slots, size_t slots_len,
+                                        const uint64_t *words, size_t words_len, const uint8_t *bytes, size_t bytes_len,
+                                        uint16_t index, uint8_t count);
 
 #ifdef __cplusplus
 }

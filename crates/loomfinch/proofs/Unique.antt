@@ -12,6 +12,7 @@ use Rattle.entry.specs.Table.{Dict}
 use Rattle.od.specs.New.{Made}
 use Rattle.od.specs.Nodes.{Given}
 use Rattle.od.specs.Counter.{Counted}
+use Rattle.writing.specs.Writing.{After as Writing}
 use Rattle.value.proofs.decode.Reads as decode
 use Rattle.value.proofs.decode.Kinds as decode-kinds
 use Rattle.value.proofs.encode.Reads as encode
@@ -48,6 +49,10 @@ use Rattle.od.proofs.get_configured_cns.Reads as get-configured-cns
 use Rattle.od.proofs.get_configured_cns.Kinds as get-configured-cns-kinds
 use Rattle.od.proofs.increment_counter.Reads as increment-counter
 use Rattle.od.proofs.increment_counter.Kinds as increment-counter-kinds
+use Rattle.pdo_validator.proofs.validate_pdo_mapping.Reads as validate-pdo-mapping
+use Rattle.pdo_validator.proofs.validate_pdo_mapping.Kinds as validate-pdo-mapping-kinds
+use Rattle.writing.proofs.write.Reads as write
+use Rattle.writing.proofs.write.Kinds as write-kinds
 
 -- of a contract of n lifetimes, parameters ps and a result r: P relates the arguments, the answer and what is left in what was lent
 abbrev pub Unique : (n : ℕ) (ps : List (PK n)) (r : RK n) → Out n ps r → Type 0
@@ -112,3 +117,9 @@ get-configured-cns-unique κs a z₁ z₂ w₁ w₂ p q = both (λ (x : Given). 
 
 pub increment-counter-unique : Unique 4 increment-counter-kinds.ps increment-counter-kinds.r increment-counter.Post
 increment-counter-unique κs a z₁ z₂ w₁ w₂ p q = both (λ (x : Counted). x .answer) (λ x. (tt, (tt, (x .words, (tt, (tt, (tt, tt))))))) p q
+
+pub validate-pdo-mapping-unique : Unique 4 validate-pdo-mapping-kinds.ps validate-pdo-mapping-kinds.r validate-pdo-mapping.Post
+validate-pdo-mapping-unique κs a z₁ z₂ w₁ w₂ p q = (p ∙ sym q, refl)
+
+pub write-unique : Unique 6 write-kinds.ps write-kinds.r write.Post
+write-unique κs a z₁ z₂ w₁ w₂ p q = both (λ (x : Writing). x .answer) (λ x. (tt, (tt, (x .words, (x .bytes, (x .store, (tt, (tt, (tt, (tt, tt)))))))))) p q

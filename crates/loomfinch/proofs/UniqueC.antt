@@ -1,5 +1,5 @@
 -- The same of each call for C. Assumes nothing.
-use mathlib.Core.Path.{_≡_, refl, ap, _∙_, sym}
+use mathlib.Core.Path.{_≡_, refl, ap, ap₂, _∙_, sym}
 use Rattle.entry.specs.Table.{Dict}
 use Rattle.loomfinch.specs.C.{Lent, Written}
 use Rattle.loomfinch.specs.Dictionary.{Told}
@@ -32,6 +32,10 @@ use Rattle.loomfinch.proofs.dictionary.loomfinch_get_configured_cns.Rea
 use Rattle.loomfinch.proofs.dictionary.loomfinch_get_configured_cns.Kinds as c-get-configured-cns-kinds
 use Rattle.loomfinch.proofs.dictionary.loomfinch_increment_counter.Reads as c-increment-counter
 use Rattle.loomfinch.proofs.dictionary.loomfinch_increment_counter.Kinds as c-increment-counter-kinds
+use Rattle.loomfinch.proofs.storing.loomfinch_write.Reads as c-write
+use Rattle.loomfinch.proofs.storing.loomfinch_write.Kinds as c-write-kinds
+use Rattle.loomfinch.proofs.storing.loomfinch_validate_pdo_mapping.Reads as c-validate-pdo-mapping
+use Rattle.loomfinch.proofs.storing.loomfinch_validate_pdo_mapping.Kinds as c-validate-pdo-mapping-kinds
 
 pub c-decode-unique : Unique 2 c-decode-kinds.ps c-decode-kinds.r c-decode.Post
 c-decode-unique κs a z₁ z₂ w₁ w₂ p q = both (λ (x : Lent). x .answer) (λ x. (tt, (tt, (x .numbers, tt)))) p q
@@ -74,3 +78,13 @@ c-get-configured-cns-unique κs a z₁ z₂ w₁ w₂ p q = both (λ (x : Writte
 
 pub c-increment-counter-unique : Unique 4 c-increment-counter-kinds.ps c-increment-counter-kinds.r c-increment-counter.Post
 c-increment-counter-unique κs a z₁ z₂ w₁ w₂ p q = (p .0 ∙ sym (q .0), ap (λ x. (tt, (tt, (x, (tt, (tt, (tt, tt))))))) (p .1 ∙ sym (q .1)))
+
+pub c-write-unique : Unique 6 c-write-kinds.ps c-write-kinds.r c-write.Post
+c-write-unique κs a z₁ z₂ w₁ w₂ p q =
+    let words = p .1 .0 ∙ sym (q .1 .0) in
+    let bytes = p .1 .1 .0 ∙ sym (q .1 .1 .0) in
+    let store = p .1 .1 .1 ∙ sym (q .1 .1 .1) in
+    (p .0 ∙ sym (q .0), ap₂ (λ x y. (tt, (tt, (x, y)))) words (ap₂ (λ x y. (x, (y, (tt, (tt, (tt, (tt, tt))))))) bytes store))
+
+pub c-validate-pdo-mapping-unique : Unique 4 c-validate-pdo-mapping-kinds.ps c-validate-pdo-mapping-kinds.r c-validate-pdo-mapping.Post
+c-validate-pdo-mapping-unique κs a z₁ z₂ w₁ w₂ p q = (p ∙ sym q, refl)

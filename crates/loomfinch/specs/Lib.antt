@@ -1,2 +1,3 @@
 pub mod C
 pub mod Dictionary
+pub mod Storing

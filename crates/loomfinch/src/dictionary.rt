@@ -14,7 +14,7 @@ use od::Listed;
 use od::Number;
 use od::Stored;
 
-fn number_of(a: Answer) -> u64
+pub fn number_of(a: Answer) -> u64
     ensures { λ r. ⌜ r ≡ answerNumber a ⌝ }
 {
     match a {

@@ -1,6 +1,7 @@
 // The public calls. None has a `requires`: each judges its own input and refuses what breaks a rule.
 mod c;
 mod dictionary;
+mod storing;
 
 pub use insertion::Head;
 pub use insertion::Inserted;
@@ -21,8 +22,11 @@ pub use od::read_u8;
 pub use od::read_u16;
 pub use od::read_u32;
 pub use od::read_u64;
+pub use pdo_validator::validate_pdo_mapping;
 pub use value::Decoded;
 pub use value::Encoded;
 pub use value::ObjectValue;
 pub use value::decode;
 pub use value::encode;
+pub use writing::Wrote;
+pub use writing::write;

@@ -1,0 +1,63 @@
+// Writing and the mapping count, for C.
+ghost use mathlib.Core.Path.{_≡_};
+ghost use Rattle.entry.specs.Table.{dict};
+ghost use Rattle.pdo_validator.specs.Counting.{validOf};
+ghost use Rattle.writing.specs.Writing.{writeOf};
+ghost use Rattle.loomfinch.specs.Dictionary.{answerNumber};
+ghost use Rattle.loomfinch.specs.Storing.{wroteNumber};
+use crate::dictionary::number_of;
+use writing::Wrote;
+
+fn wrote(a: Wrote) -> u64
+    ensures { λ r. ⌜ r ≡ wroteNumber a ⌝ }
+{
+    match a {
+        Wrote::Done => 0,
+        Wrote::RestoreRequested => 19,
+        Wrote::Refused(r) => answers::number(r),
+    }
+}
+
+#[no_mangle]
+pub extern "C" fn loomfinch_write(
+    objects: &[u64],
+    slots: &[u64],
+    words: &mut [u64],
+    bytes: &mut [u8],
+    store: &mut [u8],
+    index: u16,
+    sub_index: u8,
+    type_number: u64,
+    data: &[u8],
+) -> u64
+    ensures answer { λ r. ⌜ r ≡ wroteNumber (writeOf (dict (now (objects .entry)) (now (slots .entry)) (now (words .entry)) (now (bytes .entry))) (now (store .entry)) index «sub_index» «type_number» (now («data» .entry)) .answer) ⌝ }
+    ensures words { λ _. ⌜ now (words .exit) ≡ writeOf (dict (now (objects .entry)) (now (slots .entry)) (now (words .entry)) (now (bytes .entry))) (now (store .entry)) index «sub_index» «type_number» (now («data» .entry)) .words ⌝ }
+    ensures bytes { λ _. ⌜ now (bytes .exit) ≡ writeOf (dict (now (objects .entry)) (now (slots .entry)) (now (words .entry)) (now (bytes .entry))) (now (store .entry)) index «sub_index» «type_number» (now («data» .entry)) .bytes ⌝ }
+    ensures store { λ _. ⌜ now (store .exit) ≡ writeOf (dict (now (objects .entry)) (now (slots .entry)) (now (words .entry)) (now (bytes .entry))) (now (store .entry)) index «sub_index» «type_number» (now («data» .entry)) .store ⌝ }
+{
+    wrote(writing::write(
+        objects,
+        slots,
+        words,
+        bytes,
+        store,
+        index,
+        sub_index,
+        type_number,
+        data,
+    ))
+}
+
+#[no_mangle]
+pub extern "C" fn loomfinch_validate_pdo_mapping(
+    objects: &[u64],
+    slots: &[u64],
+    words: &[u64],
+    bytes: &[u8],
+    index: u16,
+    count: u8,
+) -> u64
+    ensures { λ r. ⌜ r ≡ answerNumber (validOf (dict (now (objects .entry)) (now (slots .entry)) (now (words .entry)) (now (bytes .entry))) index count) ⌝ }
+{
+    number_of(pdo_validator::validate_pdo_mapping(objects, slots, words, bytes, index, count))
+}
