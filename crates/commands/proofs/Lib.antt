@@ -2,3 +2,4 @@ pub mod ImageLaws
 pub mod OfferLaws
 pub mod WalkLaws
 pub mod SaveLaws
+pub mod RightLaws
