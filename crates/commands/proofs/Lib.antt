@@ -3,3 +3,5 @@ pub mod OfferLaws
 pub mod WalkLaws
 pub mod SaveLaws
 pub mod RightLaws
+pub mod ReadLaws
+pub mod TableLaws

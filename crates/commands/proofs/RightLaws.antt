@@ -42,7 +42,7 @@ recs-lower low low′ (r ∷ rs) h e =
     let l : low ≤ keyOf (r .index) (r .sub) = leb-true low (keyOf (r .index) (r .sub)) (a .0) in
     rw (le-leb low′ (keyOf (r .index) (r .sub)) (omega arith)) (a .1)
 
-recs-cons : (low : ℕ) (r : Rec) (rs : List Rec) → low ≤ keyOf (r .index) (r .sub) → RecOk r → recsOk (keyOf (r .index) (r .sub) + 1) rs ≡ true → recsOk low (r ∷ rs) ≡ true
+pub recs-cons : (low : ℕ) (r : Rec) (rs : List Rec) → low ≤ keyOf (r .index) (r .sub) → RecOk r → recsOk (keyOf (r .index) (r .sub) + 1) rs ≡ true → recsOk low (r ∷ rs) ≡ true
 unfolding recsOk
 recs-cons low r rs h o e = rw (le-leb low (keyOf (r .index) (r .sub)) h, rec-make r o) e
 
