@@ -18,9 +18,10 @@ use Rattle.entry.proofs.JudgeLaws.{and-true, head-ok}
 use Rattle.entry.proofs.FactLaws.{row-facts}
 use Rattle.entry.proofs.ApartLaws.{rising}
 use Rattle.entry.proofs.EncodeLaws.{decode-stored}
-use Rattle.commands.specs.Image.{Rec, subIn, offers, recAt, recsIn, offeredFrom, offered, bodies, newTable}
+use Rattle.commands.specs.Image.{Rec, imageOf, subIn, offers, recAt, recsIn, offeredFrom, offered, bodies, newTable}
 use Rattle.commands.specs.Save.{Row, fits}
 use Rattle.commands.specs.Readable.{keyOf, exactly, recOk, recsOk, Right}
+use Rattle.commands.proofs.ImageLaws.{length-image}
 use Rattle.commands.proofs.OfferLaws.{facts, offers-few, row-lies}
 
 -- ---- records
@@ -134,3 +135,7 @@ saved-right d e l store f =
     let a = and-true (leb (length (offered d l)) 2048) _ f in
     let b = and-true (leb (length (bodies (offered d l))) 16384) _ (a .1) in
     record { good = offered-rises d e l; few = leb-true _ _ (a .0); small = leb-true _ _ (b .0) }
+
+-- R10.5: "the largest has 32,770 bytes"
+pub image-small : (rs : List Rec) → Right rs → length (imageOf rs) ≤ 32770
+image-small rs r = omega (arith, length-image rs, r .few, r .small)

@@ -40,10 +40,10 @@ module _ (rs : List Rec) (store : List ℕ) where
 
 module _ (d : Dict) (l : ℕ) (store : List ℕ) where
   -- R10.3: "StoreFull (18), judged before the first byte"
-  pub save-full : fits (newTable d l store) store ≡ false → saveOf d l store ≡ after (Refused StoreFull) store
+  pub save-full : fits (newTable d l store) store ≡ false → saveOf d store l ≡ after (Refused StoreFull) store
   unfolding saveOf
   save-full e = rw e
 
-  pub save-done : fits (newTable d l store) store ≡ true → saveOf d l store ≡ after Done (over store 0 (imageOf (newTable d l store)))
+  pub save-done : fits (newTable d l store) store ≡ true → saveOf d store l ≡ after Done (over store 0 (imageOf (newTable d l store)))
   unfolding saveOf
   save-done e = rw e

@@ -43,7 +43,8 @@ record Head (s : List ℕ) (a : ℕ) (index sub type start len : ℕ) (ys : List
   len-is : field s (a + 6) 2 ≡ len
   rest : drop (a + 8) s ≡ ys
 
-head-is : (s : List ℕ) (a index sub type start len : ℕ) (ys : List ℕ) → drop a s ≡ headOf index sub type start len ++ ys → index < 65536 → sub < 256 → type < 256 → start < 65536 → len < 65536 → Head s a index sub type start len ys
+head-is : (s : List ℕ) (a index sub type start len : ℕ) (ys : List ℕ) → drop a s ≡ headOf index sub type start len ++ ys → index < 65536 → sub < 256
+    → type < 256 → start < 65536 → len < 65536 → Head s a index sub type start len ys
 head-is s a index sub type start len ys e h₁ h₂ h₃ h₄ h₅ =
     let y₅ = bytesOf 2 len ++ ys in
     let y₄ = bytesOf 2 start ++ y₅ in
@@ -97,15 +98,16 @@ reads s b (r ∷ rs) a sum low xs ys e f w g h =
     let c = cons-ok low r rs g in
     let n = length (r .body) in
     let m : length (r .body ++ bodies rs) ≡ n + length (bodies rs) = length-append (r .body) (bodies rs) in
-    let ih : Head s a (r .index) (r .sub) (r .type) sum n (heads (sum + n) rs ++ xs) =
-    head-is s a (r .index) (r .sub) (r .type) sum n (heads (sum + n) rs ++ xs) (e ∙ append-assoc (headOf (r .index) (r .sub) (r .type) sum n) (heads (sum + n) rs) xs) (c .ok .index) (c .ok .sub) (omega (arith, c .ok .type)) (omega arith) (omega arith) in
+    let e′ = e ∙ append-assoc (headOf (r .index) (r .sub) (r .type) sum n) (heads (sum + n) rs) xs in
+    let ih = head-is s a (r .index) (r .sub) (r .type) sum n (heads (sum + n) rs ++ xs) e′ (c .ok .index) (c .ok .sub) (omega (arith, c .ok .type)) (omega arith) (omega arith) in
     let f′ : drop (b + sum) s ≡ r .body ++ (bodies rs ++ ys) = f ∙ append-assoc (r .body) (bodies rs) ys in
     let t : take n (drop (b + sum) s) ≡ r .body = ap (take n) f′ ∙ take-at (r .body) (bodies rs ++ ys) n refl in
     let z : b + sum + n ≡ b + (sum + n) = omega arith in
     let v = reads s b rs (a + 8) (sum + n) (keyOf (r .index) (r .sub) + 1) xs ys (ih .rest) (behind s (r .body) (bodies rs ++ ys) (b + sum) (b + (sum + n)) f′ (omega arith)) (omega arith) (c .more) (omega arith) in
     turn (ih .index-is) (ih .sub-is) (ih .type-is) (ih .start-is) (ih .len-is) t c v (omega arith) (omega arith)
   where
-    turn : field s a 2 ≡ r .index → field s (a + 2) 1 ≡ r .sub → field s (a + 3) 1 ≡ r .type → field s (a + 4) 2 ≡ sum → field s (a + 6) 2 ≡ length (r .body) → take (length (r .body)) (drop (b + sum) s) ≡ r .body
+    turn : field s a 2 ≡ r .index → field s (a + 2) 1 ≡ r .sub → field s (a + 3) 1 ≡ r .type → field s (a + 4) 2 ≡ sum
+        → field s (a + 6) 2 ≡ length (r .body) → take (length (r .body)) (drop (b + sum) s) ≡ r .body
         → Cons low r rs → Reads s (a + 8) b (sum + length (r .body)) (keyOf (r .index) (r .sub) + 1) rs → sum + length (r .body) ≤ 16384 → b + (sum + length (r .body)) ≤ length s → Reads s a b sum low (r ∷ rs)
     turn p₁ p₂ p₃ p₄ p₅ t c v k l =
         let z : b + sum + length (r .body) ≡ b + (sum + length (r .body)) = omega arith in
@@ -177,7 +179,9 @@ holds s h b (suc n) a sum low l m e =
     r : Rec
     r = record { index = indexIn s a; sub = field s (a + 2) 1; type = typeIn s a; body = take (sizeAt s a) (drop (b + sum) s) }
 
-    turn : Placed s a b sum low → exactly (typeIn s a) (take (sizeAt s a) (drop (b + sum) s)) ≡ true → Holds s n (a + 8) b (sum + sizeAt s a) (keyIn s a + 1) (recsAt s n (a + 8) (b + (sum + sizeAt s a))) → Holds s (suc n) a b sum low (r ∷ recsAt s n (a + 8) (b + sum + sizeAt s a))
+    turn : Placed s a b sum low → exactly (typeIn s a) (take (sizeAt s a) (drop (b + sum) s)) ≡ true
+        → Holds s n (a + 8) b (sum + sizeAt s a) (keyIn s a + 1) (recsAt s n (a + 8) (b + (sum + sizeAt s a)))
+        → Holds s (suc n) a b sum low (r ∷ recsAt s n (a + 8) (b + sum + sizeAt s a))
     turn t x w =
         let z : b + sum + sizeAt s a ≡ b + (sum + sizeAt s a) = omega arith in
         let rs = recsAt s n (a + 8) (b + (sum + sizeAt s a)) in

@@ -44,7 +44,7 @@ module _ (d : Dict) (i : ℕ) where
   pub one-head : (k x sub t s len : ℕ) → x ≡ indexAt (d .objects) i → sub ≡ subIn (kindAt (d .objects) i) k → t ≡ typeAt (d .slots) (firstAt (d .objects) i + k)
       → len ≡ length (encodingAt d (firstAt (d .objects) i + k)) → headOf x sub t s len ≡ heads s (recsIn d i 1 k)
   unfolding recsIn heads
-  one-head k x sub t s len a b c e = rw (a, b, c, e) (sym (append-nil (headOf (indexAt (d .objects) i) (subIn (kindAt (d .objects) i) k) (typeAt (d .slots) (firstAt (d .objects) i + k)) s (length (encodingAt d (firstAt (d .objects) i + k))))))
+  one-head k x sub t s len a b c e = rw (a, b, c, e, append-nil)
 
   one-bodies : (k : ℕ) → bodies (recsIn d i 1 k) ≡ encodingAt d (firstAt (d .objects) i + k)
   unfolding recsIn bodies

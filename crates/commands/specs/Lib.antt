@@ -1,3 +1,4 @@
 pub mod Image
 pub mod Save
 pub mod Readable
+pub mod Cases

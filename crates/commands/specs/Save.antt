@@ -27,8 +27,8 @@ abbrev pub after : Saved → List ℕ → After
 after a store = record { answer = a; store = store }
 
 -- "Else the image lies at the store's start and the bytes behind it stay."
-unfoldable pub saveOf : Dict → ℕ → List ℕ → After
-saveOf d l store =
+unfoldable pub saveOf : Dict → List ℕ → ℕ → After
+saveOf d store l =
     let rs = newTable d l store in
     cond (fits rs store) (after Done (over store 0 (imageOf rs))) (after (Refused StoreFull) store)
 

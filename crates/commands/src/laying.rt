@@ -1,11 +1,10 @@
 // The image's parts, laid into the store.
 ghost use mathlib.Core.Path.{_≡_};
 ghost use mathlib.Core.Bool.{true};
-ghost use Prim.Native.Nat.{_+_, _*_, _≤_, _<_};
+ghost use Prim.Native.Nat.{_+_, _*_, _≤_};
 ghost use lib.ListN.{length};
 ghost use Rattle.lists.specs.Lists.{over};
 ghost use Rattle.entry.specs.Table.{dict};
-ghost use Rattle.entry.specs.Encode.{encodingAt};
 ghost use Rattle.entry.specs.Judge.{wellFormed};
 ghost use Rattle.commands.specs.Image.{headOf, recAt, recsIn, offered, heads, bodies};
 ghost use Rattle.commands.specs.Save.{Row};

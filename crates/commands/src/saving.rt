@@ -20,7 +20,7 @@ pub fn save(
     store: &mut [u8],
 ) -> Saved
     requires { ⌜ wellFormed (dict (now objects) (now slots) (now words) (now bytes)) ≡ true ⌝ }
-    ensures { λ r. ⌜ after r (now (store .exit)) ≡ saveOf (dict (now (objects .entry)) (now (slots .entry)) (now (words .entry)) (now (bytes .entry))) list (now (store .entry)) ⌝ }
+    ensures { λ r. ⌜ after r (now (store .exit)) ≡ saveOf (dict (now (objects .entry)) (now (slots .entry)) (now (words .entry)) (now (bytes .entry))) (now (store .entry)) list ⌝ }
 {
     let size = measure(objects, slots, words, bytes, list);
     let r = size.records;

@@ -1,3 +1,4 @@
+-- `commands::judging::exact` meets its contract: each branch is a case of `exactly`. Assumes nothing.
 use mathlib.Core.Path.{sym, ap₂, _∙_}
 use mathlib.Core.Bool.{_||_}
 use denote.Ref.{now}

@@ -1,3 +1,4 @@
+-- `commands::judging::exact_at` meets its contract: the body is the part of the store that the record says. Assumes nothing.
 use mathlib.Core.Path.{_≡_, _∙_}
 use Prim.Native.Nat.{_+_, _-_}
 use denote.Ref.{now}

@@ -1,3 +1,5 @@
+-- `commands::judging::heads_ok` meets its contract. The loop's invariant: what the test says from here on is what it says of all records.
+-- Assumes nothing.
 use mathlib.Core.Path.{_≡_, sym, ap₂, _∙_}
 use mathlib.Core.Bool.{true}
 use Prim.Native.Nat.{_+_, _-_, _*_, _≤_}
@@ -110,8 +112,11 @@ loop-again c =
     let e = x .before in
     let i = e .before .before in
     let l = i .before in
-    let a = begin l .args in
-    (omega (arith, i .loop-test .taken), omega (arith, z .size-at .ensures, place e .small), l .loop .inv .2 ∙ onward-more (now (a .s)) (a .count) (2 + 8 * a .count) (l .loop .k) (l .loop .sum) (l .loop .low) (i .loop-test .taken) (stands e) (sym (x .exact-at .ensures) ∙ not-false _ (z .before .if2 .left)) ∙ ap₂ (λ n k. onward (now (a .s)) (a .count) (2 + 8 * a .count) (l .loop .k + 1) (l .loop .sum + n) (k + 1)) (sym (z .size-at .ensures)) (sym (c .key-in .ensures)))
+    let a = begin l .args in (
+      omega (arith, i .loop-test .taken),
+      omega (arith, z .size-at .ensures, place e .small),
+      l .loop .inv .2 ∙ onward-more (now (a .s)) (a .count) (2 + 8 * a .count) (l .loop .k) (l .loop .sum) (l .loop .low) (i .loop-test .taken) (stands e) (sym (x .exact-at .ensures) ∙ not-false _ (z .before .if2 .left)) ∙ ap₂ (λ n k. onward (now (a .s)) (a .count) (2 + 8 * a .count) (l .loop .k + 1) (l .loop .sum + n) (k + 1)) (sym (z .size-at .ensures)) (sym (c .key-in .ensures)),
+    )
 
 returns-3 : tie.Need-returns-3 Inv-loop μ-loop
 returns-3 c =

@@ -1,3 +1,4 @@
+-- `commands::judging::judge_image` meets its contract: the count is judged first, then every record. Assumes nothing.
 use mathlib.Core.Path.{sym, ap, _∙_}
 use Prim.Native.Nat.{_+_, _*_}
 use denote.Ref.{now}

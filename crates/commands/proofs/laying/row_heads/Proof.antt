@@ -16,7 +16,12 @@ use Rattle.commands.proofs.laying.row_heads.Statement.{statement}
 use Rattle.commands.proofs.laying.row_heads.Tie as tie
 
 abbrev Inv-loop : tie.InvT-loop
-Inv-loop objects slots words bytes i n store₀ at start s₀ k₀ store s k = (k ≤ n) × (length store ≡ length store₀) × (s + left (dict objects slots words bytes) i n k ≡ start + length (bodies (recsIn (dict objects slots words bytes) i n 0))) × (over store₀ at (heads start (recsIn (dict objects slots words bytes) i n 0)) ≡ over store (at + 8 * k) (heads s (recsIn (dict objects slots words bytes) i (n - k) k)))
+Inv-loop objects slots words bytes i n store₀ at start s₀ k₀ store s k =
+    let d = dict objects slots words bytes in
+    (k ≤ n)
+    × (length store ≡ length store₀)
+    × (s + left d i n k ≡ start + length (bodies (recsIn d i n 0)))
+    × (over store₀ at (heads start (recsIn d i n 0)) ≡ over store (at + 8 * k) (heads s (recsIn d i (n - k) k)))
 
 abbrev μ-loop : tie.MeasureT-loop
 μ-loop objects slots words bytes i n store₀ at start s₀ k₀ store s k = n - k
@@ -72,8 +77,12 @@ loop-again c =
     let i = v .before .before in
     let l = i .before .loop in
     let s = begin (i .before) in
-    let h = i .loop-test .taken in
-    (omega arith, omega arith, omega (arith, v .value-head .ensures .0, left-step (D s) (s .args .i) (s .args .n) (l .k) h, l .inv .2), l .inv .3 ∙ heads-more (D s) (s .args .i) (l .store) _ (s .args .at) (s .args .n) (l .k) (l .s) _ (v .value-head .result) h (omega (arith, l .inv .1, s .pre .1 .0 .1)) (v .value-head .ensures .0) refl (v .value-head .ensures .1))
+    let h = i .loop-test .taken in (
+      omega arith,
+      omega arith,
+      omega (arith, v .value-head .ensures .0, left-step (D s) (s .args .i) (s .args .n) (l .k) h, l .inv .2),
+      l .inv .3 ∙ heads-more (D s) (s .args .i) (l .store) _ (s .args .at) (s .args .n) (l .k) (l .s) _ (v .value-head .result) h (omega (arith, l .inv .1, s .pre .1 .0 .1)) (v .value-head .ensures .0) refl (v .value-head .ensures .1),
+    )
 
 same-length : tie.Need-same-length Inv-loop μ-loop
 same-length c = search needs

@@ -69,8 +69,10 @@ returns c =
     let u = t .before in
     let x = u .before .before in
     let f = x .before in
-    let s = start f in
-    (length-is n, h .lay-head .ensures ∙ ap (over (now (s .args .store)) (s .args .at)) (one-head (D s) (s .args .i) (s .args .k) (x .index-at .result) (u .sub-in .result) (t .type-at .result) (s .args .start) (n .length-at .result) (x .index-at .ensures) (u .sub-in .ensures ∙ ap (λ m. subIn m (s .args .k)) (u .before .kind-at .ensures)) (t .type-at .ensures ∙ ap (λ m. typeAt (now (s .args .slots)) (m + s .args .k)) (f .first-at .ensures)) (length-is n)))
+    let s = start f in (
+      length-is n,
+      h .lay-head .ensures ∙ ap (over (now (s .args .store)) (s .args .at)) (one-head (D s) (s .args .i) (s .args .k) (x .index-at .result) (u .sub-in .result) (t .type-at .result) (s .args .start) (n .length-at .result) (x .index-at .ensures) (u .sub-in .ensures ∙ ap (λ m. subIn m (s .args .k)) (u .before .kind-at .ensures)) (t .type-at .ensures ∙ ap (λ m. typeAt (now (s .args .slots)) (m + s .args .k)) (f .first-at .ensures)) (length-is n)),
+    )
 
 pub value-head-spec : {M : Type 1} → statement M
 value-head-spec =

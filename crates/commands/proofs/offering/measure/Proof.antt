@@ -16,7 +16,13 @@ use Rattle.commands.proofs.offering.measure.Statement.{statement}
 use Rattle.commands.proofs.offering.measure.Tie as tie
 
 abbrev Inv-loop : tie.InvT-loop
-Inv-loop objects slots words bytes list rows m₀ sum₀ i₀ m sum i = (i ≤ rows) × (m ≤ 254 * i) × (sum ≤ 378460 * i) × (m + records (dict objects slots words bytes) list rows i ≡ length (offered (dict objects slots words bytes) list)) × (sum + room (dict objects slots words bytes) list rows i ≡ length (bodies (offered (dict objects slots words bytes) list)))
+Inv-loop objects slots words bytes list rows m₀ sum₀ i₀ m sum i =
+    let d = dict objects slots words bytes in
+    (i ≤ rows)
+    × (m ≤ 254 * i)
+    × (sum ≤ 378460 * i)
+    × (m + records d list rows i ≡ length (offered d list))
+    × (sum + room d list rows i ≡ length (bodies (offered d list)))
 
 abbrev μ-loop : tie.MeasureT-loop
 μ-loop objects slots words bytes list rows m₀ sum₀ i₀ m sum i = rows - i
@@ -79,8 +85,13 @@ loop-again c =
     let s = begin (l .before) in
     let n = l .before .number-of .result in
     let h = o .before .loop-test .taken in
-    let w = ap (λ k. length (bodies (recsIn (D s) (l .loop .i) k 0))) (o .offers .ensures) in
-    (omega arith, omega (arith, few c .1, l .loop .inv .1), omega (arith, few c .2, l .loop .inv .2), omega (arith, records-step (D s) (s .args .list) n (l .loop .i) h, o .offers .ensures, l .loop .inv .3), omega (arith, bytes-step (D s) (s .args .list) n (l .loop .i) h, c .row-bytes .ensures, w, l .loop .inv .4))
+    let w = ap (λ k. length (bodies (recsIn (D s) (l .loop .i) k 0))) (o .offers .ensures) in (
+      omega arith,
+      omega (arith, few c .1, l .loop .inv .1),
+      omega (arith, few c .2, l .loop .inv .2),
+      omega (arith, records-step (D s) (s .args .list) n (l .loop .i) h, o .offers .ensures, l .loop .inv .3),
+      omega (arith, bytes-step (D s) (s .args .list) n (l .loop .i) h, c .row-bytes .ensures, w, l .loop .inv .4),
+    )
 
 returns : tie.Need-returns Inv-loop μ-loop
 returns c =

@@ -14,7 +14,11 @@ use Rattle.commands.proofs.offering.row_bytes.Statement.{statement}
 use Rattle.commands.proofs.offering.row_bytes.Tie as tie
 
 abbrev Inv-loop : tie.InvT-loop
-Inv-loop objects slots words bytes i n first sum₀ k₀ sum k = (k ≤ n) × (sum ≤ 1490 * k) × (sum + left (dict objects slots words bytes) i n k ≡ length (bodies (recsIn (dict objects slots words bytes) i n 0)))
+Inv-loop objects slots words bytes i n first sum₀ k₀ sum k =
+    let d = dict objects slots words bytes in
+    (k ≤ n)
+    × (sum ≤ 1490 * k)
+    × (sum + left d i n k ≡ length (bodies (recsIn d i n 0)))
 
 abbrev μ-loop : tie.MeasureT-loop
 μ-loop objects slots words bytes i n first sum₀ k₀ sum k = n - k
@@ -35,8 +39,10 @@ few : (c : tie.After-length-at Inv-loop μ-loop) → (c .length-at .result ≤ 1
 few c =
     let f = c .before .before .before in
     let s = start f in
-    let l = row-lies (D s) (s .pre .0) (s .args .i) (s .pre .1 .below) in
-    (value-small (D s) (s .pre .0) (s .args .i) (s .args .n) (s .pre .1) (c .before .before .loop .k) (c .before .loop-test .taken) (f .first-at .result) (f .first-at .ensures) (c .length-at .result) (c .length-at .ensures), omega (arith, l .few, s .pre .1 .within))
+    let l = row-lies (D s) (s .pre .0) (s .args .i) (s .pre .1 .below) in (
+      value-small (D s) (s .pre .0) (s .args .i) (s .args .n) (s .pre .1) (c .before .before .loop .k) (c .before .loop-test .taken) (f .first-at .result) (f .first-at .ensures) (c .length-at .result) (c .length-at .ensures),
+      omega (arith, l .few, s .pre .1 .within),
+    )
 
 first-at-requires : tie.Need-first-at-requires Inv-loop μ-loop
 first-at-requires c κs =
