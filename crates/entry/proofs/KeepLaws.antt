@@ -8,7 +8,7 @@ use native.Mathlib.Omega.{arith}
 use borrow.Author.Tests.{le-leb, lt-ltb, ltb-false}
 use lib.Dec.{leb, ltb}
 use lib.ListN.{length, take, drop, length-append, length-drop}
-use lib.Seq.{length-take-le, take-append-seam}
+use lib.Seq.{length-take-le, take-append-seam, getD-set-same, getD-set-other, set-getD}
 use Rattle.lists.specs.Lists.{over}
 use Rattle.lists.specs.Numbers.{number, Bytes}
 use Rattle.lists.proofs.ListLaws.{length-over, over-over, over-same, over-behind}
@@ -17,10 +17,10 @@ use Rattle.value.specs.Codec.{isText, sizeOf, takes, textWord, wordAt}
 use Rattle.value.specs.declared.Word.the-variants.{Takes, Fails}
 use Rattle.value.specs.declared.Fault.the-variants.{Value}
 use Rattle.value.proofs.CodecLaws.{text-taken}
-use Rattle.entry.specs.Table.{Dict, numberOf, countAt, firstAt, typeAt, startAt, roomAt}
+use Rattle.entry.specs.Table.{Dict, dict, numberOf, countAt, firstAt, typeAt, startAt, roomAt}
 use Rattle.entry.specs.Rules.{wordOk, valOk}
 use Rattle.entry.specs.Judge.{wellFormed}
-use Rattle.entry.specs.Put.{contents, filled, putAt, put, Puts}
+use Rattle.entry.specs.Put.{contents, filled, putAt, typed, putNew, putAs, Puts}
 use Rattle.entry.proofs.PutLaws.{put-text, put-fixed, put-kept}
 use Rattle.entry.proofs.ValueLaws.{Element, ValueFacts, value-facts}
 
@@ -59,13 +59,32 @@ puts-of d p s w f g =
       fixed = λ e. takes-fixed (typeAt (d .slots) p) s w e (g .taken) .0;
     }
 
+-- ---- the same of a value of another type
+pub record FitsAs (d : Dict) (p t : ℕ) (s : List ℕ) (w : ℕ) : Type 0 where
+  pub known : t ≤ 20
+  pub taken : wordAt t s ≡ Takes w
+  pub room : isText t ≡ true → length s ≤ roomAt (d .slots) p
+
+-- the slot with its new type
+pub type-new : (d : Dict) (p t : ℕ) → 3 * p + 3 ≤ length (d .slots) → typeAt (typed d p t .slots) p ≡ t
+type-new d p t h = getD-set-same (d .slots) (3 * p) t 0 (omega arith)
+
+pub start-new : (d : Dict) (p t q : ℕ) → startAt (typed d p t .slots) q ≡ startAt (d .slots) q
+start-new d p t q = getD-set-other (d .slots) (3 * p) (3 * q + 1) t 0 (λ e. absurd (omega (arith, e)))
+
+pub typed-same : (d : Dict) (p : ℕ) → typed d p (typeAt (d .slots) p) ≡ d
+typed-same d p = ap (λ s. dict (d .objects) s (d .words) (d .bytes)) (set-getD (d .slots) (3 * p) 0)
+
 -- ---- the put as one of a word and a room
 -- a text's room: the text, and what stood behind it
 abbrev rest : Dict → ℕ → List ℕ → List ℕ
 rest d p s = take (roomAt (d .slots) p - length s) (drop (startAt (d .slots) p + length s) (d .bytes))
 
-module _ (d : Dict) (p : ℕ) (s : List ℕ) (w : ℕ) (f : ValueFacts d p) (g : Fits d p s w) where
-  module _ (e : isText (typeAt (d .slots) p) ≡ true) where
+module _ (d : Dict) (p t : ℕ) (s : List ℕ) (w : ℕ) (f : ValueFacts d p) (g : FitsAs d p t s w) where
+  new : typeAt (typed d p t .slots) p ≡ t
+  new = type-new d p t (f .slot)
+
+  module _ (e : isText t ≡ true) where
     room-of-text : length (s ++ rest d p s) ≡ roomAt (d .slots) p
     room-of-text =
         let n : roomAt (d .slots) p - length s ≤ length (drop (startAt (d .slots) p + length s) (d .bytes)) = simp length-drop (omega (arith, g .room e, f .within, f .bytes)) in
@@ -81,21 +100,21 @@ module _ (d : Dict) (p : ℕ) (s : List ℕ) (w : ℕ) (f : ValueFacts d p) (g :
         ∙ ap (λ z. over (over (d .bytes) a s) (a + length s) (take n z)) (sym b)
         ∙ over-same (over (d .bytes) a s) (a + length s) n (omega (arith, l, g .room e, f .within, f .bytes))
 
-    put-as-text : putAt d p s ≡ put p w (s ++ rest d p s) d
+    put-as-text : putNew d p t s ≡ putAs p t w (s ++ rest d p s) d
     put-as-text =
-        ap (filled d) (put-text (d .slots) (contents (d .words) (d .bytes)) p s e)
-        ∙ rw (bytes-of-text, takes-text (typeAt (d .slots) p) s w e (g .taken) .0)
+        ap (filled (typed d p t)) (put-text (typed d p t .slots) (contents (d .words) (d .bytes)) p s (ap isText new ∙ e))
+        ∙ rw (start-new d p t p, bytes-of-text, takes-text t s w e (g .taken) .0)
 
-    ok-text : valOk (typeAt (d .slots) p) w (length (s ++ rest d p s)) (s ++ rest d p s) ≡ true
+    ok-text : valOk t w (length (s ++ rest d p s)) (s ++ rest d p s) ≡ true
     unfolding valOk wordOk
     ok-text =
-        let t = takes-text (typeAt (d .slots) p) s w e (g .taken) in
-        let a : leb (typeAt (d .slots) p) 20 ≡ true = le-leb _ _ (f .type) in
+        let k = takes-text t s w e (g .taken) in
+        let a : leb t 20 ≡ true = le-leb _ _ (g .known) in
         let b : leb (roomAt (d .slots) p) 1490 ≡ true = le-leb _ _ (f .room) in
         let c : leb (length s) (roomAt (d .slots) p) ≡ true = le-leb _ _ (g .room e) in
-        rw (room-of-text, a, b, e, t .0, c, take-append-seam s (rest d p s)) (t .1)
+        rw (room-of-text, a, b, e, k .0, c, take-append-seam s (rest d p s)) (k .1)
 
-  module _ (b : Bytes s) (e : isText (typeAt (d .slots) p) ≡ false) where
+  module _ (b : Bytes s) (e : isText t ≡ false) where
     abbrev old : List ℕ
     old = take (roomAt (d .slots) p) (drop (startAt (d .slots) p) (d .bytes))
 
@@ -103,37 +122,44 @@ module _ (d : Dict) (p : ℕ) (s : List ℕ) (w : ℕ) (f : ValueFacts d p) (g :
     room-of-fixed =
         length-take-le (roomAt (d .slots) p) (drop (startAt (d .slots) p) (d .bytes)) (simp length-drop (omega (arith, f .within, f .bytes)))
 
-    put-as-fixed : putAt d p s ≡ put p w old d
+    put-as-fixed : putNew d p t s ≡ putAs p t w old d
     put-as-fixed =
-        ap (filled d) (put-fixed (d .slots) (contents (d .words) (d .bytes)) p s e)
-        ∙ rw (over-same (d .bytes) (startAt (d .slots) p) (roomAt (d .slots) p) (omega (arith, f .within, f .bytes)), takes-fixed (typeAt (d .slots) p) s w e (g .taken) .1)
+        ap (filled (typed d p t)) (put-fixed (typed d p t .slots) (contents (d .words) (d .bytes)) p s (ap isText new ∙ e))
+        ∙ rw (over-same (d .bytes) (startAt (d .slots) p) (roomAt (d .slots) p) (omega (arith, f .within, f .bytes)), new, takes-fixed t s w e (g .taken) .1)
 
-    ok-fixed : valOk (typeAt (d .slots) p) w (length old) old ≡ true
+    ok-fixed : valOk t w (length old) old ≡ true
     unfolding valOk wordOk
     ok-fixed =
-        let t = takes-fixed (typeAt (d .slots) p) s w e (g .taken) in
-        let n = sizeOf (typeAt (d .slots) p) in
-        let l : length (take n s) ≡ n = length-take-le n s (t .0) in
+        let k = takes-fixed t s w e (g .taken) in
+        let n = sizeOf t in
+        let l : length (take n s) ≡ n = length-take-le n s (k .0) in
         let m : number (take n s) < 2 ^ (8 * n) = rw l at (number-lt (take n s) (bytes-take n s b)) in
-        let x : leb (typeAt (d .slots) p) 20 ≡ true = le-leb _ _ (f .type) in
+        let x : leb t 20 ≡ true = le-leb _ _ (g .known) in
         let y : leb (roomAt (d .slots) p) 1490 ≡ true = le-leb _ _ (f .room) in
-        let z : ltb w (2 ^ (8 * n)) ≡ true = rw (t .1) (lt-ltb _ _ m) in
+        let z : ltb w (2 ^ (8 * n)) ≡ true = rw (k .1) (lt-ltb _ _ m) in
         rw (room-of-fixed, x, y, e) z
 
--- ---- the theorem
+-- ---- the theorem: a value of whatever type, at any element
+pub new-data : (d : Dict) (i k t : ℕ) (s : List ℕ) → wellFormed d ≡ true → i < numberOf (d .objects) → k < countAt (d .objects) i → Bytes s → (w : ℕ)
+    → FitsAs d (firstAt (d .objects) i + k) t s w → wellFormed (putNew d (firstAt (d .objects) i + k) t s) ≡ true
+new-data d i k t s e hi hk b w g = go (isText t) refl (value-facts d e i k hi (omega arith))
+  where
+    go : (x : Bool) → isText t ≡ x → ValueFacts d (firstAt (d .objects) i + k) → wellFormed (putNew d (firstAt (d .objects) i + k) t s) ≡ true
+    go true q f =
+        let p = firstAt (d .objects) i + k in
+        rw (put-as-text d p t s w f g q) (put-kept d i k t w (s ++ rest d p s) e hi hk (room-of-text d p t s w f g q) (ok-text d p t s w f g q))
+    go false q f =
+        let p = firstAt (d .objects) i + k in
+        rw (put-as-fixed d p t s w f g b q) (put-kept d i k t w (old d p t s w f g b q) e hi hk (room-of-fixed d p t s w f g b q) (ok-fixed d p t s w f g b q))
+
+-- and of the type that it has
 pub put-data : (d : Dict) (i k : ℕ) (s : List ℕ) → wellFormed d ≡ true → i < numberOf (d .objects) → k < countAt (d .objects) i → Bytes s → (w : ℕ)
     → wordAt (typeAt (d .slots) (firstAt (d .objects) i + k)) s ≡ Takes w → (isText (typeAt (d .slots) (firstAt (d .objects) i + k)) ≡ true → length s ≤ roomAt (d .slots) (firstAt (d .objects) i + k))
     → wellFormed (putAt d (firstAt (d .objects) i + k) s) ≡ true
 put-data d i k s e hi hk b w t r =
-    go (isText (typeAt (d .slots) (firstAt (d .objects) i + k))) refl (value-facts d e i k hi (omega arith)) (record { taken = t; room = r })
-  where
-    go : (x : Bool) → isText (typeAt (d .slots) (firstAt (d .objects) i + k)) ≡ x → ValueFacts d (firstAt (d .objects) i + k) → Fits d (firstAt (d .objects) i + k) s w → wellFormed (putAt d (firstAt (d .objects) i + k) s) ≡ true
-    go true q f g =
-        let p = firstAt (d .objects) i + k in
-        rw (put-as-text d p s w f g q) (put-kept d i k w (s ++ rest d p s) e hi hk (room-of-text d p s w f g q) (ok-text d p s w f g q))
-    go false q f g =
-        let p = firstAt (d .objects) i + k in
-        rw (put-as-fixed d p s w f g b q) (put-kept d i k w (old d p s w f g b q) e hi hk (room-of-fixed d p s w f g b q) (ok-fixed d p s w f g b q))
+    let p = firstAt (d .objects) i + k in
+    let f = value-facts d e i k hi (omega arith) in
+    subst (λ (z : Dict). wellFormed (putAt z p s) ≡ true) (typed-same d p) (new-data d i k (typeAt (d .slots) p) s e hi hk b w (record { known = f .type; taken = t; room = r }))
 
 -- and of what a lookup names
 pub put-element : (d : Dict) {x sub p : ℕ} (s : List ℕ) → wellFormed d ≡ true → Element d x sub p → Bytes s → (w : ℕ) → Fits d p s w → wellFormed (putAt d p s) ≡ true

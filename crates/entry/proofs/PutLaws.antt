@@ -17,7 +17,7 @@ use Rattle.entry.specs.Rules.{valOk, heldOk, valsOk, objOk, objsOk, head
 use Rattle.entry.specs.Judge.{Sound, wellFormed}
 use Rattle.lists.specs.Numbers.{number}
 use Rattle.value.specs.Codec.{isText, sizeOf}
-use Rattle.entry.specs.Put.{Contents, contents, putIn, put}
+use Rattle.entry.specs.Put.{Contents, contents, putIn, putAs}
 use Rattle.text.specs.Machine.{judge}
 use Rattle.entry.proofs.JudgeLaws.{and-true, length-vals, length-objs, sound}
 use Rattle.entry.proofs.ModelLaws.{length-wordsOf, length-slotsOf, length-slots, words-append, bytes-append, rows-append, slots-append, begins, first-at}
@@ -103,7 +103,11 @@ module _ (xs : List Obj) (o : Obj) (ys : List Obj) (us vs : List Val) where
   slots-form y =
       rw zero-add at (slots-append 0 xs (with-it y ∷ ys)) ∙ rw (slotsOf-append (length (allBytes xs) + length (o .name)) us (y ∷ vs)) (simp append-assoc)
 
-  module _ (x y : Val) (e : length (y .room) ≡ length (x .room)) (t : y .type ≡ x .type) where
+  slots-before : (p : ℕ) → p ≡ length (allWords xs) + length us → length (allSlots 0 xs ++ slotsOf (length (allBytes xs) + length (o .name)) us) ≡ 3 * p
+  slots-before p q =
+      rw (length-append (allSlots 0 xs) (slotsOf (length (allBytes xs) + length (o .name)) us)) (omega (arith, length-slots 0 xs, length-slotsOf (length (allBytes xs) + length (o .name)) us, q))
+
+  module _ (x y : Val) (e : length (y .room) ≡ length (x .room)) where
     same-size : size (with-it y) ≡ size (with-it x)
     unfolding rooms
     same-size =
@@ -116,8 +120,10 @@ module _ (xs : List Obj) (o : Obj) (ys : List Obj) (us vs : List Val) where
     same-used : used (with-it y) ≡ used (with-it x)
     same-used = omega (arith, length-append us (y ∷ vs), length-append us (x ∷ vs))
 
-    slots-same : allSlots 0 (all y) ≡ allSlots 0 (all x)
-    slots-same = slots-form y ∙ rw (same-size, e, t) (sym (slots-form x))
+    slots-put : (p : ℕ) → p ≡ length (allWords xs) + length us → allSlots 0 (all y) ≡ set (allSlots 0 (all x)) (3 * p) (y .type)
+    slots-put p q =
+        let f = allSlots 0 xs ++ slotsOf (length (allBytes xs) + length (o .name)) us in
+        slots-form y ∙ rw (same-size, e) (sym (ap (λ l. set l (3 * p) (y .type)) (slots-form x) ∙ set-at f (x .type) _ (y .type) (3 * p) (slots-before p q)))
 
     rows-same : rowsOf 0 0 (all y) ≡ rowsOf 0 0 (all x)
     unfolding rowsOf
@@ -162,7 +168,7 @@ module _ (d : Dict) (xs : List Obj) (o : Obj) (ys : List Obj) (us vs : List Val)
   cell-is : (c n : ℕ) → n ≡ 3 * p + c → getD (d .slots) n 0 ≡ getD (x .type ∷ bottom ∷ length (x .room) ∷ ((slotsOf (bottom + length (x .room)) vs ++ allSlots (length (allBytes xs) + size (with-it xs o ys us vs x)) ys) ++ drop (length (allSlots 0 (all xs o ys us vs x))) (d .slots))) c 0
   cell-is c n e =
       let f = allSlots 0 xs ++ slotsOf (length (allBytes xs) + length (o .name)) us in
-      let m : length f ≡ 3 * p = rw (length-append (allSlots 0 xs) (slotsOf (length (allBytes xs) + length (o .name)) us)) (omega (arith, length-slots 0 xs, length-slotsOf (length (allBytes xs) + length (o .name)) us, q)) in
+      let m : length f ≡ 3 * p = slots-before xs o ys us vs p q in
       let k : n ≡ length f + c = omega arith in
       let z = drop (length (allSlots 0 (all xs o ys us vs x))) (d .slots) in
       ap (λ s. getD s n 0) (begins (d .slots) (allSlots 0 (all xs o ys us vs x)) (l .slots) ∙ ap (λ s. s ++ z) (slots-form xs o ys us vs x) ∙ append-assoc f _ z)
@@ -177,11 +183,11 @@ module _ (d : Dict) (xs : List Obj) (o : Obj) (ys : List Obj) (us vs : List Val)
   room-is : roomAt (d .slots) p ≡ length (x .room)
   room-is = cell-is 2 (3 * p + 2) refl
 
-  module _ (w : ℕ) (r : List ℕ) (e : length r ≡ length (x .room)) where
+  module _ (t w : ℕ) (r : List ℕ) (e : length r ≡ length (x .room)) where
     abbrev y : Val
-    y = record { type = x .type; word = w; room = r }
+    y = record { type = t; word = w; room = r }
 
-    put-lies : Lies (all xs o ys us vs y) (put p w r d)
+    put-lies : Lies (all xs o ys us vs y) (putAs p t w r d)
     put-lies =
         let wx = allWords (all xs o ys us vs x) in
         let wy = allWords (all xs o ys us vs y) in
@@ -191,7 +197,7 @@ module _ (d : Dict) (xs : List Obj) (o : Obj) (ys : List Obj) (us vs : List Val)
         let tb = drop (length bx) (d .bytes) in
         let f = allBytes xs ++ (o .name ++ rooms us) in
         let lf : bottom ≡ length f = rw (length-append (allBytes xs) (o .name ++ rooms us), length-append (o .name) (rooms us)) (omega arith) in
-        let pw = words-put xs o ys us vs x y e refl p q in
+        let pw = words-put xs o ys us vs x y e p q in
         let lw : length wy ≡ length wx = ap length pw ∙ length-set wx p w in
         let c = rooms vs ++ allBytes ys in
         let lb : length by ≡ length bx =
@@ -202,27 +208,34 @@ module _ (d : Dict) (xs : List Obj) (o : Obj) (ys : List Obj) (us vs : List Val)
         let ln : length (all xs o ys us vs y) ≡ length (all xs o ys us vs x) = length-append xs (with-it xs o ys us vs y ∷ ys) ∙ sym (length-append xs (with-it xs o ys us vs x ∷ ys)) in
         let ew : set (d .words) p w ≡ wy ++ tw =
         ap (λ s. set s p w) (begins (d .words) wx (l .words)) ∙ set-append-left wx tw p w pl ∙ ap (λ s. s ++ tw) (sym pw) in
+        let sx = allSlots 0 (all xs o ys us vs x) in
+        let sy = allSlots 0 (all xs o ys us vs y) in
+        let ts = drop (length sx) (d .slots) in
+        let ps = slots-put xs o ys us vs x y e p q in
+        let sl : 3 * p < length sx = omega (arith, length-slots 0 (all xs o ys us vs x), pl) in
+        let es : set (d .slots) (3 * p) t ≡ sy ++ ts =
+        ap (λ s. set s (3 * p) t) (begins (d .slots) sx (l .slots)) ∙ set-append-left sx ts (3 * p) t sl ∙ ap (λ s. s ++ ts) (sym ps) in
         let eb : over (d .bytes) (startAt (d .slots) p) r ≡ by ++ tb =
         ap (λ s. over s (startAt (d .slots) p) r) (begins (d .bytes) bx (l .bytes) ∙ ap (λ s. s ++ tb) (bytes-form xs o ys us vs x) ∙ append-assoc f (x .room ++ c) tb ∙ ap (λ s. f ++ s) (append-assoc (x .room) c tb))
         ∙ over-middle f (x .room) (c ++ tb) r (startAt (d .slots) p) (start-is ∙ lf) e
         ∙ sym (ap (λ s. s ++ tb) (bytes-form xs o ys us vs y) ∙ append-assoc f (r ++ c) tb ∙ ap (λ s. f ++ s) (append-assoc r c tb)) in
         record {
-          objects = rw (rows-same xs o ys us vs x y e refl, ln, lw, lb) (l .objects);
-          slots = rw (slots-same xs o ys us vs x y e refl) (l .slots);
+          objects = rw (rows-same xs o ys us vs x y e, ln, lw, lb) (l .objects);
+          slots = rw es (lies-front sy ts);
           words = rw ew (lies-front wy tw);
           bytes = rw eb (lies-front by tb);
         }
 
-    put-again : length us < length (us ++ (x ∷ vs)) - o .default → objsOk 0 (all xs o ys us vs x) ≡ true → Few (all xs o ys us vs x) → valOk (x .type) w (length r) r ≡ true → wellFormed (put p w r d) ≡ true
+    put-again : length us < length (us ++ (x ∷ vs)) - o .default → objsOk 0 (all xs o ys us vs x) ≡ true → Few (all xs o ys us vs x) → valOk t w (length r) r ≡ true → wellFormed (putAs p t w r d) ≡ true
     put-again i g f k =
         let wx = allWords (all xs o ys us vs x) in
-        let lw = ap length (words-put xs o ys us vs x y e refl p q) ∙ length-set wx p w in
+        let lw = ap length (words-put xs o ys us vs x y e p q) ∙ length-set wx p w in
         let ln : length (all xs o ys us vs y) ≡ length (all xs o ys us vs x) = length-append xs (with-it xs o ys us vs y ∷ ys) ∙ sym (length-append xs (with-it xs o ys us vs x ∷ ys)) in
         let c = rooms vs ++ allBytes ys in
         let h = allBytes xs ++ (o .name ++ rooms us) in
         let lb = ap length (bytes-form xs o ys us vs y) ∙ length-append h (r ++ c) in
         let lb₂ = ap length (bytes-form xs o ys us vs x) ∙ length-append h (x .room ++ c) in
-        complete (all xs o ys us vs y) (put p w r d) put-lies (ok-all xs o ys us vs 0 x y i k g)
+        complete (all xs o ys us vs y) (putAs p t w r d) put-lies (ok-all xs o ys us vs 0 x y i k g)
         (record { objects = omega (arith, ln, f .objects); values = omega (arith, lw, f .values); bytes = omega (arith, lb, lb₂, length-append r c, length-append (x .room) c, f .bytes) })
 
 -- ---- element k of row i among all values
@@ -246,11 +259,11 @@ objs-split d (suc n) j (suc i) h =
     let g : suc n - suc (suc i) ≡ n - suc i = omega arith in
     rw (e, f, g) (ap (λ l. objAt d j ∷ l) (objs-split d n (suc j) i (omega arith)))
 
--- ---- the theorem: a word that keeps the rules of its type, with a room of its size, may be put at any element
-pub put-kept : (d : Dict) (i k w : ℕ) (r : List ℕ) → wellFormed d ≡ true → i < numberOf (d .objects) → k < countAt (d .objects) i
-    → length r ≡ roomAt (d .slots) (firstAt (d .objects) i + k) → valOk (typeAt (d .slots) (firstAt (d .objects) i + k)) w (length r) r ≡ true
-    → wellFormed (put (firstAt (d .objects) i + k) w r d) ≡ true
-put-kept d i k w r e hi hk lr v =
+-- ---- the theorem: a word that keeps the rules of a type, with a room of its size, may be put at any element
+pub put-kept : (d : Dict) (i k t w : ℕ) (r : List ℕ) → wellFormed d ≡ true → i < numberOf (d .objects) → k < countAt (d .objects) i
+    → length r ≡ roomAt (d .slots) (firstAt (d .objects) i + k) → valOk t w (length r) r ≡ true
+    → wellFormed (putAs (firstAt (d .objects) i + k) t w r d) ≡ true
+put-kept d i k t w r e hi hk lr v =
     let s = sound d e in
     let c = countAt (d .objects) i in
     let f = defaultAt (d .objects) i in
@@ -268,11 +281,11 @@ put-kept d i k w r e hi hk lr v =
     m ∙ ap (λ ws. xs ++ (record { index = o .index; kind = o .kind; access = o .access; default = o .default; name = o .name; values = ws } ∷ ys)) ov in
     let l : Lies (all xs o ys us vs x) d = subst (λ (os : List Obj). Lies os d) a (s .lies) in
     let g : objsOk 0 (all xs o ys us vs x) ≡ true = subst (λ (os : List Obj). objsOk 0 os ≡ true) a (s .good) in
-    let t : Few (all xs o ys us vs x) = subst (λ (os : List Obj). Few os) a (s .few) in
+    let few : Few (all xs o ys us vs x) = subst (λ (os : List Obj). Few os) a (s .few) in
     let lu : length us ≡ k = length-vals d k q in
     let la : length (us ++ (x ∷ vs)) ≡ c + f = sym (ap length ov) ∙ length-vals d (c + f) q in
     let lx : length xs ≡ i = length-objs d i 0 in
     let fa : q ≡ length (allWords xs) = rw lx at (first-at xs (o ∷ ys) (d .objects) (subst (λ (os : List Obj). over (d .objects) 0 (allObjects os) ≡ d .objects) m (s .lies .objects)) (omega arith)) in
     let pl : q + k ≡ length (allWords xs) + length us = omega arith in
     let z = room-is d xs o ys us vs x l (q + k) pl in
-    put-again d xs o ys us vs x l (q + k) pl w r (lr ∙ z) (omega arith) g t v
+    put-again d xs o ys us vs x l (q + k) pl t w r (lr ∙ z) (omega arith) g few v

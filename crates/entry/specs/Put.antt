@@ -7,7 +7,7 @@ use lib.ListN.{length, take, set}
 use Rattle.lists.specs.Lists.{over}
 use Rattle.lists.specs.Numbers.{number}
 use Rattle.value.specs.Codec.{isText, sizeOf}
-use Rattle.entry.specs.Table.{Dict, slotEnd, typeAt, startAt}
+use Rattle.entry.specs.Table.{Dict, slotPlace, slotEnd, typeAt, startAt}
 
 -- the contents: a word a value, and the bytes
 pub record Contents : Type 0 where
@@ -31,9 +31,23 @@ filled d c = record { objects = d .objects; slots = d .slots; words = c .words; 
 abbrev pub putAt : Dict → ℕ → List ℕ → Dict
 putAt d p s = filled d (putIn (d .slots) (contents (d .words) (d .bytes)) p s)
 
--- value p becomes the word w with the room r
-abbrev pub put : ℕ → ℕ → List ℕ → Dict → Dict
-put p w r d = filled d (contents (set (d .words) p w) (over (d .bytes) (startAt (d .slots) p) r))
+-- the dictionary with t as the type of value p
+abbrev pub typed : Dict → ℕ → ℕ → Dict
+typed d p t = record { objects = d .objects; slots = set (d .slots) (slotPlace p) t; words = d .words; bytes = d .bytes }
+
+-- R10.11: the encoded value s of type t put as value p, which had another type
+abbrev pub putNew : Dict → ℕ → ℕ → List ℕ → Dict
+putNew d p t s = putAt (typed d p t) p s
+
+-- value p becomes the word w of type t with the room r
+abbrev pub putAs : ℕ → ℕ → ℕ → List ℕ → Dict → Dict
+putAs p t w r d =
+    record {
+      objects = d .objects;
+      slots = set (d .slots) (slotPlace p) t;
+      words = set (d .words) p w;
+      bytes = over (d .bytes) (startAt (d .slots) p) r;
+    }
 
 -- what a put of s needs
 pub record Puts (slots words bytes : List ℕ) (p : ℕ) (s : List ℕ) : Type 0 where
