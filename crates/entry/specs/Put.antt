@@ -31,9 +31,12 @@ filled d c = record { objects = d .objects; slots = d .slots; words = c .words; 
 abbrev pub putAt : Dict → ℕ → List ℕ → Dict
 putAt d p s = filled d (putIn (d .slots) (contents (d .words) (d .bytes)) p s)
 
--- the dictionary with t as the type of value p
+-- t as the type of value p
+abbrev pub retyped : List ℕ → ℕ → ℕ → List ℕ
+retyped slots p t = set slots (slotPlace p) t
+
 abbrev pub typed : Dict → ℕ → ℕ → Dict
-typed d p t = record { objects = d .objects; slots = set (d .slots) (slotPlace p) t; words = d .words; bytes = d .bytes }
+typed d p t = record { objects = d .objects; slots = retyped (d .slots) p t; words = d .words; bytes = d .bytes }
 
 -- R10.11: the encoded value s of type t put as value p, which had another type
 abbrev pub putNew : Dict → ℕ → ℕ → List ℕ → Dict

@@ -30,6 +30,7 @@ pub use judge::well_formed;
 pub use lookup::find;
 pub use lookup::locate;
 pub use lookup::sub_at;
+pub use put::put_new;
 pub use put::put_value;
 pub use rows::insert_row;
 pub use rows::lay_header;

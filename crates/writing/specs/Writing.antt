@@ -35,7 +35,7 @@ savedAs (saved.Refused r) = Refused r
 unfoldable pub actOf : Dict → List ℕ → ℕ → List ℕ → Judged → After
 actOf d store sub s (judged.Put p) = let c = putIn (d .slots) (contents (d .words) (d .bytes)) p s in after Done (c .words) (c .bytes) store
 actOf d store sub s judged.Kept = after Done (d .words) (d .bytes) store
-actOf d store sub s judged.Save = let a = saveOf d sub store in after (savedAs (a .answer)) (d .words) (d .bytes) (a .store)
+actOf d store sub s judged.Save = let a = saveOf d store sub in after (savedAs (a .answer)) (d .words) (d .bytes) (a .store)
 actOf d store sub s judged.Restore = after RestoreRequested (d .words) (d .bytes) store
 actOf d store sub s (judged.Refused r) = after (Refused r) (d .words) (d .bytes) store
 
