@@ -8,13 +8,17 @@ int clock_gettime(int clock, void *time);
 // dictionary/link.rs has the same numbers.
 enum { BEGIN, LEND, PUT, FETCH, TIME };
 enum { NEW = 8, INSERT, READ, READ_U8, READ_U16, READ_U32, READ_U64, FIND, CNS, COUNTER };
-enum { SLICES = 4, LARGEST = 32768 };
+enum { WRITE = COUNTER + 1, VALIDATE };
+
+// The dictionary's four slices, and the store.
+enum { SLICES = 5, LARGEST = 32768 };
 
 static struct lent slices[SLICES], name, vals, encodings, numbers, out;
 static int start_side;
 
 // The lengths are those that are lent; name, vals and encodings follow, each
-// filled up to whole words.
+// filled up to whole words. A value to write is its type, as `kind`, and its
+// encoding; a count to check stands in the sub-index's place.
 struct call {
     u64 op, index, sub_index, kind, access, has_default;
     u64 name, vals, encodings, numbers, out;
@@ -24,6 +28,7 @@ struct call {
 #define WORDS(slice) (u64 *)(slice).at, (slice).count
 #define BYTES(slice) (slice).at, (slice).count
 #define DICTIONARY WORDS(slices[0]), WORDS(slices[1]), WORDS(slices[2]), BYTES(slices[3])
+#define STORE BYTES(slices[4])
 
 static u64 answer(const struct call *c) {
     u16 index = (u16)c->index;
@@ -49,6 +54,10 @@ static u64 answer(const struct call *c) {
         return loomfinch_find_by_name(DICTIONARY, BYTES(name), number);
     case CNS:
         return loomfinch_get_configured_cns(DICTIONARY, BYTES(out), number);
+    case WRITE:
+        return loomfinch_write(DICTIONARY, STORE, index, sub_index, c->kind, BYTES(encodings));
+    case VALIDATE:
+        return loomfinch_validate_pdo_mapping(DICTIONARY, index, sub_index);
     default:
         return loomfinch_increment_counter(DICTIONARY, index, sub_index);
     }

@@ -1,20 +1,24 @@
 //! The dictionary: histories of calls, and damaged memory.
 
+mod backend;
 mod bench;
 mod bounds;
 mod breakage;
 mod calls;
 mod damage;
 mod histories;
+mod image;
 mod insertion;
 mod lines;
 mod link;
 mod malformed;
 mod malice;
+mod mappings;
 mod memory;
 mod model;
 mod objects;
 mod rust;
+mod saves;
 mod show;
 mod shrink;
 mod spoil;
@@ -23,6 +27,9 @@ mod stored;
 mod tally;
 mod trial;
 mod world;
+mod writes;
+mod writing;
+mod written;
 
 use crate::port::Port;
 use crate::random::Random;
@@ -31,6 +38,8 @@ use crate::random::Random;
 pub fn compare(port: &mut Port, random: &mut Random) -> (u64, u64) {
     let mut trial = trial::Trial::new(port);
     histories::compare(&mut trial, random);
+    written::compare(&mut trial, random);
+    saves::compare(&mut trial, random);
     bounds::compare(&mut trial, random);
     malice::compare(&mut trial, random);
     trial.finish()

@@ -87,10 +87,10 @@ fn port_repeats(port: &mut Port, dictionary: &[Object], call: &Call, repeats: u6
     // Room for the object that is inserted.
     let room = [ROW, 100 * SLOT, 100, 2000];
     lengths.iter_mut().zip(room).for_each(|(length, room)| *length += room);
-    let first = Lent { at_start: false, lengths };
+    let first = Lent { at_start: false, lengths, store: 0 };
     let history = History { first, steps: vec![Step::Lay(dictionary.to_vec())] };
-    let writes = matches!(call, Call::Insert(_) | Call::IncrementCounter { .. });
-    let (answer, time) = link::timed(port, &history, call, repeats, writes).expect("it answers");
+    let timed = link::timed(port, &history, call, repeats, call.writes());
+    let (answer, time) = timed.expect("it answers");
     let wanted = if matches!(call, Call::FindByName(_)) || *call == missing() { 3 } else { 0 };
     assert_eq!(answer, wanted, "a timed call is answered as it must be");
     time as f64 / repeats as f64
@@ -108,7 +108,7 @@ fn rust_time(dictionary: &[Object], call: &Call) -> f64 {
         let repeats = 100;
         let time: u128 = (0..repeats)
             .map(|_| {
-                let mut rust = Rust::of(dictionary);
+                let mut rust = Rust::of(dictionary, false);
                 let entry = Rust::entry(&object);
                 let start = Instant::now();
                 rust.insert_entry(black_box(BETWEEN), entry);
@@ -119,7 +119,7 @@ fn rust_time(dictionary: &[Object], call: &Call) -> f64 {
             .sum();
         return time as f64 / f64::from(repeats);
     }
-    let mut rust = Rust::of(dictionary);
+    let mut rust = Rust::of(dictionary, false);
     let repeats = if matches!(call, Call::FindByName(_)) { 2_000 } else { 200_000 };
     let start = Instant::now();
     for _ in 0..repeats {

@@ -7,7 +7,11 @@ use super::model::*;
 use super::objects::using;
 use super::step::{Call, History, Step};
 use super::trial::Trial;
+use super::writes;
 use crate::random::Random;
+
+/// Some bytes: what is saved here is little.
+const STORE: usize = 40;
 
 /// Memory for the largest dictionary and a little more.
 const AMPLE: [usize; 4] = [12 * 1027, 3 * 6400, 6400, 34_500];
@@ -50,8 +54,9 @@ fn laid(random: &mut Random, used: Used, lengths: [usize; 4]) -> History {
     let objects = using(random, used);
     let mut steps = vec![Step::Lay(objects.clone())];
     steps.extend(calls::each(random, &objects).into_iter().map(Step::Call));
+    steps.extend(writes::each(random, &objects).map(Step::Call));
     steps.push(insert(&one_more(random, SMALLEST)));
-    History { first: Lent { at_start: random.below(2) == 0, lengths }, steps }
+    History { first: Lent { at_start: random.below(2) == 0, lengths, store: STORE }, steps }
 }
 
 fn insert(object: &Object) -> Step {
@@ -75,8 +80,9 @@ fn grown(random: &mut Random, used: Used, extra: Used) -> History {
     let mut steps = vec![Step::Call(Call::New)];
     steps.extend(objects.iter().map(insert));
     steps.extend((0..20).map(|_| Step::Call(calls::any(random, &objects))));
+    steps.extend((0..10).map(|_| Step::Call(writes::any(random, &objects))));
     let lengths = if random.below(2) == 0 { AMPLE } else { used.lengths() };
-    History { first: Lent { at_start: random.below(2) == 0, lengths }, steps }
+    History { first: Lent { at_start: random.below(2) == 0, lengths, store: STORE }, steps }
 }
 
 /// One object at an index that `using` leaves free: before, between or behind the others.
@@ -121,10 +127,11 @@ fn near(random: &mut Random, total: Total) -> History {
         steps.push(insert(&one_more(random, used)));
     }
     steps.extend(calls::each(random, &objects).into_iter().map(Step::Call));
+    steps.extend(writes::each(random, &objects).map(Step::Call));
     let lengths = match random.below(3) {
         0 => before.plus(exact).lengths(),
         1 => before.plus(over).plus(SMALLEST).lengths(),
         _ => AMPLE,
     };
-    History { first: Lent { at_start: random.below(2) == 0, lengths }, steps }
+    History { first: Lent { at_start: random.below(2) == 0, lengths, store: STORE }, steps }
 }

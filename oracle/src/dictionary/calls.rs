@@ -7,7 +7,7 @@ use crate::inputs::{damaged, text};
 use crate::random::Random;
 
 /// A place that is there, one just beside it, or any.
-fn place(random: &mut Random, objects: &[Object]) -> (u16, u8) {
+pub fn place(random: &mut Random, objects: &[Object]) -> (u16, u8) {
     if objects.is_empty() || random.below(8) == 0 {
         return (random.word() as u16, random.word() as u8);
     }
@@ -29,12 +29,17 @@ fn place(random: &mut Random, objects: &[Object]) -> (u16, u8) {
     (index, sub_index)
 }
 
-/// The place of a value of this type, where there is one, and else any.
-fn place_of_kind(random: &mut Random, objects: &[Object], kind: u64) -> (u16, u8) {
+/// The place of a value of such a type, half the times, where there is one; else any.
+pub fn place_of_kind(
+    random: &mut Random,
+    objects: &[Object],
+    is_kind: impl Fn(u64) -> bool,
+) -> (u16, u8) {
+    let is_kind = &is_kind;
     let places = objects.iter().flat_map(|object| {
         let first = u8::from(object.shape != VARIABLE);
         let values = object.values.iter().zip(first..=u8::MAX);
-        let same = values.filter(move |(value, _)| value.kind == kind);
+        let same = values.filter(move |(value, _)| is_kind(value.kind));
         same.map(|(_, sub_index)| (object.index as u16, sub_index))
     });
     let places: Vec<(u16, u8)> = places.collect();
@@ -45,12 +50,12 @@ fn place_of_kind(random: &mut Random, objects: &[Object], kind: u64) -> (u16, u8
 }
 
 fn read_number(random: &mut Random, objects: &[Object], width: Width) -> Call {
-    let (index, sub_index) = place_of_kind(random, objects, width.kind());
+    let (index, sub_index) = place_of_kind(random, objects, |kind| kind == width.kind());
     Call::ReadNumber { width, index, sub_index }
 }
 
 fn increment_counter(random: &mut Random, objects: &[Object]) -> Call {
-    let (index, sub_index) = place_of_kind(random, objects, UNSIGNED32);
+    let (index, sub_index) = place_of_kind(random, objects, |kind| kind == UNSIGNED32);
     Call::IncrementCounter { index, sub_index }
 }
 

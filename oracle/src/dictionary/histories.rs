@@ -90,7 +90,7 @@ fn all_nodes(elements: usize) -> History {
         steps.push(call(Call::GetConfiguredCns(lent)));
     }
     let lengths = list.used().lengths();
-    History { first: Lent { at_start: false, lengths }, steps }
+    History { first: Lent { at_start: false, lengths, store: 0 }, steps }
 }
 
 /// Room for just the first few objects: each slice exact, one short, or longer.
@@ -110,11 +110,12 @@ fn lent_for(random: &mut Random, objects: &[Object]) -> Lent {
         }),
     };
     let lengths = std::array::from_fn(|slice| lengths[slice].min(MOST_LENT[slice]));
-    Lent { at_start: random.below(2) == 0, lengths }
+    Lent { at_start: random.below(2) == 0, lengths, store: 0 }
 }
 
 /// The same lengths on the other side of the guard, or a little more.
 fn lent_again(random: &mut Random, first: Lent) -> Lent {
     let more = random.pick(&[0, 0, 12, 40]);
-    Lent { at_start: !first.at_start, lengths: first.lengths.map(|length| length + more) }
+    let lengths = first.lengths.map(|length| length + more);
+    Lent { at_start: !first.at_start, lengths, ..first }
 }

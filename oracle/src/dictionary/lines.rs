@@ -31,7 +31,7 @@ impl Lines {
     /// Memory of zeros, on which nothing was called yet.
     pub fn new() -> Self {
         let [objects, slots, words] = [LENT[0], LENT[1], LENT[2]].map(|length| vec![0; length]);
-        let memory = Memory { objects, slots, words, bytes: vec![0; LENT[3]] };
+        let memory = Memory { objects, slots, words, bytes: vec![0; LENT[3]], store: Vec::new() };
         Self { world: World::on(memory), text: String::new(), calls: 0 }
     }
 
@@ -105,6 +105,8 @@ pub fn sayable(call: &Call) -> bool {
         Call::FindByName(name) => name.len() <= MOST_BYTES_GIVEN,
         Call::GetConfiguredCns(out) => *out <= 0xFF,
         Call::New | Call::ReadNumber { .. } | Call::IncrementCounter { .. } => true,
+        // history.rt has no line for these.
+        Call::Write(_) | Call::ValidatePdoMapping { .. } => false,
     }
 }
 
@@ -126,6 +128,7 @@ fn given(call: &Call) -> String {
         Call::FindByName(name) => format!("F {}", hex(name)),
         Call::GetConfiguredCns(out) => format!("C {out:X}"),
         Call::IncrementCounter { index, sub_index } => format!("P {index:X} {sub_index:X}"),
+        Call::Write(_) | Call::ValidatePdoMapping { .. } => unreachable!("no line can say it"),
     }
 }
 
@@ -134,6 +137,7 @@ fn found(call: &Call, outcome: &Outcome, memory: &Memory) -> String {
     let Outcome { numbers, out, .. } = outcome;
     match call {
         Call::New | Call::Insert(_) | Call::IncrementCounter { .. } => String::new(),
+        Call::Write(_) | Call::ValidatePdoMapping { .. } => String::new(),
         Call::Read { .. } => {
             let (kind, word, start) = (numbers[0], numbers[1], numbers[2] as usize);
             // World has held the string in memory against the Rust's.

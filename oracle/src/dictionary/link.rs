@@ -1,9 +1,9 @@
 //! Histories as commands of dictionary.c, and its replies.
 
 use super::insertion::Insertion;
-use super::memory::{BYTES, Lent, Memory};
+use super::memory::{BYTES, Lent, Memory, SLICES, STORE};
 use super::model::{self, Object, Used};
-use super::step::{Call, History, Outcome, Step, Width};
+use super::step::{Call, History, Outcome, Step, Width, Write};
 use crate::port::{Batch, Port, whole_words};
 use std::io::Result;
 
@@ -20,6 +20,8 @@ const READ_U8: u64 = 11;
 const FIND: u64 = 15;
 const CNS: u64 = 16;
 const COUNTER: u64 = 17;
+const WRITE: u64 = 18;
+const VALIDATE: u64 = 19;
 
 /// Cells of one slice that a call changed, from the first one on.
 pub struct Change {
@@ -60,14 +62,15 @@ pub fn commands(history: &History) -> Vec<u64> {
     words
 }
 
-fn lending(command: u64, Lent { at_start, lengths }: Lent) -> Vec<u64> {
+fn lending(command: u64, Lent { at_start, lengths, store }: Lent) -> Vec<u64> {
     let mut words = vec![command, at_start.into()];
     words.extend(lengths.map(|length| length as u64));
+    words.push(store as u64);
     words
 }
 
 fn laying(objects: &[Object]) -> Vec<u64> {
-    let mut memory = Memory::filled(Used::of(objects).lengths());
+    let mut memory = Memory::filled(Used::of(objects).lengths(), 0);
     model::lay(objects, &mut memory);
     let mut words = Vec::new();
     for (slice, cells) in memory.word_slices().into_iter().enumerate() {
@@ -98,6 +101,8 @@ fn place(call: &Call) -> (u64, u64, u64) {
         Call::FindByName(_) => (FIND, 0, 0),
         Call::GetConfiguredCns(_) => (CNS, 0, 0),
         Call::IncrementCounter { index, sub_index } => at(COUNTER, index, sub_index),
+        Call::Write(given) => at(WRITE, &given.index, &given.sub_index),
+        Call::ValidatePdoMapping { index, count } => at(VALIDATE, index, count),
     }
 }
 
@@ -105,6 +110,9 @@ fn calling(call: &Call) -> Vec<u64> {
     let given = match call {
         Call::Insert(given) => given.clone(),
         Call::FindByName(name) => Insertion { name: name.clone(), ..Insertion::default() },
+        Call::Write(Write { kind, data, .. }) => {
+            Insertion { shape: *kind, encodings: data.clone(), ..Insertion::default() }
+        }
         _ => Insertion::default(),
     };
     let (command, index, sub_index) = place(call);
@@ -125,7 +133,7 @@ pub fn given(port: &mut Port, call: &Call) -> Result<Given> {
     let numbers = port.words(numbers)?;
     let outcome = Outcome { answer: head[0], numbers, out: port.bytes(out)? };
     let mut changes = Vec::new();
-    for slice in 0..=BYTES {
+    for slice in 0..SLICES.len() {
         let range = port.words(2)?;
         let (first, count) = (range[0] as usize, range[1] as usize);
         let cells = cells(port, slice, count)?;
@@ -138,18 +146,19 @@ pub fn given(port: &mut Port, call: &Call) -> Result<Given> {
 
 fn cells(port: &mut Port, slice: usize, count: usize) -> Result<Vec<u64>> {
     match slice {
-        BYTES => Ok(port.bytes(count)?.into_iter().map(u64::from).collect()),
+        BYTES | STORE => Ok(port.bytes(count)?.into_iter().map(u64::from).collect()),
         _ => port.words(count),
     }
 }
 
-/// All four slices, as a history's last command asks for them.
-pub fn fetched(port: &mut Port, lengths: [usize; 4]) -> Result<Memory> {
+/// All slices, as a history's last command asks for them.
+pub fn fetched(port: &mut Port, Lent { lengths, store, .. }: Lent) -> Result<Memory> {
     Ok(Memory {
         objects: port.words(lengths[0])?,
         slots: port.words(lengths[1])?,
         words: port.words(lengths[2])?,
         bytes: port.bytes(lengths[BYTES])?,
+        store: port.bytes(store)?,
     })
 }
 
@@ -166,7 +175,7 @@ pub fn timed(
     words.extend([TIME, repeats, writes.into()]);
     words.extend(calling(call));
     port.send(Batch::Dictionary, &words)?;
-    fetched(port, history.first.lengths)?;
+    fetched(port, history.first)?;
     let times = port.words(2)?;
     Ok((times[0], times[1]))
 }

@@ -9,6 +9,7 @@ use super::model::{self, *};
 use super::objects::{self, Pool, Sizes, using};
 use super::step::{Call, History, Step};
 use super::trial::Trial;
+use super::writes;
 use crate::random::Random;
 
 pub fn compare(trial: &mut Trial, random: &mut Random) {
@@ -57,7 +58,7 @@ pub struct Cell {
 
 pub fn cells(objects: &[Object]) -> Vec<Cell> {
     let lengths = Used::of(objects).lengths();
-    let mut memory = Memory::filled(lengths);
+    let mut memory = Memory::filled(lengths, 0);
     model::lay(objects, &mut memory);
     let all = (0..=BYTES).flat_map(|slice| (0..lengths[slice]).map(move |at| (slice, at)));
     all.map(|(slice, at)| Cell { slice, at, old: memory.get(slice, at) }).collect()
@@ -120,8 +121,8 @@ fn every_length(trial: &mut Trial, random: &mut Random, objects: &[Object]) {
         }
     }
     for lengths in all {
-        let at_start = random.below(2) == 0;
-        trial.compare(history(random, objects, vec![Step::Lend(Lent { at_start, lengths })]));
+        let lent = Lent { at_start: random.below(2) == 0, lengths, store: store(random) };
+        trial.compare(history(random, objects, vec![Step::Lend(lent)]));
     }
 }
 
@@ -129,16 +130,22 @@ fn every_length(trial: &mut Trial, random: &mut Random, objects: &[Object]) {
 fn history(random: &mut Random, objects: &[Object], edits: Vec<Step>) -> History {
     let more = random.pick(&[0, 0, 0, 30]);
     let lengths = Used::of(objects).lengths().map(|length| length + more);
-    let first = Lent { at_start: random.below(2) == 0, lengths };
+    let first = Lent { at_start: random.below(2) == 0, lengths, store: store(random) };
     let mut steps = vec![Step::Lay(objects.to_vec())];
     steps.extend(edits);
     steps.extend(calls::each(random, objects).into_iter().map(Step::Call));
+    steps.extend(writes::each(random, objects).map(Step::Call));
     steps.push(Step::Call(Call::Insert(insertion(random, objects))));
     if random.below(8) == 0 {
         steps.push(Step::Call(Call::New));
         steps.push(Step::Call(calls::any(random, objects)));
     }
     History { first, steps }
+}
+
+/// None, the least one, too little for most saves here, or enough.
+fn store(random: &mut Random) -> usize {
+    random.pick(&[0, 1, 2, 20, 300])
 }
 
 /// One that fits where 30 cells are free, or one that is there.
@@ -168,8 +175,9 @@ fn large(trial: &mut Trial, random: &mut Random) {
         let Cell { slice, at, old } = cells[place];
         steps.push(edit(random, &cells[place]));
         steps.push(Step::Call(calls::any(random, &objects)));
+        steps.push(Step::Call(writes::any(random, &objects)));
         steps.push(Step::Put { slice, at, cell: old });
     }
     steps.push(Step::Call(Call::Insert(insertion(random, &objects))));
-    trial.compare(History { first: Lent { at_start: most, lengths }, steps });
+    trial.compare(History { first: Lent { at_start: most, lengths, store: 100 }, steps });
 }

@@ -1,13 +1,18 @@
 //! The unchanged Rust's dictionary, its answers put into the port's numbers.
 
+use super::backend::{self, Kept};
+use super::image::Record;
 use super::model::{ARRAY, Object, VARIABLE, Value};
-use super::step::Width;
+use super::step::{Width, Write};
 use crate::original;
+use powerlink_rs::PowerlinkError;
 use powerlink_rs::od::{
     AccessType, Category, Object as Shape, ObjectDictionary, ObjectEntry, ObjectValue,
 };
 use powerlink_rs::reach;
 use std::borrow::Cow;
+use std::cell::RefCell;
+use std::rc::Rc;
 
 pub const OBJECT_NOT_FOUND: u64 = 3;
 pub const SUB_OBJECT_NOT_FOUND: u64 = 4;
@@ -23,7 +28,10 @@ const ACCESSES: [AccessType; 7] = [
     AccessType::Conditional,
 ];
 
-pub struct Rust(ObjectDictionary<'static>);
+pub struct Rust {
+    od: ObjectDictionary<'static>,
+    kept: Rc<RefCell<Kept>>,
+}
 
 /// A value as the port answers it; `bytes` are a string's.
 #[derive(PartialEq, Eq)]
@@ -33,9 +41,26 @@ pub struct Found {
     pub bytes: Vec<u8>,
 }
 
+/// What a write did that was not refused.
+pub enum Written {
+    /// A value was put, or a mapping's count accepted.
+    Taken,
+    /// The table that was saved.
+    Saved(Vec<Record>),
+    RestoreRequested,
+}
+
 impl Rust {
-    pub fn of(objects: &[Object]) -> Self {
-        let mut rust = Self(ObjectDictionary::new(None));
+    /// A dictionary with these objects and, where there is a store, one whose table is empty.
+    pub fn of(objects: &[Object], has_store: bool) -> Self {
+        let (storage, kept) = match has_store {
+            true => {
+                let (storage, kept) = backend::storage();
+                (Some(storage), kept)
+            }
+            false => (None, Rc::default()),
+        };
+        let mut rust = Self { od: ObjectDictionary::new(storage), kept };
         objects.iter().for_each(|object| rust.insert(object));
         rust
     }
@@ -45,7 +70,7 @@ impl Rust {
     }
 
     pub fn insert_entry(&mut self, index: u16, entry: ObjectEntry) {
-        self.0.insert(index, entry);
+        self.od.insert(index, entry);
     }
 
     pub fn entry(object: &Object) -> ObjectEntry {
@@ -70,13 +95,13 @@ impl Rust {
 
     /// Just the Rust's own read, for timing.
     pub fn peek(&self, index: u16, sub_index: u8) -> Option<Cow<'_, ObjectValue>> {
-        self.0.read(index, sub_index)
+        self.od.read(index, sub_index)
     }
 
     /// Its None is told apart by whether there is such an object.
     pub fn read(&self, index: u16, sub_index: u8) -> Result<Found, u64> {
-        let Some(value) = self.0.read(index, sub_index) else {
-            let present = self.0.read_object(index).is_some();
+        let Some(value) = self.od.read(index, sub_index) else {
+            let present = self.od.read_object(index).is_some();
             return Err(if present { SUB_OBJECT_NOT_FOUND } else { OBJECT_NOT_FOUND });
         };
         let kind = kind(&value);
@@ -87,26 +112,84 @@ impl Rust {
 
     pub fn read_number(&self, width: Width, index: u16, sub_index: u8) -> Result<u64, u64> {
         let number = match width {
-            Width::U8 => self.0.read_u8(index, sub_index).map(u64::from),
-            Width::U16 => self.0.read_u16(index, sub_index).map(u64::from),
-            Width::U32 => self.0.read_u32(index, sub_index).map(u64::from),
-            Width::U64 => self.0.read_u64(index, sub_index),
+            Width::U8 => self.od.read_u8(index, sub_index).map(u64::from),
+            Width::U16 => self.od.read_u16(index, sub_index).map(u64::from),
+            Width::U32 => self.od.read_u32(index, sub_index).map(u64::from),
+            Width::U64 => self.od.read_u64(index, sub_index),
         };
         number.ok_or_else(|| self.read(index, sub_index).err().unwrap_or(TYPE_MISMATCH))
     }
 
     pub fn find_by_name(&self, name: &str) -> Result<u64, u64> {
-        let (index, sub_index) = self.0.find_by_name(name).ok_or(OBJECT_NOT_FOUND)?;
+        let (index, sub_index) = self.od.find_by_name(name).ok_or(OBJECT_NOT_FOUND)?;
         assert_eq!(sub_index, 0, "a name is its object's, so it names sub-index 0");
         Ok(index.into())
     }
 
     pub fn get_configured_cns(&self) -> Vec<u8> {
-        self.0.get_configured_cns().into_iter().map(|node| node.0).collect()
+        self.od.get_configured_cns().into_iter().map(|node| node.0).collect()
     }
 
     pub fn increment_counter(&mut self, index: u16, sub_index: u8) {
-        reach::increment_counter(&mut self.0, index, sub_index);
+        reach::increment_counter(&mut self.od, index, sub_index);
+    }
+
+    pub fn validate_pdo_mapping(&self, index: u16, count: u8) -> Result<(), u64> {
+        reach::validate_pdo_mapping(&self.od, index, count).map_err(refusal)
+    }
+
+    /// Of a value that keeps R3.4: the Rust has no other.
+    pub fn write(&mut self, given: &Write) -> Result<Written, u64> {
+        self.kept.borrow_mut().replaced = None;
+        let value = original::decode(given.kind, &given.data).expect("a right value decodes");
+        self.od.write(given.index, given.sub_index, value).map_err(refusal)?;
+        let kept = &mut *self.kept.borrow_mut();
+        if std::mem::take(&mut kept.restore_requested) {
+            return Ok(Written::RestoreRequested);
+        }
+        if kept.replaced.is_none() {
+            return Ok(Written::Taken);
+        }
+        let records = kept.table.iter().map(|((index, sub_index), value)| Record {
+            index: *index,
+            sub_index: *sub_index,
+            kind: kind(value) as u8,
+            body: value.serialize(),
+        });
+        Ok(Written::Saved(records.collect()))
+    }
+
+    /// The table is again the one before the last save.
+    pub fn undo_save(&mut self) {
+        let kept = &mut *self.kept.borrow_mut();
+        kept.table = kept.replaced.take().expect("a save was just made");
+    }
+
+    /// Puts a value that was there before, whatever the access.
+    pub fn put_back(&mut self, index: u16, sub_index: u8, old: &Value) {
+        let put = reach::write_internal(&mut self.od, index, sub_index, value(old), false);
+        put.expect("a value of its type was there");
+    }
+}
+
+/// The number of a refusal of `write`; the Rust says some of them by text alone.
+fn refusal(error: PowerlinkError) -> u64 {
+    match error {
+        PowerlinkError::ObjectNotFound => OBJECT_NOT_FOUND,
+        PowerlinkError::SubObjectNotFound => SUB_OBJECT_NOT_FOUND,
+        PowerlinkError::TypeMismatch => TYPE_MISMATCH,
+        PowerlinkError::StorageError("Object is read-only") => 6,
+        PowerlinkError::StorageError(
+            "Invalid signature or sub-index for Store Parameters"
+            | "Invalid signature or sub-index for Restore Defaults",
+        ) => 7,
+        PowerlinkError::StorageError("No storage backend configured") => 8,
+        PowerlinkError::StorageError("Cannot write to sub-index 0 of standard Array/Record") => 9,
+        PowerlinkError::ValidationError(
+            "Incomplete PDO mapping configuration: Missing entries",
+        ) => 10,
+        PowerlinkError::PdoMapOverrun => 11,
+        other => panic!("the Rust gives {other:?}, which has no number"),
     }
 }
 

@@ -4,7 +4,7 @@ use super::insertion::Insertion;
 use super::link::Given;
 use super::memory::{Lent, Memory, SLICES};
 use super::model::{Object, Value, is_string};
-use super::step::{Call, History, Outcome, Step};
+use super::step::{Call, History, Outcome, Step, Write};
 use super::tally::answer_name;
 use super::trial::Difference;
 
@@ -45,8 +45,11 @@ fn lay(objects: &[Object]) {
     }
 }
 
-fn lent(Lent { at_start, lengths }: &Lent) -> String {
-    let slices = SLICES.iter().zip(lengths).map(|(name, length)| format!("{name} {length}"));
+fn lent(Lent { at_start, lengths, store }: &Lent) -> String {
+    let slices = SLICES
+        .iter()
+        .zip(lengths.iter().chain([store]))
+        .map(|(name, length)| format!("{name} {length}"));
     let side = if *at_start { "starting" } else { "ending" };
     format!("lent {}, each {side} at a guard page", slices.collect::<Vec<String>>().join(", "))
 }
@@ -81,6 +84,10 @@ fn call(call: &Call) -> String {
         }
         Call::FindByName(wanted) => format!("{name} {}", text(wanted)),
         Call::GetConfiguredCns(out) => format!("{name}, {out} bytes lent"),
+        Call::Write(Write { index, sub_index, kind, data }) => {
+            format!("{name} {index:04X}h/{sub_index} type {kind:X} data {}", text(data))
+        }
+        Call::ValidatePdoMapping { index, count } => format!("{name} {index:04X}h, {count}"),
     }
 }
 
@@ -123,7 +130,7 @@ fn given_changes(given: &Given) {
 
 fn wanted_changes(before: &Memory, after: &Memory) {
     for (slice, name) in SLICES.iter().enumerate() {
-        let length = before.lengths()[slice];
+        let length = before.length(slice);
         let differs = |at: &usize| before.get(slice, *at) != after.get(slice, *at);
         let places: Vec<usize> = (0..length).filter(differs).collect();
         if let (Some(first), Some(last)) = (places.first(), places.last()) {

@@ -125,6 +125,11 @@ fn simpler(step: &Step, part: usize) -> Option<Step> {
                 _ => object.values.truncate(object.values.len().saturating_sub(1).max(1)),
             }
         }
+        Step::Call(Call::Write(given)) => match part {
+            0 => given.data.truncate(given.data.len() / 2),
+            1 => drop(given.data.pop()),
+            _ => return None,
+        },
         _ => return None,
     }
     Some(step)

@@ -26,6 +26,20 @@ pub enum Call {
         index: u16,
         sub_index: u8,
     },
+    Write(Write),
+    ValidatePdoMapping {
+        index: u16,
+        count: u8,
+    },
+}
+
+/// A place, and the value for it as its type and its encoding.
+#[derive(Clone, PartialEq, Eq)]
+pub struct Write {
+    pub index: u16,
+    pub sub_index: u8,
+    pub kind: u64,
+    pub data: Vec<u8>,
 }
 
 #[derive(Clone, Copy, PartialEq, Eq)]
@@ -106,6 +120,8 @@ impl Call {
             Self::FindByName(_) => "find_by_name",
             Self::GetConfiguredCns(_) => "get_configured_cns",
             Self::IncrementCounter { .. } => "increment_counter",
+            Self::Write(_) => "write",
+            Self::ValidatePdoMapping { .. } => "validate_pdo_mapping",
         }
     }
 
@@ -116,6 +132,16 @@ impl Call {
             Self::ReadNumber { .. } | Self::FindByName(_) => (1, 0),
             Self::GetConfiguredCns(out) => (1, *out),
             Self::New | Self::Insert(_) | Self::IncrementCounter { .. } => (0, 0),
+            Self::Write(_) | Self::ValidatePdoMapping { .. } => (0, 0),
+        }
+    }
+
+    /// Every other call leaves all memory that stays between calls.
+    pub fn writes(&self) -> bool {
+        match self {
+            Self::New | Self::Insert(_) | Self::IncrementCounter { .. } | Self::Write(_) => true,
+            Self::Read { .. } | Self::ReadNumber { .. } | Self::FindByName(_) => false,
+            Self::GetConfiguredCns(_) | Self::ValidatePdoMapping { .. } => false,
         }
     }
 }

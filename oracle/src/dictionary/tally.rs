@@ -17,9 +17,18 @@ pub fn answer_name(answer: u64) -> &'static str {
         3 => "ObjectNotFound",
         4 => "SubObjectNotFound",
         5 => "TypeMismatch",
+        6 => "ReadOnly",
+        7 => "BadSignature",
+        8 => "NoStorage",
+        9 => "CountNotWritable",
+        10 => "MissingEntries",
+        11 => "PdoMapOverrun",
         12 => "BufferTooShort",
+        13 => "TooLong",
         16 => "Occupied",
         17 => "Full",
+        18 => "StoreFull",
+        19 => "RestoreRequested",
         _ => "no answer of the rules",
     }
 }

@@ -161,18 +161,18 @@ impl<'a> Replay<'a> {
 
     /// An error where the program stopped.
     fn run(&mut self, port: &mut Port, mut count: impl FnMut(&Call, &Wanted)) -> Result<()> {
-        let mut lengths = self.history.first.lengths;
+        let mut last = self.history.first;
         for (step, action) in self.history.steps.iter().enumerate() {
             match action {
                 Step::Call(call) => self.call(port, step, call, &mut count)?,
                 Step::Lend(lent) => {
-                    lengths = lent.lengths;
+                    last = *lent;
                     self.world.change(action);
                 }
                 _ => self.world.change(action),
             }
         }
-        let memory = link::fetched(port, lengths)?;
+        let memory = link::fetched(port, last)?;
         if self.found.is_none() {
             assert!(memory == self.world.memory, "the changes add up to the port's memory");
             self.world.assert_equal();
@@ -203,9 +203,7 @@ fn call_differs(
     given: Option<Given>,
     count: &mut impl FnMut(&Call, &Wanted),
 ) -> Option<Difference> {
-    // Every other call leaves the memory, so that nothing may have changed.
-    let writes = matches!(call, Call::New | Call::Insert(_) | Call::IncrementCounter { .. });
-    let before = writes.then(|| world.memory.clone());
+    let before = call.writes().then(|| world.memory.clone());
     let wanted = world.call(call);
     count(call, &wanted);
     let same = given.as_ref().is_some_and(|given| {

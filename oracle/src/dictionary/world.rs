@@ -14,7 +14,7 @@ const MALFORMED: u64 = 1;
 const OCCUPIED: u64 = 16;
 const FULL: u64 = 17;
 
-/// Objects beyond which the model's own check after each insertion takes too long.
+/// Objects beyond which the model's own check after each change takes too long.
 const FEW: usize = 40;
 
 /// What the lent memory is known to be.
@@ -25,9 +25,10 @@ enum Known {
     Sound(Box<Dictionary>),
 }
 
-struct Dictionary {
-    objects: Vec<Object>,
-    rust: Rust,
+/// writing.rs has its calls that write values.
+pub struct Dictionary {
+    pub objects: Vec<Object>,
+    pub rust: Rust,
 }
 
 pub struct World {
@@ -42,19 +43,19 @@ pub struct Wanted {
 }
 
 /// A refusal's number, and which part of its rule gave it.
-type Refused = (u64, Option<&'static str>);
+pub type Refused = (u64, Option<&'static str>);
 
 /// What a call that is done writes into the memory lent for results.
 #[derive(Default)]
-struct Done {
-    numbers: Vec<u64>,
-    out: Vec<u8>,
-    cause: Option<&'static str>,
+pub struct Done {
+    pub numbers: Vec<u64>,
+    pub out: Vec<u8>,
+    pub cause: Option<&'static str>,
 }
 
 impl World {
     pub fn new(first: Lent) -> Self {
-        Self::on(Memory::filled(first.lengths))
+        Self::on(Memory::filled(first.lengths, first.store))
     }
 
     /// Memory with anything in it.
@@ -68,7 +69,7 @@ impl World {
             return;
         }
         match step {
-            Step::Lend(lent) => self.memory.lend(lent.lengths),
+            Step::Lend(lent) => self.memory.lend(lent.lengths, lent.store),
             Step::Lay(objects) => model::lay(objects, &mut self.memory),
             Step::Put { slice, at, cell } => self.memory.put(*slice, *at, *cell),
             Step::Call(_) => unreachable!("a call has an answer"),
@@ -118,6 +119,10 @@ impl World {
             Call::IncrementCounter { index, sub_index } => {
                 Ok(dictionary.increment_counter(memory, *index, *sub_index))
             }
+            Call::Write(given) => dictionary.write(given, memory),
+            Call::ValidatePdoMapping { index, count } => {
+                dictionary.validate_pdo_mapping(*index, *count)
+            }
         }
     }
 
@@ -127,7 +132,8 @@ impl World {
             return Err((FULL, Some("objects lent")));
         }
         model::lay(&[], &mut self.memory);
-        let empty = Dictionary { objects: Vec::new(), rust: Rust::of(&[]) };
+        let rust = Rust::of(&[], has_store(&self.memory));
+        let empty = Dictionary { objects: Vec::new(), rust };
         self.known = Known::Sound(Box::new(empty));
         Ok(Done::default())
     }
@@ -148,7 +154,7 @@ fn judged<'a>(memory: &Memory, known: &'a mut Known) -> Result<&'a mut Dictionar
             Err(rule) => Known::Malformed(rule),
             Ok(()) => {
                 let objects = model::read_off(memory);
-                let rust = Rust::of(&objects);
+                let rust = Rust::of(&objects, has_store(memory));
                 Known::Sound(Box::new(Dictionary { objects, rust }))
             }
         };
@@ -160,6 +166,11 @@ fn judged<'a>(memory: &Memory, known: &'a mut Known) -> Result<&'a mut Dictionar
     }
 }
 
+/// R10.4. Lending another length makes the Rust's dictionary anew, so it has a storage just then.
+fn has_store(memory: &Memory) -> bool {
+    memory.store.len() >= 2
+}
+
 fn refused(number: u64) -> Refused {
     (number, None)
 }
@@ -167,6 +178,10 @@ fn refused(number: u64) -> Refused {
 impl Done {
     fn number(number: u64) -> Self {
         Self { numbers: vec![number], ..Self::default() }
+    }
+
+    pub fn because(cause: &'static str) -> Self {
+        Self { cause: Some(cause), ..Self::default() }
     }
 }
 
@@ -185,14 +200,15 @@ impl Dictionary {
         self.rust.insert(&object);
         self.objects.insert(row, object);
         model::lay(&self.objects, memory);
-        if self.objects.len() <= FEW {
-            self.check(memory);
-        }
+        self.check(memory);
         Ok(Done::default())
     }
 
     /// The two readings of the rules that this program has must agree.
-    fn check(&self, memory: &Memory) {
+    pub fn check(&self, memory: &Memory) {
+        if self.objects.len() > FEW {
+            return;
+        }
         assert_eq!(malformed::judge(memory), Ok(()), "a laid dictionary is sound");
         assert!(model::read_off(memory) == self.objects, "what was laid is read off again");
     }
@@ -251,7 +267,7 @@ impl Dictionary {
         self.rust.increment_counter(index, sub_index);
         let after = self.rust.read(index, sub_index);
         if before == after {
-            return Done { cause: Some("nothing"), ..Done::default() };
+            return Done::because("nothing");
         }
         let word = after.map_or_else(|_| unreachable!("it was there before"), |found| found.word);
         let element = usize::from(sub_index.saturating_sub(1));
@@ -259,20 +275,21 @@ impl Dictionary {
         let object = self.objects.iter_mut().find(|object| object.index == index.into());
         object.expect("the Rust has just these objects").values[element].word = word;
         memory.words[place] = word;
-        Done { cause: Some("counted"), ..Done::default() }
+        Done::because("counted")
     }
 
     /// Every value of the Rust's dictionary is the one that lies in memory.
-    fn all_equal(&self) -> bool {
-        self.objects.iter().all(|object| {
-            let first = if object.shape == model::VARIABLE { 0 } else { 1 };
-            object.values.iter().zip(first..).all(|(value, sub_index)| {
-                let found = self.rust.read(object.index as u16, sub_index);
-                found.is_ok_and(|found| {
-                    let bytes =
-                        if model::is_string(value.kind) { value.encoding() } else { vec![] };
-                    (found.kind, found.word, found.bytes) == (value.kind, value.word, bytes)
-                })
+    pub fn all_equal(&self) -> bool {
+        self.objects.iter().all(|object| self.is_equal(object))
+    }
+
+    pub fn is_equal(&self, object: &Object) -> bool {
+        let first = if object.shape == model::VARIABLE { 0 } else { 1 };
+        object.values.iter().zip(first..).all(|(value, sub_index)| {
+            let found = self.rust.read(object.index as u16, sub_index);
+            found.is_ok_and(|found| {
+                let bytes = if model::is_string(value.kind) { value.encoding() } else { vec![] };
+                (found.kind, found.word, found.bytes) == (value.kind, value.word, bytes)
             })
         })
     }
