@@ -1,7 +1,7 @@
 -- The readable test, one record at a time.
 -- Assumes nothing.
 use mathlib.Core.Path.{_≡_, _∙_}
-use mathlib.Core.Bool.{Bool, true, false, _&&_, _||_}
+use mathlib.Core.Bool.{Bool, true, false, _&&_}
 use mathlib.Core.List.{List}
 use Prim.Native.Nat.{ℕ, suc, _+_, _-_, _*_, _^_, _≤_, _<_}
 use native.Mathlib.Omega.{arith}
@@ -11,12 +11,10 @@ use lib.ListN.{length, take, drop}
 use lib.Seq.{getD-drop}
 use Rattle.lists.specs.Numbers.{Bytes}
 use Rattle.lists.proofs.NumberLaws.{number-lt, bytes-take, part-length}
-use Rattle.value.specs.Codec.{isText, sizeOf, wordAt}
-use Rattle.value.specs.declared.Fault.{Fault}
-use Rattle.value.specs.declared.Word.the-variants.{Takes, Fails}
+use Rattle.value.specs.Codec.{exact}
 use Rattle.entry.proofs.JudgeLaws.{and-true}
 use Rattle.entry.proofs.WalkLaws.{and-false}
-use Rattle.commands.specs.Readable.{exactly, field, keyIn, typeIn, startIn, sizeAt, placed, headsOk, readable}
+use Rattle.commands.specs.Readable.{field, keyIn, typeIn, startIn, sizeAt, placed, headsOk, readable}
 
 pub bytes-drop : (a : ℕ) (s : List ℕ) → Bytes s → Bytes (drop a s)
 bytes-drop a s h i = rw (getD-drop a s i 0) (h (a + i))
@@ -28,19 +26,9 @@ field-lt s a n h l = rw (part-length s a n l) at (number-lt (take n (drop a s)) 
 pub key-lt : (s : List ℕ) (a : ℕ) → Bytes s → a + 8 ≤ length s → keyIn s a < 16777216
 key-lt s a h l = omega (arith, field-lt s a 2 h (omega arith), field-lt s (a + 2) 1 h (omega arith))
 
--- ---- a value of exactly its length
-pub exact-fails : (t : ℕ) (s : List ℕ) {f : Fault} → wordAt t s ≡ Fails f → exactly t s ≡ false
-unfolding exactly
-exact-fails t s e = rw e
-
-pub exact-takes : (t : ℕ) (s : List ℕ) {w : ℕ} → wordAt t s ≡ Takes w → exactly t s ≡ (isText t || eqb (length s) (sizeOf t))
-unfolding exactly
-exact-takes t s e = rw e
-
 -- ---- a record in its place
 pub record Placed (s : List ℕ) (a b sum low : ℕ) : Type 0 where
   pub rises : low ≤ keyIn s a
-  pub type : typeIn s a ≤ 20
   pub start : startIn s a ≡ sum
   pub small : sum + sizeAt s a ≤ 16384
   pub within : b + (sum + sizeAt s a) ≤ length s
@@ -49,10 +37,9 @@ pub placed-true : (s : List ℕ) (a b sum low : ℕ) → placed s a b sum low �
 unfolding placed
 placed-true s a b sum low e =
     let p = and-true (leb low (keyIn s a)) _ e in
-    let q = and-true (leb (typeIn s a) 20) _ (p .1) in
-    let r = and-true (eqb (startIn s a) sum) _ (q .1) in
+    let r = and-true (eqb (startIn s a) sum) _ (p .1) in
     let t = and-true (leb (sum + sizeAt s a) 16384) _ (r .1) in
-    record { rises = leb-true _ _ (p .0); type = leb-true _ _ (q .0); start = eqb-true _ _ (r .0); small = leb-true _ _ (t .0); within = leb-true _ _ (t .1) }
+    record { rises = leb-true _ _ (p .0); start = eqb-true _ _ (r .0); small = leb-true _ _ (t .0); within = leb-true _ _ (t .1) }
 
 -- ---- the walk
 module _ (s : List ℕ) (n b : ℕ) where
@@ -61,7 +48,7 @@ module _ (s : List ℕ) (n b : ℕ) where
   onward k sum low = headsOk s (n - k) (2 + 8 * k) b sum low
 
   pub onward-step : (k sum low : ℕ) → k < n
-      → onward k sum low ≡ (placed s (2 + 8 * k) b sum low && (exactly (typeIn s (2 + 8 * k)) (take (sizeAt s (2 + 8 * k)) (drop (b + sum) s)) && onward (k + 1) (sum + sizeAt s (2 + 8 * k)) (keyIn s (2 + 8 * k) + 1)))
+      → onward k sum low ≡ (placed s (2 + 8 * k) b sum low && (exact (typeIn s (2 + 8 * k)) (take (sizeAt s (2 + 8 * k)) (drop (b + sum) s)) && onward (k + 1) (sum + sizeAt s (2 + 8 * k)) (keyIn s (2 + 8 * k) + 1)))
   unfolding headsOk
   onward-step k sum low h =
       let e : n - k ≡ suc (n - (k + 1)) = omega arith in
@@ -78,10 +65,10 @@ module _ (s : List ℕ) (n b : ℕ) where
   pub not-placed : (k sum low : ℕ) → k < n → placed s (2 + 8 * k) b sum low ≡ false → onward k sum low ≡ false
   not-placed k sum low h e = onward-step k sum low h ∙ rw e
 
-  pub not-exact : (k sum low : ℕ) → k < n → exactly (typeIn s (2 + 8 * k)) (take (sizeAt s (2 + 8 * k)) (drop (b + sum) s)) ≡ false → onward k sum low ≡ false
+  pub not-exact : (k sum low : ℕ) → k < n → exact (typeIn s (2 + 8 * k)) (take (sizeAt s (2 + 8 * k)) (drop (b + sum) s)) ≡ false → onward k sum low ≡ false
   not-exact k sum low h e = onward-step k sum low h ∙ rw e (and-false (placed s (2 + 8 * k) b sum low))
 
-  pub onward-more : (k sum low : ℕ) → k < n → placed s (2 + 8 * k) b sum low ≡ true → exactly (typeIn s (2 + 8 * k)) (take (sizeAt s (2 + 8 * k)) (drop (b + sum) s)) ≡ true
+  pub onward-more : (k sum low : ℕ) → k < n → placed s (2 + 8 * k) b sum low ≡ true → exact (typeIn s (2 + 8 * k)) (take (sizeAt s (2 + 8 * k)) (drop (b + sum) s)) ≡ true
       → onward k sum low ≡ onward (k + 1) (sum + sizeAt s (2 + 8 * k)) (keyIn s (2 + 8 * k) + 1)
   onward-more k sum low h e f = onward-step k sum low h ∙ rw (e, f)
 

@@ -1,7 +1,7 @@
 -- What a save offers of a well-formed dictionary is a right table: its records rise, and each body is a value of its type.
 -- Assumes nothing.
 use mathlib.Core.Path.{_≡_, refl, ap, _∙_}
-use mathlib.Core.Bool.{Bool, true, false, cond, _&&_, _||_}
+use mathlib.Core.Bool.{Bool, true, false, cond, _&&_}
 use mathlib.Core.List.{List, [], _∷_, _++_}
 use Prim.Native.Nat.{ℕ, zero, suc, _+_, _-_, _*_, _≤_, _<_}
 use native.Mathlib.Omega.{arith}
@@ -9,18 +9,17 @@ use borrow.Author.Tests.{eqb-true, eqb-false, eq-eqb, ne-eqb, le-leb, leb-true, 
 use lib.Dec.{eqb, leb}
 use lib.ListN.{length, take, drop, getD}
 use Rattle.lists.proofs.NumberLaws.{length-bytesOf}
-use Rattle.value.specs.Codec.{isText, sizeOf, takes}
-use Rattle.value.proofs.CodecLaws.{encoding-fixed}
+use Rattle.value.specs.Codec.{exact}
 use Rattle.entry.specs.Table.{Dict, numberOf, indexAt, kindAt, firstAt, typeAt, startAt}
 use Rattle.entry.specs.Judge.{wellFormed}
 use Rattle.entry.specs.Encode.{encodingAt}
 use Rattle.entry.proofs.JudgeLaws.{and-true, head-ok}
 use Rattle.entry.proofs.FactLaws.{row-facts}
 use Rattle.entry.proofs.ApartLaws.{rising}
-use Rattle.entry.proofs.EncodeLaws.{decode-stored}
+use Rattle.entry.proofs.EncodeLaws.{exact-stored}
 use Rattle.commands.specs.Image.{Rec, imageOf, subIn, offers, recAt, recsIn, offeredFrom, offered, bodies, newTable}
 use Rattle.commands.specs.Save.{Row, fits}
-use Rattle.commands.specs.Readable.{keyOf, exactly, recOk, recsOk, Right}
+use Rattle.commands.specs.Readable.{keyOf, recOk, recsOk, Right}
 use Rattle.commands.proofs.ImageLaws.{length-image}
 use Rattle.commands.proofs.OfferLaws.{facts, offers-few, row-lies}
 
@@ -28,11 +27,10 @@ use Rattle.commands.proofs.OfferLaws.{facts, offers-few, row-lies}
 pub record RecOk (r : Rec) : Type 0 where
   pub index : r .index < 65536
   pub sub : r .sub < 256
-  pub type : r .type ≤ 20
-  pub value : exactly (r .type) (r .body) ≡ true
+  pub value : exact (r .type) (r .body) ≡ true
 
 rec-make : (r : Rec) → RecOk r → recOk r ≡ true
-rec-make r o = rw (lt-ltb _ _ (o .index), lt-ltb _ _ (o .sub), le-leb _ _ (o .type)) (o .value)
+rec-make r o = rw (lt-ltb _ _ (o .index), lt-ltb _ _ (o .sub)) (o .value)
 
 -- a lower bound does too
 recs-lower : (low low′ : ℕ) (rs : List Rec) → low′ ≤ low → recsOk low rs ≡ true → recsOk low′ rs ≡ true
@@ -55,21 +53,8 @@ module _ (d : Dict) (e : wellFormed d ≡ true) (i n : ℕ) (r : Row (d .objects
   abbrev kind : ℕ
   kind = kindAt (d .objects) i
 
-  value-ok : (k : ℕ) → k < n → exactly (typeAt (d .slots) (firstAt (d .objects) i + k)) (encodingAt d (firstAt (d .objects) i + k)) ≡ true
-  unfolding exactly
-  value-ok k h =
-      let p = firstAt (d .objects) i + k in
-      let t = typeAt (d .slots) p in
-      let w = decode-stored d e p (facts d e i n r k h .below) in
-      ap (λ z. takes z && (isText t || eqb (length (encodingAt d p)) (sizeOf t))) w ∙ go (isText t) refl
-    where
-      go : let p = firstAt (d .objects) i + k in let t = typeAt (d .slots) p in (b : Bool) → isText t ≡ b → (isText t || eqb (length (encodingAt d p)) (sizeOf t)) ≡ true
-      go true q = rw q
-      go false q =
-          let p = firstAt (d .objects) i + k in
-          let t = typeAt (d .slots) p in
-          let w = getD (d .words) p 0 in
-          rw q (eq-eqb _ _ (ap length (encoding-fixed t w (take w (drop (startAt (d .slots) p) (d .bytes))) q) ∙ length-bytesOf (sizeOf t) w))
+  value-ok : (k : ℕ) → k < n → exact (typeAt (d .slots) (firstAt (d .objects) i + k)) (encodingAt d (firstAt (d .objects) i + k)) ≡ true
+  value-ok k h = exact-stored d e (firstAt (d .objects) i + k) (facts d e i n r k h .below)
 
   sub-few : (k : ℕ) → subIn kind k ≤ k + 1
   unfolding subIn
@@ -84,7 +69,6 @@ module _ (d : Dict) (e : wellFormed d ≡ true) (i n : ℕ) (r : Row (d .objects
       record {
         index = head-ok _ _ _ _ _ _ (row-facts d e i (r .below) .head) .index-small;
         sub = omega (arith, sub-few k, row-lies d e i (r .below) .few, r .within);
-        type = facts d e i n r k h .type;
         value = value-ok k h;
       }
 

@@ -10,6 +10,8 @@ use native.Mathlib.Nat.{add-zero}
 use native.Mathlib.Omega.{arith}
 use borrow.Author.Tests.{eq-eqb, le-leb, leb-true, ltb-true}
 use lib.Dec.{leb, ltb}
+use Rattle.value.specs.Codec.{exact}
+use Rattle.value.proofs.CodecLaws.{exact-facts}
 use lib.ListN.{length, take, drop, length-append, take-append-drop}
 use lib.Seq.{take-at, drop-at, drop-drop}
 use Rattle.lists.specs.Numbers.{number, bytesOf, Bytes}
@@ -20,7 +22,7 @@ use Rattle.entry.specs.Judge.{wellFormed}
 use Rattle.entry.proofs.JudgeLaws.{and-true}
 use Rattle.commands.specs.Image.{Rec, headOf, heads, bodies, imageOf, newTable}
 use Rattle.commands.specs.Save.{fits}
-use Rattle.commands.specs.Readable.{keyOf, exactly, recOk, recsOk, Right, field, indexIn, keyIn, typeIn, startIn, sizeAt, recsAt, placed, headsOk, readable, tableOf}
+use Rattle.commands.specs.Readable.{keyOf, recOk, recsOk, Right, field, indexIn, keyIn, typeIn, startIn, sizeAt, recsAt, placed, headsOk, readable, tableOf}
 use Rattle.commands.proofs.ImageLaws.{length-heads, length-image}
 use Rattle.commands.proofs.ReadLaws.{bytes-drop, field-lt, Placed, placed-true, counted}
 use Rattle.commands.proofs.RightLaws.{RecOk, recs-cons, saved-right}
@@ -69,8 +71,7 @@ rec-ok : (r : Rec) → recOk r ≡ true → RecOk r
 rec-ok r e =
     let p = and-true (ltb (r .index) 65536) _ e in
     let q = and-true (ltb (r .sub) 256) _ (p .1) in
-    let t = and-true (leb (r .type) 20) _ (q .1) in
-    record { index = ltb-true _ _ (p .0); sub = ltb-true _ _ (q .0); type = leb-true _ _ (t .0); value = t .1 }
+    record { index = ltb-true _ _ (p .0); sub = ltb-true _ _ (q .0); value = q .1 }
 
 record Cons (low : ℕ) (r : Rec) (rs : List Rec) : Type 0 where
   rises : low ≤ keyOf (r .index) (r .sub)
@@ -99,7 +100,7 @@ reads s b (r ∷ rs) a sum low xs ys e f w g h =
     let n = length (r .body) in
     let m : length (r .body ++ bodies rs) ≡ n + length (bodies rs) = length-append (r .body) (bodies rs) in
     let e′ = e ∙ append-assoc (headOf (r .index) (r .sub) (r .type) sum n) (heads (sum + n) rs) xs in
-    let ih = head-is s a (r .index) (r .sub) (r .type) sum n (heads (sum + n) rs ++ xs) e′ (c .ok .index) (c .ok .sub) (omega (arith, c .ok .type)) (omega arith) (omega arith) in
+    let ih = head-is s a (r .index) (r .sub) (r .type) sum n (heads (sum + n) rs ++ xs) e′ (c .ok .index) (c .ok .sub) (omega (arith, exact-facts (r .type) (r .body) (c .ok .value) .type)) (omega arith) (omega arith) in
     let f′ : drop (b + sum) s ≡ r .body ++ (bodies rs ++ ys) = f ∙ append-assoc (r .body) (bodies rs) ys in
     let t : take n (drop (b + sum) s) ≡ r .body = ap (take n) f′ ∙ take-at (r .body) (bodies rs ++ ys) n refl in
     let z : b + sum + n ≡ b + (sum + n) = omega arith in
@@ -112,7 +113,7 @@ reads s b (r ∷ rs) a sum low xs ys e f w g h =
     turn p₁ p₂ p₃ p₄ p₅ t c v k l =
         let z : b + sum + length (r .body) ≡ b + (sum + length (r .body)) = omega arith in
         record {
-          good = rw (p₁, p₂, p₃, p₄, p₅, le-leb _ _ (c .rises), le-leb _ _ (c .ok .type), eq-eqb sum sum refl, le-leb _ _ k, le-leb _ _ l, t, c .ok .value) (v .good);
+          good = rw (p₁, p₂, p₃, p₄, p₅, le-leb _ _ (c .rises), eq-eqb sum sum refl, le-leb _ _ k, le-leb _ _ l, t, c .ok .value) (v .good);
           same = rw (p₁, p₂, p₃, p₅, t, z, v .same);
         }
 
@@ -172,14 +173,14 @@ unfolding heads bodies headsOk recsAt recsOk
 holds s h b zero a sum low l m e = record { heads-lie = rw add-zero; bodies-lie = rw add-zero; good = refl; small = omega arith; count = refl }
 holds s h b (suc n) a sum low l m e =
     let p = and-true (placed s a b sum low) _ e in
-    let q = and-true (exactly (typeIn s a) (take (sizeAt s a) (drop (b + sum) s))) _ (p .1) in
+    let q = and-true (exact (typeIn s a) (take (sizeAt s a) (drop (b + sum) s))) _ (p .1) in
     let t = placed-true s a b sum low (p .0) in
     turn t (q .0) (holds s h b n (a + 8) (sum + sizeAt s a) (keyIn s a + 1) (omega arith) (t .small) (q .1))
   where
     r : Rec
     r = record { index = indexIn s a; sub = field s (a + 2) 1; type = typeIn s a; body = take (sizeAt s a) (drop (b + sum) s) }
 
-    turn : Placed s a b sum low → exactly (typeIn s a) (take (sizeAt s a) (drop (b + sum) s)) ≡ true
+    turn : Placed s a b sum low → exact (typeIn s a) (take (sizeAt s a) (drop (b + sum) s)) ≡ true
         → Holds s n (a + 8) b (sum + sizeAt s a) (keyIn s a + 1) (recsAt s n (a + 8) (b + (sum + sizeAt s a)))
         → Holds s (suc n) a b sum low (r ∷ recsAt s n (a + 8) (b + sum + sizeAt s a))
     turn t x w =
@@ -201,7 +202,7 @@ holds s h b (suc n) a sum low l m e =
               sym (take-append-drop (sizeAt s a) (drop (b + sum) s))
               ∙ ap (λ xs. r .body ++ xs) (drop-drop (sizeAt s a) (b + sum) s ∙ ap (λ pl. drop pl s) z ∙ w .bodies-lie ∙ ap (λ pl. bodies rs ++ drop pl s) (sym (ap (λ m. b + sum + m) u ∙ y)))
               ∙ sym (append-assoc (r .body) (bodies rs) (drop (b + sum + length (r .body ++ bodies rs)) s));
-          good = recs-cons low r rs (t .rises) (record { index = omega (arith, i); sub = omega (arith, o); type = t .type; value = x }) (w .good);
+          good = recs-cons low r rs (t .rises) (record { index = omega (arith, i); sub = omega (arith, o); value = x }) (w .good);
           small = omega (arith, u, w .small);
           count = ap suc (w .count);
         })

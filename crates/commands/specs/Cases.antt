@@ -7,11 +7,11 @@ use mathlib.Core.Option.{none, some}
 use Rattle.answers.specs.declared.Refusal.the-variants.{StoreFull}
 use Rattle.lists.specs.Lists.{over}
 use Rattle.lists.specs.Numbers.{number, bytesOf}
-use Rattle.value.specs.Codec.{sizeOf, encoding, wordAt}
+use Rattle.value.specs.Codec.{sizeOf, encoding, exact}
 use Rattle.entry.specs.Table.{Dict, dict}
 use Rattle.commands.specs.Image.{inList, offers, subIn, recsIn, offeredFrom, heads, bodies, imageOf, offered}
 use Rattle.commands.specs.Save.{fits, after, saveOf}
-use Rattle.commands.specs.Readable.{exactly, placed, headsOk, recsAt, readable, tableOf}
+use Rattle.commands.specs.Readable.{placed, headsOk, recsAt, readable, tableOf}
 use Rattle.commands.specs.declared.Saved.the-variants.{Done, Refused}
 
 abbrev pub d : Dict
@@ -42,9 +42,9 @@ nothing = refl
 
 -- it is read back; a start that is no sum of lengths makes it unreadable
 pub table : tableOf image ≡ some (offered d 1)
-unfolding tableOf readable headsOk recsAt placed exactly wordAt number sizeOf offeredFrom recsIn offers inList subIn bytesOf encoding
+unfolding tableOf readable headsOk recsAt placed exact number sizeOf offeredFrom recsIn offers inList subIn bytesOf encoding
 table = refl
 
 pub no-table : tableOf (1 ∷ 0 ∷ 0x00 ∷ 0x60 ∷ 0 ∷ 6 ∷ 1 ∷ 0 ∷ 2 ∷ 0 ∷ 0x34 ∷ 0x12 ∷ []) ≡ none
-unfolding tableOf readable headsOk recsAt placed exactly wordAt number sizeOf
+unfolding tableOf readable headsOk recsAt placed exact number sizeOf
 no-table = refl

@@ -2,13 +2,13 @@
 -- Assumes nothing.
 use Prim.Native.Nat.{ℕ, zero, suc, _+_, _*_, _≤_}
 use mathlib.Core.Path.{_≡_}
-use mathlib.Core.Bool.{Bool, true, cond, _&&_, _||_}
+use mathlib.Core.Bool.{Bool, true, cond, _&&_}
 use mathlib.Core.List.{List, [], _∷_}
 use mathlib.Core.Option.{Option, none, some}
 use lib.Dec.{eqb, leb, ltb}
 use lib.ListN.{length, take, drop}
 use Rattle.lists.specs.Numbers.{number}
-use Rattle.value.specs.Codec.{isText, sizeOf, takes, wordAt}
+use Rattle.value.specs.Codec.{exact}
 use Rattle.commands.specs.Image.{Rec, bodies}
 
 -- ---- a right table
@@ -16,13 +16,9 @@ use Rattle.commands.specs.Image.{Rec, bodies}
 abbrev pub keyOf : ℕ → ℕ → ℕ
 keyOf index sub = 256 * index + sub
 
--- R10.7: "each value decodes to exactly its length"
-unfoldable pub exactly : ℕ → List ℕ → Bool
-exactly t s = takes (wordAt t s) && (isText t || eqb (length s) (sizeOf t))
-
--- "each type is at most 20"
+-- R10.7: "each type is at most 20; each value decodes to exactly its length"
 abbrev pub recOk : Rec → Bool
-recOk r = ltb (r .index) 65536 && (ltb (r .sub) 256 && (leb (r .type) 20 && exactly (r .type) (r .body)))
+recOk r = ltb (r .index) 65536 && (ltb (r .sub) 256 && exact (r .type) (r .body))
 
 -- all records are right, and their keys rise from low on
 unfoldable pub recsOk : ℕ → List Rec → Bool
@@ -64,12 +60,12 @@ recsAt s (suc n) a b =
 -- R10.6, R10.7: the record at place a is right behind sum bytes of the bodies, which lie from place b on, with a key not below low
 unfoldable pub placed : List ℕ → ℕ → ℕ → ℕ → ℕ → Bool
 placed s a b sum low =
-    leb low (keyIn s a) && (leb (typeIn s a) 20 && (eqb (startIn s a) sum && (leb (sum + sizeAt s a) 16384 && leb (b + (sum + sizeAt s a)) (length s))))
+    leb low (keyIn s a) && (eqb (startIn s a) sum && (leb (sum + sizeAt s a) 16384 && leb (b + (sum + sizeAt s a)) (length s)))
 
 unfoldable pub headsOk : List ℕ → ℕ → ℕ → ℕ → ℕ → ℕ → Bool
 headsOk s zero a b sum low = true
 headsOk s (suc n) a b sum low =
-    placed s a b sum low && (exactly (typeIn s a) (take (sizeAt s a) (drop (b + sum) s)) && headsOk s n (a + 8) b (sum + sizeAt s a) (keyIn s a + 1))
+    placed s a b sum low && (exact (typeIn s a) (take (sizeAt s a) (drop (b + sum) s)) && headsOk s n (a + 8) b (sum + sizeAt s a) (keyIn s a + 1))
 
 -- R10.7: "An image is readable when the store has 2 bytes or more; .. It is judged wholly"
 unfoldable pub readable : List ℕ → Bool

@@ -2,23 +2,11 @@
 ghost use mathlib.Core.Path.{_≡_};
 ghost use Prim.Native.Nat.{_+_, _*_, _≤_};
 ghost use lib.ListN.{length, take, drop};
-ghost use Rattle.commands.specs.Readable.{exactly, keyIn, typeIn, sizeAt, placed, headsOk, readable};
-use value::Word;
-
-// Whether the bytes are exactly a value of type t.
-fn exact(t: u64, s: &[u8]) -> bool
-    ensures { λ r. ⌜ r ≡ exactly t (now (s .entry)) ⌝ }
-{
-    let Word::Takes(_) = value::decode_word(t, s) else {
-        return false;
-    };
-    let text = value::is_text(t);
-    let n = value::size_of(t);
-    text | (s.len() == n)
-}
+ghost use Rattle.value.specs.Codec.{exact};
+ghost use Rattle.commands.specs.Readable.{keyIn, typeIn, startIn, sizeAt, placed, headsOk, readable};
 
 // The numbers of the record at place a.
-fn key_in(s: &[u8], a: usize) -> u64
+pub fn key_in(s: &[u8], a: usize) -> u64
     requires { ⌜ a + 8 ≤ length (now s) ⌝ }
     ensures { λ r. ⌜ r ≡ keyIn (now (s .entry)) a ⌝ }
 {
@@ -27,18 +15,25 @@ fn key_in(s: &[u8], a: usize) -> u64
     256 * index + sub
 }
 
-fn type_in(s: &[u8], a: usize) -> u64
+pub fn type_in(s: &[u8], a: usize) -> u64
     requires { ⌜ a + 8 ≤ length (now s) ⌝ }
     ensures { λ r. ⌜ r ≡ typeIn (now (s .entry)) a ⌝ }
 {
     lists::number(s, a + 3, 1)
 }
 
-fn size_at(s: &[u8], a: usize) -> usize
+pub fn size_at(s: &[u8], a: usize) -> usize
     requires { ⌜ a + 8 ≤ length (now s) ⌝ }
     ensures { λ r. ⌜ r ≡ sizeAt (now (s .entry)) a ⌝ }
 {
     lists::number(s, a + 6, 2) as usize
+}
+
+pub fn start_in(s: &[u8], a: usize) -> usize
+    requires { ⌜ a + 8 ≤ length (now s) ⌝ }
+    ensures { λ r. ⌜ r ≡ startIn (now (s .entry)) a ⌝ }
+{
+    lists::number(s, a + 4, 2) as usize
 }
 
 // Whether it stands right behind `sum` bytes of the bodies, which lie from place b on, with a key not below low.
@@ -47,20 +42,19 @@ fn placed(s: &[u8], a: usize, b: usize, sum: usize, low: u64) -> bool
     ensures { λ r. ⌜ r ≡ placed (now (s .entry)) a b sum low ⌝ }
 {
     let key = key_in(s, a);
-    let t = type_in(s, a);
-    let start = lists::number(s, a + 4, 2) as usize;
+    let start = start_in(s, a);
     let end = sum + size_at(s, a);
-    (low <= key) & ((t <= 20) & ((start == sum) & ((end <= 16384) & (b + end <= s.len()))))
+    (low <= key) & ((start == sum) & ((end <= 16384) & (b + end <= s.len())))
 }
 
 // Whether its body, which lies from place p on, is exactly a value of its type.
 fn exact_at(s: &[u8], a: usize, p: usize) -> bool
     requires { ⌜ (a + 8 ≤ length (now s)) × (p + sizeAt (now s) a ≤ length (now s)) ⌝ }
-    ensures { λ r. ⌜ r ≡ exactly (typeIn (now (s .entry)) a) (take (sizeAt (now (s .entry)) a) (drop p (now (s .entry)))) ⌝ }
+    ensures { λ r. ⌜ r ≡ exact (typeIn (now (s .entry)) a) (take (sizeAt (now (s .entry)) a) (drop p (now (s .entry)))) ⌝ }
 {
     let t = type_in(s, a);
     let end = p + size_at(s, a);
-    exact(t, &s[p..end])
+    value::is_value(t, &s[p..end])
 }
 
 fn heads_ok(s: &[u8], count: usize) -> bool

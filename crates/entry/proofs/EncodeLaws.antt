@@ -11,12 +11,12 @@ use lib.Seq.{length-take-le, take-all, set-getD}
 use Rattle.lists.specs.Numbers.{bytesOf}
 use Rattle.lists.proofs.ListLaws.{over-same}
 use Rattle.lists.proofs.NumberLaws.{length-bytesOf, number-bytesOf}
-use Rattle.value.specs.Codec.{isText, sizeOf, wordAt, decodeOf, sayable}
+use Rattle.value.specs.Codec.{isText, sizeOf, wordAt, decodeOf, sayable, exact}
 use Rattle.value.specs.Meaning.{reading, typeOf, wordOf}
 use Rattle.value.specs.declared.ObjectValue.{ObjectValue}
 use Rattle.value.specs.declared.Decoded.the-variants.{Value}
 use Rattle.value.specs.declared.Word.the-variants.{Takes}
-use Rattle.value.proofs.CodecLaws.{sayable-text, sayable-fixed, encoding-text, encoding-fixed}
+use Rattle.value.proofs.CodecLaws.{sayable-text, sayable-fixed, encoding-text, encoding-fixed, exact-text, exact-fixed}
 use Rattle.value.proofs.WordLaws.{type-reading, word-reading}
 use Rattle.value.proofs.RoundTrip.{decode-encode}
 use Rattle.entry.specs.Table.{Dict, valuesOf, typeAt, startAt}
@@ -74,6 +74,15 @@ module _ (d : Dict) (e : wellFormed d ≡ true) (p : ℕ) (h : p < valuesOf (d .
   -- decoding gives the type and the word back
   pub decode-stored : wordAt t (encodingAt d p) ≡ Takes w
   decode-stored = decode-encode t w part said
+
+  -- the encoding is a value and nothing else
+  pub exact-stored : exact t (encodingAt d p) ≡ true
+  exact-stored = go (isText t) refl
+    where
+      go : (b : Bool) → isText t ≡ b → exact t (encodingAt d p) ≡ true
+      go true x = exact-text t (encodingAt d p) (f .type) x ∙ rw (encoding-text t w part x) (f .text x .1)
+      go false x =
+          exact-fixed t (encodingAt d p) (f .type) x ∙ rw (encoding-fixed t w part x) (eq-eqb _ _ (length-bytesOf (sizeOf t) w))
 
   pub decodes-stored : Decodes d p
   unfolding decodeOf

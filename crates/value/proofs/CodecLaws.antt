@@ -209,3 +209,25 @@ exact-text t s h e = rw (le-leb t 20 h, e)
 pub exact-fixed : (t : ℕ) (s : List ℕ) → t ≤ 20 → isText t ≡ false → exact t s ≡ eqb (length s) (sizeOf t)
 unfolding exact
 exact-fixed t s h e = rw (le-leb t 20 h, e)
+
+-- the word that it is, and what is so of it
+abbrev pub wordIn : ℕ → List ℕ → ℕ
+wordIn t s = cond (isText t) (length s) (number (take (sizeOf t) s))
+
+pub record Exact (t : ℕ) (s : List ℕ) : Type 0 where
+  pub type : t ≤ 20
+  pub taken : wordAt t s ≡ Takes (wordIn t s)
+
+pub exact-facts : (t : ℕ) (s : List ℕ) → exact t s ≡ true → Exact t s
+unfolding exact wordAt
+exact-facts t s e = known (leb t 20) refl e
+  where
+    go : t ≤ 20 → (b : Bool) → isText t ≡ b → cond b (takes (textWord t s)) (eqb (length s) (sizeOf t)) ≡ true → Exact t s
+    go k true q h = record { type = k; taken = rw q (text-taken t s h) }
+    go k false q h =
+        let l : ltb (length s) (sizeOf t) ≡ false = le-ltb (length s) (sizeOf t) (omega (arith, eqb-true (length s) (sizeOf t) h)) in
+        record { type = k; taken = rw (q, l) }
+
+    known : (b : Bool) → leb t 20 ≡ b → (b && cond (isText t) (takes (textWord t s)) (eqb (length s) (sizeOf t))) ≡ true → Exact t s
+    known true q h = go (leb-true t 20 q) (isText t) refl h
+    known false q h = let z : _≡_ {A = ℕ} 0 1 = cc in absurd (omega arith)

@@ -5,14 +5,12 @@ use mathlib.Core.Bool.{Bool, true, false, cond, _&&_, _||_}
 use mathlib.Core.List.{List}
 use Prim.Native.Nat.{ℕ, _<_, _≤_}
 use native.Mathlib.Omega.{arith}
-use borrow.Author.Tests.{eqb-true, ltb-false, le-ltb}
-use lib.Dec.{eqb, leb, ltb}
-use lib.ListN.{length, getD, take}
-use Rattle.lists.specs.Numbers.{number}
+use borrow.Author.Tests.{eqb-true, ltb-false}
+use lib.Dec.{eqb, ltb}
+use lib.ListN.{length}
 use Rattle.answers.specs.declared.Refusal.the-variants.{BadValue, ReadOnly, TypeMismatch, TooLong, NoStorage, BadSignature, CountNotWritable}
-use Rattle.value.specs.Codec.{isText, sizeOf, takes, textWord, wordAt, exact}
-use Rattle.value.specs.declared.Word.the-variants.{Takes}
-use Rattle.value.proofs.CodecLaws.{text-taken}
+use Rattle.value.specs.Codec.{isText, exact}
+use Rattle.value.proofs.CodecLaws.{wordIn, exact-facts}
 use Rattle.entry.specs.Table.{Dict, accessAt, typeAt, roomAt}
 use Rattle.entry.specs.Find.{findRow, subAt, placeOf, onRow}
 use Rattle.entry.specs.Judge.{wellFormed}
@@ -20,7 +18,6 @@ use Rattle.entry.specs.declared.Found.{Found}
 use Rattle.entry.specs.declared.Found.the-variants.{At, Nothing}
 use Rattle.entry.specs.declared.Place.{Place}
 use Rattle.entry.specs.declared.Place.the-variants.{NoObject, NoSub, Count, Value}
-use Rattle.entry.proofs.JudgeLaws.{and-true}
 use Rattle.entry.proofs.ValueLaws.{ValueFacts, element-of, element-facts}
 use Rattle.entry.proofs.KeepLaws.{Fits}
 use Rattle.od.specs.declared.Answer.{Answer}
@@ -29,20 +26,6 @@ use Rattle.pdo_validator.specs.Counting.{isMapping}
 use Rattle.writing.specs.declared.Judged.{Judged}
 use Rattle.writing.specs.declared.Judged.the-variants.{Put, Kept, Save, Restore, Refused}
 use Rattle.writing.specs.Judging.{save, load, signedBy, commandOf, atValue, inPlace, inObject, countFirst, afterCount, judgeOf}
-
--- ---- the word that a value takes
-abbrev pub wordOf : ℕ → List ℕ → ℕ
-wordOf t s = cond (isText t) (length s) (number (take (sizeOf t) s))
-
-pub exact-taken : (t : ℕ) (s : List ℕ) → exact t s ≡ true → wordAt t s ≡ Takes (wordOf t s)
-unfolding exact wordAt
-exact-taken t s e = go (isText t) refl (and-true (leb t 20) _ e .1)
-  where
-    go : (b : Bool) → isText t ≡ b → cond b (takes (textWord t s)) (eqb (length s) (sizeOf t)) ≡ true → wordAt t s ≡ Takes (wordOf t s)
-    go true q h = rw q (text-taken t s h)
-    go false q h =
-        let l : ltb (length s) (sizeOf t) ≡ false = le-ltb (length s) (sizeOf t) (omega (arith, eqb-true (length s) (sizeOf t) h)) in
-        rw (q, l)
 
 -- ---- what a put comes from
 pub record Placed (d : Dict) (x sub t : ℕ) (s : List ℕ) (p : ℕ) : Type 0 where
@@ -118,11 +101,11 @@ judged-put d n x sub t s p e = right (exact t s) refl e
     right false h e = let z : _≡_ {A = ℕ} 0 1 = cc in absurd (omega arith)
 
 -- so it fits
-pub judged-fits : (d : Dict) (n x sub t : ℕ) (s : List ℕ) (p : ℕ) → judgeOf d n x sub t s ≡ Put p → Fits d p s (wordOf t s)
+pub judged-fits : (d : Dict) (n x sub t : ℕ) (s : List ℕ) (p : ℕ) → judgeOf d n x sub t s ≡ Put p → Fits d p s (wordIn t s)
 judged-fits d n x sub t s p e =
     let j = judged-put d n x sub t s p e in
     let k = j .1 .typed in
-    record { taken = rw k (exact-taken t s (j .0)); room = λ h. j .1 .room (sym (ap isText k) ∙ h) }
+    record { taken = rw k (exact-facts t s (j .0) .taken); room = λ h. j .1 .room (sym (ap isText k) ∙ h) }
 
 -- and its facts are those of an element
 pub judged-facts : (d : Dict) → wellFormed d ≡ true → (n x sub t : ℕ) (s : List ℕ) (p : ℕ) → judgeOf d n x sub t s ≡ Put p → ValueFacts d p

@@ -17,17 +17,17 @@ size-at-requires c κs = search needs
 add-end : tie.Need-add-end
 add-end c = omega (arith, c .size-at .ensures)
 
-sub-exact : tie.Need-sub-exact
-sub-exact c = search needs
+sub-is-value : tie.Need-sub-is-value
+sub-is-value c = search needs
 
-part-exact-start : tie.Need-part-exact-start
-part-exact-start c = search needs
+part-is-value-start : tie.Need-part-is-value-start
+part-is-value-start c = search needs
 
-part-exact-end : tie.Need-part-exact-end
-part-exact-end c = omega (arith, c .size-at .ensures)
+part-is-value-end : tie.Need-part-is-value-end
+part-is-value-end c = omega (arith, c .size-at .ensures)
 
-exact-requires : tie.Need-exact-requires
-exact-requires c κs = search needs
+is-value-requires : tie.Need-is-value-requires
+is-value-requires c κs = search needs
 
 returns : tie.Need-returns
 returns c =
@@ -35,7 +35,7 @@ returns c =
     let t = z .before in
     let a = t .before .before .args in
     let n : (a .p + z .size-at .result) - a .p ≡ sizeAt (now (a .s)) (a .a) = omega (arith, z .size-at .ensures) in
-    c .exact .ensures ∙ rw (t .type-in .ensures, n)
+    c .is-value .ensures ∙ rw (t .type-in .ensures, n)
 
 pub exact-at-spec : {M : Type 1} → statement M
 exact-at-spec =
@@ -44,8 +44,8 @@ exact-at-spec =
     type-in-requires
     size-at-requires
     add-end
-    sub-exact
-    part-exact-start
-    part-exact-end
-    exact-requires
+    sub-is-value
+    part-is-value-start
+    part-is-value-end
+    is-value-requires
     returns)

@@ -11,21 +11,15 @@ use Rattle.commands.proofs.judging.placed.Tie as tie
 
 small : (c : tie.After-size-at) → c .size-at .result < 65536
 small c =
-    let k = c .before .before .before .before in
+    let k = c .before .before .before in
     let s = k .before in
     omega (arith, c .size-at .ensures, field-lt (now (s .args .s)) (s .args .a + 6) 2 (λ i. omega (arith, k .shared-slice-known .given i)) (omega arith))
 
 key-in-requires : tie.Need-key-in-requires
 key-in-requires c κs = search needs
 
-type-in-requires : tie.Need-type-in-requires
-type-in-requires c κs = search needs
-
-add-number : tie.Need-add-number
-add-number c = search needs
-
-number-requires : tie.Need-number-requires
-number-requires c κs = search needs
+start-in-requires : tie.Need-start-in-requires
+start-in-requires c κs = search needs
 
 size-at-requires : tie.Need-size-at-requires
 size-at-requires c κs = search needs
@@ -40,18 +34,15 @@ returns : tie.Need-returns
 unfolding placed
 returns c =
     let n = c .before in
-    let t = n .before in
-    let k = t .before in
-    rw (sym (k .key-in .ensures), sym (t .type-in .ensures), sym (n .number .ensures), sym (c .size-at .ensures))
+    let k = n .before in
+    rw (sym (k .key-in .ensures), sym (n .start-in .ensures), sym (c .size-at .ensures))
 
 pub placed-spec : {M : Type 1} → statement M
 placed-spec =
     tie.close
     (tie.spec
     key-in-requires
-    type-in-requires
-    add-number
-    number-requires
+    start-in-requires
     size-at-requires
     add-end
     add-result
