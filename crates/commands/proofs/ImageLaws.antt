@@ -8,7 +8,7 @@ use native.Mathlib.Omega.{arith}
 use lib.ListN.{length, length-append}
 use Rattle.lists.specs.Lists.{over}
 use Rattle.lists.specs.Numbers.{bytesOf}
-use Rattle.lists.proofs.ListLaws.{over-none, over-over, length-over}
+use Rattle.lists.proofs.ListLaws.{over-none, over-over, lay-two, lay-next}
 use Rattle.lists.proofs.NumberLaws.{length-bytesOf}
 use Rattle.commands.specs.Image.{Rec, headOf, heads, bodies, imageOf}
 
@@ -52,14 +52,6 @@ heads-append s (r ∷ xs) ys =
     rw (heads-append (s + length (r .body)) xs ys, e) (sym (append-assoc h (heads (s + length (r .body)) xs) (heads (s + length (r .body ++ bodies xs)) ys)))
 
 -- ---- laid one behind the other
--- what lies behind xs laid over a store
-pub lay-two : (s : List ℕ) (a : ℕ) (xs ys : List ℕ) (b : ℕ) → b ≡ a + length xs → b ≤ length s → over s a (xs ++ ys) ≡ over (over s a xs) b ys
-lay-two s a xs ys b e h = sym (over-over s a xs b ys e h)
-
-pub lay-next : (s : List ℕ) {s′ : List ℕ} (a : ℕ) (xs ys : List ℕ) (b : ℕ) → s′ ≡ over s a xs → b ≡ a + length xs → b ≤ length s
-    → (over s a (xs ++ ys) ≡ over s′ b ys) × (length s′ ≡ length s)
-lay-next s {s′} a xs ys b q e h = (lay-two s a xs ys b e h ∙ ap (λ t. over t b ys) (sym q), ap length q ∙ length-over s a xs (omega arith))
-
 -- the five numbers of a record
 pub head-laid : (s : List ℕ) {s₁ s₂ s₃ s₄ s₅ : List ℕ} (a index sub type start len : ℕ) → a + 8 ≤ length s
     → s₁ ≡ over s a (bytesOf 2 index) → s₂ ≡ over s₁ (a + 2) (bytesOf 1 sub) → s₃ ≡ over s₂ (a + 3) (bytesOf 1 type) → s₄ ≡ over s₃ (a + 4) (bytesOf 2 start) → s₅ ≡ over s₄ (a + 6) (bytesOf 2 len)

@@ -13,8 +13,6 @@ use Rattle.value.proofs.CodecLaws.{encoding-text, encoding-fixed, size-le}
 use Rattle.entry.specs.Table.{Dict, numberOf, indexAt, accessAt, countAt, firstAt, typeAt, startAt}
 use Rattle.entry.specs.Judge.{wellFormed}
 use Rattle.entry.specs.Encode.{encodingAt, Lays}
-use Rattle.entry.proofs.JudgeLaws.{headed, head-ok}
-use Rattle.entry.proofs.FactLaws.{row-facts}
 use Rattle.entry.proofs.ValueLaws.{ValueFacts, value-facts}
 use Rattle.commands.specs.Image.{inList, stores, offers, recsIn, offeredFrom, offered, bodies}
 use Rattle.commands.specs.Save.{Row, lengthIn}
@@ -69,17 +67,6 @@ module _ (d : Dict) (l : ℕ) where
       go false = omega arith
 
 -- ---- of a well-formed dictionary
--- where row i lies
-pub record RowLies (d : Dict) (i : ℕ) : Type 0 where
-  pub small : i < 1024
-  pub inside : 12 * i + 24 ≤ length (d .objects)
-  pub few : countAt (d .objects) i ≤ 254
-
-pub row-lies : (d : Dict) → wellFormed d ≡ true → (i : ℕ) → i < numberOf (d .objects) → RowLies d i
-row-lies d e i h =
-    let a = headed d e in
-    record { small = omega (arith, a .few); inside = omega (arith, a .rows); few = head-ok _ _ _ _ _ _ (row-facts d e i h .head) .count-small }
-
 module _ (d : Dict) (e : wellFormed d ≡ true) (i n : ℕ) (r : Row (d .objects) i n) (k : ℕ) (h : k < n) where
   abbrev p : ℕ
   p = firstAt (d .objects) i + k

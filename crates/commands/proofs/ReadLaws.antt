@@ -8,23 +8,15 @@ use native.Mathlib.Omega.{arith}
 use borrow.Author.Tests.{eqb-true, leb-true, le-leb, lt-leb}
 use lib.Dec.{eqb, leb}
 use lib.ListN.{length, take, drop}
-use lib.Seq.{getD-drop}
 use Rattle.lists.specs.Numbers.{Bytes}
-use Rattle.lists.proofs.NumberLaws.{number-lt, bytes-take, part-length}
+use Rattle.lists.proofs.NumberLaws.{part-lt}
 use Rattle.value.specs.Codec.{exact}
 use Rattle.entry.proofs.JudgeLaws.{and-true}
 use Rattle.entry.proofs.WalkLaws.{and-false}
 use Rattle.commands.specs.Readable.{field, keyIn, typeIn, startIn, sizeAt, placed, headsOk, readable}
 
-pub bytes-drop : (a : ℕ) (s : List ℕ) → Bytes s → Bytes (drop a s)
-bytes-drop a s h i = rw (getD-drop a s i 0) (h (a + i))
-
--- a number of n bytes
-pub field-lt : (s : List ℕ) (a n : ℕ) → Bytes s → a + n ≤ length s → field s a n < 2 ^ (8 * n)
-field-lt s a n h l = rw (part-length s a n l) at (number-lt (take n (drop a s)) (bytes-take n (drop a s) (bytes-drop a s h)))
-
 pub key-lt : (s : List ℕ) (a : ℕ) → Bytes s → a + 8 ≤ length s → keyIn s a < 16777216
-key-lt s a h l = omega (arith, field-lt s a 2 h (omega arith), field-lt s (a + 2) 1 h (omega arith))
+key-lt s a h l = omega (arith, part-lt s a 2 (omega arith) h, part-lt s (a + 2) 1 (omega arith) h)
 
 -- ---- a record in its place
 pub record Placed (s : List ℕ) (a b sum low : ℕ) : Type 0 where

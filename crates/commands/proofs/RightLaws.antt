@@ -21,7 +21,8 @@ use Rattle.commands.specs.Image.{Rec, imageOf, subIn, offers, recAt, rec
 use Rattle.commands.specs.Save.{Row, fits}
 use Rattle.commands.specs.Readable.{keyOf, recOk, recsOk, Right}
 use Rattle.commands.proofs.ImageLaws.{length-image}
-use Rattle.commands.proofs.OfferLaws.{facts, offers-few, row-lies}
+use Rattle.entry.proofs.ValueLaws.{row-lies}
+use Rattle.commands.proofs.OfferLaws.{facts, offers-few}
 
 -- ---- records
 pub record RecOk (r : Rec) : Type 0 where

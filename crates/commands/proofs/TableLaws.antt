@@ -15,7 +15,7 @@ use Rattle.value.proofs.CodecLaws.{exact-facts}
 use lib.ListN.{length, take, drop, length-append, take-append-drop}
 use lib.Seq.{take-at, drop-at, drop-drop}
 use Rattle.lists.specs.Numbers.{number, bytesOf, Bytes}
-use Rattle.lists.proofs.NumberLaws.{length-bytesOf, number-bytesOf, bytesOf-number, bytes-take, part-length}
+use Rattle.lists.proofs.NumberLaws.{length-bytesOf, number-bytesOf, bytesOf-number, bytes-take, part-length, bytes-drop, part-lt}
 use Rattle.lists.specs.Lists.{over}
 use Rattle.entry.specs.Table.{Dict}
 use Rattle.entry.specs.Judge.{wellFormed}
@@ -24,7 +24,7 @@ use Rattle.commands.specs.Image.{Rec, headOf, heads, bodies, imageOf, ne
 use Rattle.commands.specs.Save.{fits}
 use Rattle.commands.specs.Readable.{keyOf, recOk, recsOk, Right, field, indexIn, keyIn, typeIn, startIn, sizeAt, recsAt, placed, headsOk, readable, tableOf}
 use Rattle.commands.proofs.ImageLaws.{length-heads, length-image}
-use Rattle.commands.proofs.ReadLaws.{bytes-drop, field-lt, Placed, placed-true, counted}
+use Rattle.commands.proofs.ReadLaws.{Placed, placed-true, counted}
 use Rattle.commands.proofs.RightLaws.{RecOk, recs-cons, saved-right}
 
 -- ---- reading a number that lies at place a
@@ -190,8 +190,8 @@ holds s h b (suc n) a sum low l m e =
         let u : length (r .body ++ bodies rs) ≡ sizeAt s a + length (bodies rs) = length-append (r .body) (bodies rs) ∙ omega arith in
         let v : a + 8 + 8 * n ≡ a + 8 * suc n = omega arith in
         let y : b + sum + (sizeAt s a + length (bodies rs)) ≡ b + (sum + sizeAt s a) + length (bodies rs) = omega arith in
-        let i = field-lt s a 2 h (omega arith) in
-        let o = field-lt s (a + 2) 1 h (omega arith) in
+        let i = part-lt s a 2 (omega arith) h in
+        let o = part-lt s (a + 2) 1 (omega arith) h in
         rw z (record {
           heads-lie =
               head-back s h a (omega arith)

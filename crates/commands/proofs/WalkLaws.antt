@@ -13,7 +13,8 @@ use Rattle.entry.specs.Encode.{encodingAt, Lays}
 use Rattle.commands.specs.Image.{subIn, headOf, recsIn, offers, offeredFrom, heads, bodies}
 use Rattle.commands.specs.Save.{Row, lengthIn}
 use Rattle.commands.proofs.ImageLaws.{length-bodies, no-bytes, heads-two, bodies-two}
-use Rattle.commands.proofs.OfferLaws.{recs-step, recs-end, recs-all, length-recs, one-body, offered-step, offered-end, offers-few, row-lies, facts, length-value, length-small, lays}
+use Rattle.entry.proofs.ValueLaws.{row-lies}
+use Rattle.commands.proofs.OfferLaws.{recs-step, recs-end, recs-all, length-recs, one-body, offered-step, offered-end, offers-few, facts, length-value, length-small, lays}
 
 -- ---- the values of row i
 module _ (d : Dict) (i : ℕ) where

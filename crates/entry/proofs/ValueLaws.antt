@@ -33,6 +33,21 @@ rows-of d e =
     let h = headed d e in
     record { few = h .few; long = h .rows; firsts = λ i l. omega (arith, row-facts d e i l .values, h .values) }
 
+-- where row i lies
+pub record RowLies (d : Dict) (i : ℕ) : Type 0 where
+  pub below : i < numberOf (d .objects)
+  pub small : i < 1024
+  pub inside : 12 * i + 24 ≤ length (d .objects)
+  pub few : countAt (d .objects) i ≤ 254
+
+pub row-lies : (d : Dict) → wellFormed d ≡ true → (i : ℕ) → i < numberOf (d .objects) → RowLies d i
+row-lies d e i h =
+    let a = headed d e in
+    record { below = h; small = omega (arith, a .few); inside = omega (arith, a .rows); few = head-ok _ _ _ _ _ _ (row-facts d e i h .head) .count-small }
+
+pub found-lies : (d : Dict) → wellFormed d ≡ true → (x i : ℕ) → findRow (d .objects) x ≡ At i → RowLies d i
+found-lies d e x i q = row-lies d e i (omega (arith, found-row (d .objects) x (numberOf (d .objects)) 0 i q .below))
+
 -- ---- the element that an index and a sub-index name
 pub record Element (d : Dict) (x sub p : ℕ) : Type 0 where
   pub row : ℕ

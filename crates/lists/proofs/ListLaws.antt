@@ -8,7 +8,7 @@ use native.Mathlib.Numerals.{add-one}
 use native.Mathlib.Omega.{arith}
 use native.Mathlib.Decide.{decLt}
 use lib.ListN.{length, take, drop, getD, set, length-append, length-take, length-drop, take-append-drop, List·getD-append}
-use lib.Seq.{drop-cons, getD-take, getD-drop, length-take-le, take-suc, take-at, drop-at, set-at, set-split, drop-drop, take-append-le, drop-append-le, getD-append-add, drop-append-add, take-append-seam, ext-getD, take-add, take-suc-set, drop-set-lt}
+use lib.Seq.{drop-cons, getD-take, getD-drop, length-take-le, take-suc, take-at, drop-at, set-at, drop-drop, take-append-le, drop-append-le, getD-append-add, drop-append-add, take-append-seam, ext-getD, take-add, take-suc-set, drop-set-lt}
 use Rattle.lists.specs.Lists.{over}
 
 -- ---- how long it is, and what stands where
@@ -19,10 +19,6 @@ length-over xs a ys h = simp (length-append, length-take, length-drop) (omega ar
 pub over-none : (xs : List ℕ) (a : ℕ) → over xs a [] ≡ xs
 unfolding over
 over-none xs a = rw add-zero (take-append-drop a xs)
-
-pub over-one : (xs : List ℕ) (a y : ℕ) → a < length xs → over xs a (y ∷ []) ≡ set xs a y
-unfolding over
-over-one xs a y h = rw add-one (sym (set-split xs a y h))
 
 pub getD-over-below : (xs : List ℕ) (a : ℕ) (ys : List ℕ) (i : ℕ) → i < a → a ≤ length xs → getD (over xs a ys) i 0 ≡ getD xs i 0
 unfolding over
@@ -147,3 +143,11 @@ over-comm xs a ys b zs h k = ext-getD 0 _ _ (length-over (over xs a ys) b zs (om
     at i (no l) =
         over-agree (over xs a ys) xs b zs i (omega (arith, la)) (omega arith) (getD-over-above xs a ys i (omega arith) (omega arith))
         ∙ sym (getD-over-above (over xs b zs) a ys i (omega arith) (omega (arith, lb)))
+
+-- ---- a list laid in two parts
+pub lay-two : (s : List ℕ) (a : ℕ) (xs ys : List ℕ) (b : ℕ) → b ≡ a + length xs → b ≤ length s → over s a (xs ++ ys) ≡ over (over s a xs) b ys
+lay-two s a xs ys b e h = sym (over-over s a xs b ys e h)
+
+pub lay-next : (s : List ℕ) {s′ : List ℕ} (a : ℕ) (xs ys : List ℕ) (b : ℕ) → s′ ≡ over s a xs → b ≡ a + length xs → b ≤ length s
+    → (over s a (xs ++ ys) ≡ over s′ b ys) × (length s′ ≡ length s)
+lay-next s {s′} a xs ys b q e h = (lay-two s a xs ys b e h ∙ ap (λ t. over t b ys) (sym q), ap length q ∙ length-over s a xs (omega arith))

@@ -5,12 +5,13 @@ use mathlib.Core.List.{List, [], _∷_, _++_}
 use Prim.Native.Nat.{ℕ, zero, suc, _+_, _-_, _*_, _/_, _%_, _^_, _<_, _≤_}
 use native.Mathlib.Nat.{add-comm, zero-add, suc-add, mul-assoc, mul-left-comm, le-of-suc-le-suc, not-suc-le-zero, mod-eq-of-lt, div-eq-of-lt, add-mul-div-right, add-mul-mod-self-right}
 use native.Mathlib.Omega.{arith}
+use native.Mathlib.Decide.{decLt}
 use lib.ListN.{length, take, drop, getD, set, length-drop, drop-of-length-le}
 use lib.Seq.{drop-cons, length-take-le, getD-take, getD-drop}
 use lib.Pow.{pow-add, pow-mono, pow-pos, mod-pow-add, shr-shr}
 use Rattle.lists.specs.Lists.{over}
 use Rattle.lists.specs.Numbers.{number, bytesOf, bits, Bytes}
-use Rattle.lists.proofs.ListLaws.{over-first, over-none}
+use Rattle.lists.proofs.ListLaws.{over-first, over-none, getD-over-below, getD-over-inside, getD-over-above}
 
 -- ---- one byte more
 pub pow-suc : (k : ℕ) → 2 ^ (8 * suc k) ≡ 256 * 2 ^ (8 * k)
@@ -38,6 +39,20 @@ bytes-take zero s h i = omega arith
 bytes-take (suc n) [] h i = h i
 bytes-take (suc n) (b ∷ s) h zero = h 0
 bytes-take (suc n) (b ∷ s) h (suc i) = bytes-take n s (λ j. h (suc j)) i
+
+pub bytes-drop : (a : ℕ) (s : List ℕ) → Bytes s → Bytes (drop a s)
+bytes-drop a s h i = rw (getD-drop a s i 0) (h (a + i))
+
+pub bytes-over : (xs : List ℕ) (a : ℕ) (ys : List ℕ) → a ≤ length xs → Bytes xs → Bytes ys → Bytes (over xs a ys)
+bytes-over xs a ys l bx by i = go (decLt i a) (decLt i (a + length ys))
+  where
+    go : Dec (i < a) → Dec (i < a + length ys) → getD (over xs a ys) i 0 < 256
+    go (yes h) k = rw (getD-over-below xs a ys i h l) (bx i)
+    go (no h) (yes k) =
+        let e : a + (i - a) ≡ i = omega (arith, h) in
+        let z : getD (over xs a ys) (a + (i - a)) 0 < 256 = rw (getD-over-inside xs a ys (i - a) (omega (arith, h, k)) l) (by (i - a)) in
+        rw e at z
+    go (no h) (no k) = rw (getD-over-above xs a ys i (omega (arith, k)) l) (bx i)
 
 -- element by element, of a list that is written out
 abbrev pub Each : List ℕ → Type 0
@@ -121,6 +136,9 @@ bits-number (b ∷ s) h (suc i) l =
 module _ (s : List ℕ) (a n : ℕ) (h : a + n ≤ length s) where
   pub part-length : length (take n (drop a s)) ≡ n
   part-length = length-take-le n (drop a s) (simp length-drop (omega arith))
+
+  pub part-lt : Bytes s → number (take n (drop a s)) < 2 ^ (8 * n)
+  part-lt b = rw part-length at (number-lt (take n (drop a s)) (bytes-take n (drop a s) (bytes-drop a s b)))
 
   pub read-none : 0 ≡ number (drop n (take n (drop a s)))
   unfolding number

@@ -1,4 +1,4 @@
--- A counter's row and value lie within the dictionary.
+-- A counter lies within the dictionary.
 -- Assumes nothing.
 use mathlib.Core.Path.{_≡_, refl, sym, ap, _∙_}
 use mathlib.Core.Bool.{Bool, true, false, cond}
@@ -16,20 +16,8 @@ use Rattle.entry.specs.declared.Found.{Found}
 use Rattle.entry.specs.declared.Found.the-variants.{At, Nothing}
 use Rattle.entry.specs.declared.Place.{Place}
 use Rattle.entry.specs.declared.Place.the-variants.{NoObject, NoSub, Count, Value}
-use Rattle.entry.proofs.FindLaws.{found-row}
-use Rattle.entry.proofs.ValueLaws.{rows-of, ValueFacts, element-of, element-facts}
+use Rattle.entry.proofs.ValueLaws.{ValueFacts, element-of, element-facts}
 use Rattle.od.specs.Counter.{ofU32, inRow, counterAt}
-
-pub record RowLies (objects : List ℕ) (i : ℕ) : Type 0 where
-  pub below : i < numberOf objects
-  pub small : i < 1024
-  pub inside : 12 * i + 24 ≤ length objects
-
-pub row-lies : (d : Dict) → wellFormed d ≡ true → (x i : ℕ) → findRow (d .objects) x ≡ At i → RowLies (d .objects) i
-row-lies d w x i e =
-    let r = rows-of d w in
-    let f = found-row (d .objects) x (numberOf (d .objects)) 0 i e in
-    record { below = omega (arith, f .below); small = omega (arith, f .below, r .few); inside = omega (arith, f .below, r .long) }
 
 pub value-lies : (d : Dict) → wellFormed d ≡ true → (x sub i p : ℕ) → findRow (d .objects) x ≡ At i → subAt (d .objects) i sub ≡ Value p → ValueFacts d p
 value-lies d w x sub i p e q = element-facts d w (element-of d w x sub p (ap (onRow (d .objects) sub) e ∙ q))

@@ -10,6 +10,7 @@ use lib.ListN.{length, getD, set, length-set}
 use Rattle.lists.specs.Lists.{over}
 use Rattle.lists.proofs.ListLaws.{over-first}
 use Rattle.entry.proofs.JudgeLaws.{head-ok, headed}
+use Rattle.entry.proofs.ValueLaws.{found-lies}
 use Rattle.entry.specs.Table.{Dict, kindAt, countAt, firstAt, typeAt}
 use Rattle.entry.specs.Find.{findRow}
 use Rattle.entry.specs.Judge.{wellFormed}
@@ -17,7 +18,6 @@ use Rattle.entry.specs.declared.Found.{Found}
 use Rattle.entry.specs.declared.Found.the-variants.{At, Nothing}
 use Rattle.entry.proofs.FactLaws.{row-facts}
 use Rattle.od.specs.Nodes.{configured, nodesFrom, elementsOn, elementsAt, Elements}
-use Rattle.od.proofs.CounterLaws.{row-lies}
 
 -- what is found from element k of n on
 abbrev pub rest : List ℕ → List ℕ → ℕ → ℕ → ℕ → List ℕ
@@ -113,7 +113,7 @@ elements-lie d w = row (findRow (d .objects) 0x1F81) refl
     array : (i : ℕ) → findRow (d .objects) 0x1F81 ≡ At i → Elements (d .slots) (d .words) (countAt (d .objects) i) (firstAt (d .objects) i)
     array i f =
         let h = headed d w in
-        let r = row-facts d w i (row-lies d w 0x1F81 i f .below) in
+        let r = row-facts d w i (found-lies d w 0x1F81 i f .below) in
         record {
           few = head-ok _ _ _ _ _ _ (r .head) .count-small;
           low = omega (arith, r .values, h .values);

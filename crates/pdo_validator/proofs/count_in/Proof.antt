@@ -7,7 +7,7 @@ use lib.ListN.{length}
 use denote.Ref.{now}
 use borrow.Author.Tests.{eq-eqb, ne-eqb, le-leb, lt-leb}
 use Rattle.entry.specs.Table.{Dict, dict, kindAt, countAt}
-use Rattle.entry.proofs.JudgeLaws.{headed}
+use Rattle.entry.proofs.ValueLaws.{row-lies}
 use Rattle.pdo_validator.specs.Counting.{within, endsFrom, countOn}
 use Rattle.pdo_validator.proofs.CountLaws.{elements-lie}
 use native.Mathlib.Omega.{arith}
@@ -22,7 +22,7 @@ abbrev start : tie.After-kind-at → tie.Start
 start c = c .before .before .before .before .before
 
 inside : (s : tie.Start) → (s .args .i < 1024) × (12 * (s .args .i) + 24 ≤ length (now (s .args .objects)))
-inside s = let h = headed (D s) (s .pre .0) in (omega (arith, s .pre .1, h .few), omega (arith, s .pre .1, h .rows))
+inside s = let r = row-lies (D s) (s .pre .0) (s .args .i) (s .pre .1) in (r .small, r .inside)
 
 array : (c : tie.Else1) → eqb (kindAt (now (start (c .before) .args .objects)) (start (c .before) .args .i)) 1 ≡ true
 array c = eq-eqb _ 1 (sym (c .before .kind-at .ensures) ∙ c .if1 .left)

@@ -9,7 +9,7 @@ use Rattle.entry.specs.Find.{findRow}
 use Rattle.entry.specs.declared.Found.the-variants.{At}
 use Rattle.entry.proofs.ValueLaws.{rows-of}
 use Rattle.od.specs.declared.Answer.the-variants.{Done}
-use Rattle.od.proofs.CounterLaws.{row-lies}
+use Rattle.entry.proofs.ValueLaws.{found-lies}
 use Rattle.pdo_validator.specs.Counting.{isMapping, countOn, countOf}
 use native.Mathlib.Omega.{arith}
 use borrow.Author.Needs.{needs}
@@ -56,7 +56,7 @@ count-in-requires c κs =
     let i = c .before in
     let f = i .before .before in
     let s = start (f .before .before) in
-    (s .pre, row-lies (D s) (s .pre) (s .args .index) _ (sym (f .find .ensures) ∙ i .i .given .1) .below)
+    (s .pre, found-lies (D s) (s .pre) (s .args .index) _ (sym (f .find .ensures) ∙ i .i .given .1) .below)
 
 returns-3 : tie.Need-returns-3
 unfolding countOf

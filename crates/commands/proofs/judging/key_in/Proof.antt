@@ -4,7 +4,7 @@ use Prim.Native.Nat.{_+_, _<_}
 use denote.Ref.{now}
 use Rattle.lists.specs.Numbers.{Bytes}
 use Rattle.commands.specs.Readable.{keyOf}
-use Rattle.commands.proofs.ReadLaws.{field-lt}
+use Rattle.lists.proofs.NumberLaws.{part-lt}
 use native.Mathlib.Omega.{arith}
 use borrow.Author.Needs.{needs}
 use Rattle.commands.proofs.judging.key_in.Statement.{statement}
@@ -15,8 +15,8 @@ small c =
     let k = c .before .before in
     let s = k .before in
     let b : Bytes (now (s .args .s)) = λ i. omega (arith, k .shared-slice-known .given i) in (
-      omega (arith, c .before .number .ensures, field-lt (now (s .args .s)) (s .args .a) 2 b (omega arith)),
-      omega (arith, c .number2 .ensures, field-lt (now (s .args .s)) (s .args .a + 2) 1 b (omega arith)),
+      omega (arith, c .before .number .ensures, part-lt (now (s .args .s)) (s .args .a) 2 (omega arith) b),
+      omega (arith, c .number2 .ensures, part-lt (now (s .args .s)) (s .args .a + 2) 1 (omega arith) b),
     )
 
 number-requires : tie.Need-number-requires

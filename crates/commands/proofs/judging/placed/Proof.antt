@@ -3,7 +3,7 @@ use mathlib.Core.Path.{sym}
 use Prim.Native.Nat.{_+_, _<_}
 use denote.Ref.{now}
 use Rattle.commands.specs.Readable.{placed}
-use Rattle.commands.proofs.ReadLaws.{field-lt}
+use Rattle.lists.proofs.NumberLaws.{part-lt}
 use native.Mathlib.Omega.{arith}
 use borrow.Author.Needs.{needs}
 use Rattle.commands.proofs.judging.placed.Statement.{statement}
@@ -13,7 +13,7 @@ small : (c : tie.After-size-at) → c .size-at .result < 65536
 small c =
     let k = c .before .before .before in
     let s = k .before in
-    omega (arith, c .size-at .ensures, field-lt (now (s .args .s)) (s .args .a + 6) 2 (λ i. omega (arith, k .shared-slice-known .given i)) (omega arith))
+    omega (arith, c .size-at .ensures, part-lt (now (s .args .s)) (s .args .a + 6) 2 (omega arith) (λ i. omega (arith, k .shared-slice-known .given i)))
 
 key-in-requires : tie.Need-key-in-requires
 key-in-requires c κs = search needs

@@ -10,7 +10,8 @@ use Rattle.entry.proofs.JudgeLaws.{headed}
 use Rattle.commands.specs.Image.{recsIn, offeredFrom, offered, bodies}
 use Rattle.commands.specs.Save.{Row}
 use Rattle.commands.proofs.ImageLaws.{bodies-none}
-use Rattle.commands.proofs.OfferLaws.{offered-all, offered-end, row-lies}
+use Rattle.entry.proofs.ValueLaws.{row-lies}
+use Rattle.commands.proofs.OfferLaws.{offered-all, offered-end}
 use Rattle.commands.proofs.WalkLaws.{room, bytes-step, bodies-rows, row-there}
 use native.Mathlib.Omega.{arith}
 use borrow.Author.Needs.{needs}

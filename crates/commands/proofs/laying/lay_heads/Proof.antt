@@ -10,7 +10,8 @@ use Rattle.entry.proofs.JudgeLaws.{headed}
 use Rattle.commands.specs.Image.{recsIn, offeredFrom, offered, heads, bodies}
 use Rattle.commands.specs.Save.{Row}
 use Rattle.commands.proofs.ImageLaws.{heads-none}
-use Rattle.commands.proofs.OfferLaws.{offered-all, offered-end, row-lies}
+use Rattle.entry.proofs.ValueLaws.{row-lies}
+use Rattle.commands.proofs.OfferLaws.{offered-all, offered-end}
 use Rattle.commands.proofs.WalkLaws.{records, room, records-step, bytes-step, heads-rows, row-there}
 use native.Mathlib.Omega.{arith}
 use borrow.Author.Needs.{needs}

@@ -9,7 +9,8 @@ use Rattle.entry.specs.Table.{Dict, dict, firstAt}
 use Rattle.entry.specs.Encode.{encodingAt}
 use Rattle.commands.specs.Image.{recsIn, bodies}
 use Rattle.commands.proofs.ImageLaws.{bodies-none}
-use Rattle.commands.proofs.OfferLaws.{recs-end, recs-all, row-lies}
+use Rattle.entry.proofs.ValueLaws.{row-lies}
+use Rattle.commands.proofs.OfferLaws.{recs-end, recs-all}
 use Rattle.commands.proofs.WalkLaws.{left, left-step, left-end, bodies-more, value-there, value-length, value-lays}
 use native.Mathlib.Omega.{arith}
 use borrow.Author.Needs.{needs}

@@ -8,7 +8,8 @@ use Rattle.lists.specs.Lists.{over}
 use Rattle.entry.specs.Table.{Dict, dict}
 use Rattle.commands.specs.Image.{recsIn, heads, bodies}
 use Rattle.commands.proofs.ImageLaws.{heads-none}
-use Rattle.commands.proofs.OfferLaws.{recs-end, recs-all, row-lies}
+use Rattle.entry.proofs.ValueLaws.{row-lies}
+use Rattle.commands.proofs.OfferLaws.{recs-end, recs-all}
 use Rattle.commands.proofs.WalkLaws.{left, left-step, left-end, heads-more}
 use native.Mathlib.Omega.{arith}
 use borrow.Author.Needs.{needs}

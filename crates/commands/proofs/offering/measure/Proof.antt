@@ -8,7 +8,8 @@ use Rattle.entry.specs.Table.{Dict, dict}
 use Rattle.entry.proofs.JudgeLaws.{headed}
 use Rattle.commands.specs.Image.{offered, bodies, recsIn}
 use Rattle.commands.specs.Save.{Row}
-use Rattle.commands.proofs.OfferLaws.{offered-all, row-lies}
+use Rattle.entry.proofs.ValueLaws.{row-lies}
+use Rattle.commands.proofs.OfferLaws.{offered-all}
 use Rattle.commands.proofs.WalkLaws.{records, room, records-step, bytes-step, records-end, bytes-end, row-there, row-few, row-bytes}
 use native.Mathlib.Omega.{arith}
 use borrow.Author.Needs.{needs}

@@ -6,7 +6,8 @@ use Prim.Native.Nat.{_+_, _-_, _*_, _≤_}
 use denote.Ref.{now}
 use lib.ListN.{length}
 use Rattle.commands.specs.Image.{recsIn, bodies}
-use Rattle.commands.proofs.OfferLaws.{recs-all, row-lies}
+use Rattle.entry.proofs.ValueLaws.{row-lies}
+use Rattle.commands.proofs.OfferLaws.{recs-all}
 use Rattle.commands.proofs.WalkLaws.{left, left-step, left-end, value-there, value-length, value-small}
 use native.Mathlib.Omega.{arith}
 use borrow.Author.Needs.{needs}

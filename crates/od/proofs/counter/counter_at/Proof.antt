@@ -9,7 +9,8 @@ use Rattle.entry.specs.Find.{findRow}
 use Rattle.entry.specs.declared.Found.the-variants.{At}
 use Rattle.entry.proofs.ValueLaws.{rows-of, ValueFacts}
 use Rattle.od.specs.Counter.{inRow, counterAt}
-use Rattle.od.proofs.CounterLaws.{RowLies, row-lies, value-lies}
+use Rattle.entry.proofs.ValueLaws.{RowLies, found-lies}
+use Rattle.od.proofs.CounterLaws.{value-lies}
 use native.Mathlib.Omega.{arith}
 use borrow.Author.Needs.{needs}
 use Rattle.od.proofs.counter.counter_at.Statement.{statement}
@@ -25,8 +26,8 @@ start f = f .before .before .before .before .before
 row : (c : tie.After-i) → let s = start (c .before .before) in findRow (D s .objects) (s .args .index) ≡ At (c .i .given .0 .0)
 row c = sym (c .before .before .find .ensures) ∙ c .i .given .1
 
-lies : (c : tie.After-i) → RowLies (D (start (c .before .before)) .objects) (c .i .given .0 .0)
-lies c = let s = start (c .before .before) in row-lies (D s) (s .pre) (s .args .index) _ (row c)
+lies : (c : tie.After-i) → RowLies (D (start (c .before .before))) (c .i .given .0 .0)
+lies c = let s = start (c .before .before) in found-lies (D s) (s .pre) (s .args .index) _ (row c)
 
 -- it is no Array
 other : (c : tie.Else1) → let i = c .before .before .before in eqb (kindAt (D (start (i .before .before)) .objects) (i .i .given .0 .0)) 1 ≡ false

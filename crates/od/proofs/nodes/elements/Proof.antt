@@ -8,7 +8,7 @@ use Rattle.entry.specs.Find.{findRow}
 use Rattle.entry.specs.declared.Found.the-variants.{At}
 use Rattle.entry.proofs.ValueLaws.{rows-of}
 use Rattle.od.specs.Nodes.{elementsOn, elementsAt, spanOf}
-use Rattle.od.proofs.CounterLaws.{RowLies, row-lies}
+use Rattle.entry.proofs.ValueLaws.{RowLies, found-lies}
 use native.Mathlib.Omega.{arith}
 use borrow.Author.Needs.{needs}
 use Rattle.od.proofs.nodes.elements.Statement.{statement}
@@ -24,8 +24,8 @@ start f = f .before .before .before .before .before
 row : (c : tie.After-i) → findRow (D (start (c .before .before)) .objects) 0x1F81 ≡ At (c .i .given .0 .0)
 row c = sym (c .before .before .find .ensures) ∙ c .i .given .1
 
-lies : (c : tie.After-i) → RowLies (D (start (c .before .before)) .objects) (c .i .given .0 .0)
-lies c = let s = start (c .before .before) in row-lies (D s) (s .pre) 0x1F81 _ (row c)
+lies : (c : tie.After-i) → RowLies (D (start (c .before .before))) (c .i .given .0 .0)
+lies c = let s = start (c .before .before) in found-lies (D s) (s .pre) 0x1F81 _ (row c)
 
 find-requires : tie.Need-find-requires
 find-requires c κs = rows-of (D (c .before .before .before .before)) (c .before .before .before .before .pre)

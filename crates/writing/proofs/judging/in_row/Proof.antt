@@ -9,7 +9,8 @@ use Rattle.entry.specs.Find.{subAt}
 use Rattle.entry.specs.declared.Found.the-variants.{At}
 use Rattle.entry.specs.declared.Place.{Place}
 use Rattle.entry.proofs.ValueLaws.{rows-of, ValueFacts}
-use Rattle.od.proofs.CounterLaws.{RowLies, row-lies, value-lies}
+use Rattle.entry.proofs.ValueLaws.{RowLies, found-lies}
+use Rattle.od.proofs.CounterLaws.{value-lies}
 use Rattle.writing.specs.declared.Judged.the-variants.{Kept, Refused}
 use Rattle.writing.specs.Judging.{inPlace, inObject}
 use native.Mathlib.Omega.{arith}
@@ -23,8 +24,8 @@ D s = dict (now (s .args .objects)) (now (s .args .slots)) (now (s .args .words)
 abbrev start : tie.After-access-at → tie.Start
 start c = c .before .before .before .before .before .before
 
-lies : (s : tie.Start) → RowLies (D s .objects) (s .args .i)
-lies s = row-lies (D s) (s .pre .0) (s .args .index) (s .args .i) (s .pre .1)
+lies : (s : tie.Start) → RowLies (D s) (s .args .i)
+lies s = found-lies (D s) (s .pre .0) (s .args .index) (s .args .i) (s .pre .1)
 
 tested : (c : tie.After-access-at) → let a = start c .args in (eqb (accessAt (now (a .objects)) (a .i)) 0 || eqb (accessAt (now (a .objects)) (a .i)) 5) ≡ (eqb (c .access-at .result) 0 || eqb (c .access-at .result) 5)
 tested c = ap (λ x. eqb x 0 || eqb x 5) (sym (c .access-at .ensures))
