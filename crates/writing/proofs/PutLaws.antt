@@ -8,24 +8,27 @@ use native.Mathlib.Omega.{arith}
 use borrow.Author.Tests.{eqb-true, ltb-false}
 use lib.Dec.{eqb, ltb}
 use lib.ListN.{length}
+use Rattle.lists.specs.Numbers.{Bytes}
 use Rattle.answers.specs.declared.Refusal.the-variants.{BadValue, ReadOnly, TypeMismatch, TooLong, NoStorage, BadSignature, CountNotWritable}
 use Rattle.value.specs.Codec.{isText, exact}
 use Rattle.value.proofs.CodecLaws.{wordIn, exact-facts}
 use Rattle.entry.specs.Table.{Dict, accessAt, typeAt, roomAt}
 use Rattle.entry.specs.Find.{findRow, subAt, placeOf, onRow}
 use Rattle.entry.specs.Judge.{wellFormed}
+use Rattle.entry.specs.Put.{contents, filled}
 use Rattle.entry.specs.declared.Found.{Found}
 use Rattle.entry.specs.declared.Found.the-variants.{At, Nothing}
 use Rattle.entry.specs.declared.Place.{Place}
 use Rattle.entry.specs.declared.Place.the-variants.{NoObject, NoSub, Count, Value}
 use Rattle.entry.proofs.ValueLaws.{ValueFacts, element-of, element-facts}
-use Rattle.entry.proofs.KeepLaws.{Fits}
+use Rattle.entry.proofs.KeepLaws.{Fits, put-element}
 use Rattle.od.specs.declared.Answer.{Answer}
 use Rattle.od.specs.declared.Answer.the-variants as answer
 use Rattle.pdo_validator.specs.Counting.{isMapping}
 use Rattle.writing.specs.declared.Judged.{Judged}
 use Rattle.writing.specs.declared.Judged.the-variants.{Put, Kept, Save, Restore, Refused}
 use Rattle.writing.specs.Judging.{save, load, signedBy, commandOf, atValue, inPlace, inObject, countFirst, afterCount, judgeOf}
+use Rattle.writing.specs.Writing.{actOf, writeOf}
 
 -- ---- what a put comes from
 pub record Placed (d : Dict) (x sub t : ℕ) (s : List ℕ) (p : ℕ) : Type 0 where
@@ -110,3 +113,16 @@ judged-fits d n x sub t s p e =
 -- and its facts are those of an element
 pub judged-facts : (d : Dict) → wellFormed d ≡ true → (n x sub t : ℕ) (s : List ℕ) (p : ℕ) → judgeOf d n x sub t s ≡ Put p → ValueFacts d p
 judged-facts d w n x sub t s p e = element-facts d w (element-of d w x sub p (judged-put d n x sub t s p e .1 .place))
+
+-- ---- the theorem: whatever is written, and whatever is answered
+pub write-keeps : (d : Dict) (store : List ℕ) (x sub t : ℕ) (s : List ℕ) → wellFormed d ≡ true → Bytes s
+    → wellFormed (filled d (contents (writeOf d store x sub t s .words) (writeOf d store x sub t s .bytes))) ≡ true
+unfolding writeOf actOf
+write-keeps d store x sub t s e b = rw e (go (judgeOf d (length store) x sub t s) refl)
+  where
+    go : (j : Judged) → judgeOf d (length store) x sub t s ≡ j → wellFormed (filled d (contents (actOf d store sub s j .words) (actOf d store sub s j .bytes))) ≡ true
+    go (Put p) q = put-element d s e (element-of d e x sub p (judged-put d (length store) x sub t s p q .1 .place)) b (wordIn t s) (judged-fits d (length store) x sub t s p q)
+    go Kept q = e
+    go Save q = e
+    go Restore q = e
+    go (Refused r) q = e
