@@ -24,7 +24,7 @@ use Rattle.entry.proofs.ValueLaws.{Element, every-value}
 use Rattle.entry.proofs.KeepLaws.{Fits, takes-text, takes-fixed}
 
 -- ---- a part of the bytes that lies apart from what is laid
-part-stays : (xs : List ℕ) (a : ℕ) (ys : List ℕ) (b n : ℕ) → Apart b n a (length ys) → a ≤ length xs → take n (drop b (over xs a ys)) ≡ take n (drop b xs)
+pub part-stays : (xs : List ℕ) (a : ℕ) (ys : List ℕ) (b n : ℕ) → Apart b n a (length ys) → a ≤ length xs → take n (drop b (over xs a ys)) ≡ take n (drop b xs)
 part-stays xs a ys b n (inl h) k = over-before xs a ys b n h k
 part-stays xs a ys b n (inr h) k = ap (take n) (over-behind xs a ys b h k)
 

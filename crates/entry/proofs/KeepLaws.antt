@@ -139,18 +139,27 @@ module _ (d : Dict) (p t : ℕ) (s : List ℕ) (w : ℕ) (f : ValueFacts d p) (g
         let z : ltb w (2 ^ (8 * n)) ≡ true = rw (k .1) (lt-ltb _ _ m) in
         rw (room-of-fixed, x, y, e) z
 
+-- so it is a put of a word that keeps the rules, and of a room of the same size
+pub record AsPut (d : Dict) (p t : ℕ) (s : List ℕ) (w : ℕ) : Type 0 where
+  pub room : List ℕ
+  pub long : length room ≡ roomAt (d .slots) p
+  pub same : putNew d p t s ≡ putAs p t w room d
+  pub ok : valOk t w (length room) room ≡ true
+
+pub as-put : (d : Dict) (p t : ℕ) (s : List ℕ) (w : ℕ) → ValueFacts d p → FitsAs d p t s w → Bytes s → AsPut d p t s w
+as-put d p t s w f g b = go (isText t) refl
+  where
+    go : (x : Bool) → isText t ≡ x → AsPut d p t s w
+    go true q = record { room = s ++ rest d p s; long = room-of-text d p t s w f g q; same = put-as-text d p t s w f g q; ok = ok-text d p t s w f g q }
+    go false q =
+        record { room = old d p t s w f g b q; long = room-of-fixed d p t s w f g b q; same = put-as-fixed d p t s w f g b q; ok = ok-fixed d p t s w f g b q }
+
 -- ---- the theorem: a value of whatever type, at any element
 pub new-data : (d : Dict) (i k t : ℕ) (s : List ℕ) → wellFormed d ≡ true → i < numberOf (d .objects) → k < countAt (d .objects) i → Bytes s → (w : ℕ)
     → FitsAs d (firstAt (d .objects) i + k) t s w → wellFormed (putNew d (firstAt (d .objects) i + k) t s) ≡ true
-new-data d i k t s e hi hk b w g = go (isText t) refl (value-facts d e i k hi (omega arith))
-  where
-    go : (x : Bool) → isText t ≡ x → ValueFacts d (firstAt (d .objects) i + k) → wellFormed (putNew d (firstAt (d .objects) i + k) t s) ≡ true
-    go true q f =
-        let p = firstAt (d .objects) i + k in
-        rw (put-as-text d p t s w f g q) (put-kept d i k t w (s ++ rest d p s) e hi hk (room-of-text d p t s w f g q) (ok-text d p t s w f g q))
-    go false q f =
-        let p = firstAt (d .objects) i + k in
-        rw (put-as-fixed d p t s w f g b q) (put-kept d i k t w (old d p t s w f g b q) e hi hk (room-of-fixed d p t s w f g b q) (ok-fixed d p t s w f g b q))
+new-data d i k t s e hi hk b w g =
+    let a = as-put d (firstAt (d .objects) i + k) t s w (value-facts d e i k hi (omega arith)) g b in
+    rw (a .same) (put-kept d i k t w (a .room) e hi hk (a .long) (a .ok))
 
 -- and of the type that it has
 pub put-data : (d : Dict) (i k : ℕ) (s : List ℕ) → wellFormed d ≡ true → i < numberOf (d .objects) → k < countAt (d .objects) i → Bytes s → (w : ℕ)
