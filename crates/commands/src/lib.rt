@@ -6,6 +6,11 @@ mod saving;
 
 use answers::Refusal;
 pub use judging::judge_image;
+pub use judging::key_in;
+pub use judging::size_at;
+pub use judging::start_in;
+pub use judging::type_in;
+pub use offering::sub_in;
 pub use saving::save;
 
 pub enum Saved {

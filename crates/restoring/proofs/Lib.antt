@@ -1,0 +1,9 @@
+pub mod RecordLaws
+pub mod RisingLaws
+pub mod ChoiceLaws
+pub mod OnlyLaws
+pub mod TurnLaws
+pub mod FitLaws
+pub mod RestoreLaws
+pub mod WalkLaws
+pub mod CopyLaws
