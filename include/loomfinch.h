@@ -156,6 +156,15 @@ uint64_t loomfinch_validate_pdo_mapping(const uint64_t *objects, size_t objects_
                                         const uint64_t *words, size_t words_len, const uint8_t *bytes, size_t bytes_len,
                                         uint16_t index, uint8_t count);
 
+/* Restores the values of the objects from index `first` to index `last`, 1003h left out: the value that the store's image keeps
+ * for exactly its place, of whatever type; else the object's default, at a Variable always and at a list's element where the
+ * types agree; else the value stays. A store without a readable image keeps nothing. First above last: Done. Answers 1; 13 where
+ * a string is longer than the room that it would be put into, and then nothing is put. This is the one call that changes a
+ * value's type: `slots` is written too. The store stays. */
+uint64_t loomfinch_restore_power_on_values(const uint64_t *objects, size_t objects_len, uint64_t *slots, size_t slots_len,
+                                           uint64_t *words, size_t words_len, uint8_t *bytes, size_t bytes_len,
+                                           const uint8_t *store, size_t store_len, uint16_t first, uint16_t last);
+
 #ifdef __cplusplus
 }
 #endif

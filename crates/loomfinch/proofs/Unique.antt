@@ -51,6 +51,9 @@ use Rattle.od.proofs.increment_counter.Reads as increment-counter
 use Rattle.od.proofs.increment_counter.Kinds as increment-counter-kinds
 use Rattle.pdo_validator.proofs.validate_pdo_mapping.Reads as validate-pdo-mapping
 use Rattle.pdo_validator.proofs.validate_pdo_mapping.Kinds as validate-pdo-mapping-kinds
+use Rattle.restoring.proofs.restore_power_on_values.Reads as restore
+use Rattle.restoring.proofs.restore_power_on_values.Kinds as restore-kinds
+use Rattle.restoring.specs.Restore.{After as Restoring}
 use Rattle.writing.proofs.write.Reads as write
 use Rattle.writing.proofs.write.Kinds as write-kinds
 
@@ -123,3 +126,7 @@ validate-pdo-mapping-unique κs a z₁ z₂ w₁ w₂ p q = (p ∙ sym q, refl)
 
 pub write-unique : Unique 6 write-kinds.ps write-kinds.r write.Post
 write-unique κs a z₁ z₂ w₁ w₂ p q = both (λ (x : Writing). x .answer) (λ x. (tt, (tt, (x .words, (x .bytes, (x .store, (tt, (tt, (tt, (tt, tt)))))))))) p q
+
+pub restore-unique : Unique 5 restore-kinds.ps restore-kinds.r restore.Post
+restore-unique κs a z₁ z₂ w₁ w₂ p q =
+    both (λ (x : Restoring). x .answer) (λ x. (tt, (x .memory .slots, (x .memory .words, (x .memory .bytes, (tt, (tt, (tt, tt)))))))) p q

@@ -32,6 +32,8 @@ use Rattle.loomfinch.proofs.dictionary.loomfinch_get_configured_cns.Rea
 use Rattle.loomfinch.proofs.dictionary.loomfinch_get_configured_cns.Kinds as c-get-configured-cns-kinds
 use Rattle.loomfinch.proofs.dictionary.loomfinch_increment_counter.Reads as c-increment-counter
 use Rattle.loomfinch.proofs.dictionary.loomfinch_increment_counter.Kinds as c-increment-counter-kinds
+use Rattle.loomfinch.proofs.storing.loomfinch_restore_power_on_values.Reads as c-restore
+use Rattle.loomfinch.proofs.storing.loomfinch_restore_power_on_values.Kinds as c-restore-kinds
 use Rattle.loomfinch.proofs.storing.loomfinch_write.Reads as c-write
 use Rattle.loomfinch.proofs.storing.loomfinch_write.Kinds as c-write-kinds
 use Rattle.loomfinch.proofs.storing.loomfinch_validate_pdo_mapping.Reads as c-validate-pdo-mapping
@@ -88,3 +90,6 @@ c-write-unique κs a z₁ z₂ w₁ w₂ p q =
 
 pub c-validate-pdo-mapping-unique : Unique 4 c-validate-pdo-mapping-kinds.ps c-validate-pdo-mapping-kinds.r c-validate-pdo-mapping.Post
 c-validate-pdo-mapping-unique κs a z₁ z₂ w₁ w₂ p q = (p ∙ sym q, refl)
+
+pub c-restore-unique : Unique 5 c-restore-kinds.ps c-restore-kinds.r c-restore.Post
+c-restore-unique κs a z₁ z₂ w₁ w₂ p q = (p .0 ∙ sym (q .0), ap (λ (x : Dict). (tt, (x .slots, (x .words, (x .bytes, (tt, (tt, (tt, tt)))))))) (p .1 ∙ sym (q .1)))

@@ -23,6 +23,8 @@ pub use od::read_u16;
 pub use od::read_u32;
 pub use od::read_u64;
 pub use pdo_validator::validate_pdo_mapping;
+pub use restoring::Restored;
+pub use restoring::restore_power_on_values;
 pub use value::Decoded;
 pub use value::Encoded;
 pub use value::ObjectValue;

@@ -1,11 +1,13 @@
-// Writing and the mapping count, for C.
+// Writing, the mapping count and restoring, for C.
 ghost use mathlib.Core.Path.{_≡_};
 ghost use Rattle.entry.specs.Table.{dict};
 ghost use Rattle.pdo_validator.specs.Counting.{validOf};
+ghost use Rattle.restoring.specs.Restore.{restoreOf};
 ghost use Rattle.writing.specs.Writing.{writeOf};
 ghost use Rattle.loomfinch.specs.Dictionary.{answerNumber};
-ghost use Rattle.loomfinch.specs.Storing.{wroteNumber};
+ghost use Rattle.loomfinch.specs.Storing.{wroteNumber, restoredNumber};
 use crate::dictionary::number_of;
+use restoring::Restored;
 use writing::Wrote;
 
 fn wrote(a: Wrote) -> u64
@@ -60,4 +62,29 @@ pub extern "C" fn loomfinch_validate_pdo_mapping(
     ensures { λ r. ⌜ r ≡ answerNumber (validOf (dict (now (objects .entry)) (now (slots .entry)) (now (words .entry)) (now (bytes .entry))) index count) ⌝ }
 {
     number_of(pdo_validator::validate_pdo_mapping(objects, slots, words, bytes, index, count))
+}
+
+fn restored(a: Restored) -> u64
+    ensures { λ r. ⌜ r ≡ restoredNumber a ⌝ }
+{
+    match a {
+        Restored::Done => 0,
+        Restored::Refused(r) => answers::number(r),
+    }
+}
+
+#[no_mangle]
+pub extern "C" fn loomfinch_restore_power_on_values(
+    objects: &[u64],
+    slots: &mut [u64],
+    words: &mut [u64],
+    bytes: &mut [u8],
+    store: &[u8],
+    first: u16,
+    last: u16,
+) -> u64
+    ensures answer { λ r. ⌜ r ≡ restoredNumber (restoreOf (dict (now (objects .entry)) (now (slots .entry)) (now (words .entry)) (now (bytes .entry))) (now (store .entry)) first last .answer) ⌝ }
+    ensures memory { λ _. ⌜ dict (now (objects .entry)) (now (slots .exit)) (now (words .exit)) (now (bytes .exit)) ≡ restoreOf (dict (now (objects .entry)) (now (slots .entry)) (now (words .entry)) (now (bytes .entry))) (now (store .entry)) first last .memory ⌝ }
+{
+    restored(restoring::restore_power_on_values(objects, slots, words, bytes, store, first, last))
 }
