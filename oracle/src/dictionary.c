@@ -8,7 +8,7 @@ int clock_gettime(int clock, void *time);
 // dictionary/link.rs has the same numbers.
 enum { BEGIN, LEND, PUT, FETCH, TIME };
 enum { NEW = 8, INSERT, READ, READ_U8, READ_U16, READ_U32, READ_U64, FIND, CNS, COUNTER };
-enum { WRITE = COUNTER + 1, VALIDATE };
+enum { WRITE = COUNTER + 1, VALIDATE, RESTORE };
 
 // The dictionary's four slices, and the store.
 enum { SLICES = 5, LARGEST = 32768 };
@@ -18,7 +18,8 @@ static int start_side;
 
 // The lengths are those that are lent; name, vals and encodings follow, each
 // filled up to whole words. A value to write is its type, as `kind`, and its
-// encoding; a count to check stands in the sub-index's place.
+// encoding; a count to check stands in the sub-index's place. A range to restore
+// is `index` and `kind`.
 struct call {
     u64 op, index, sub_index, kind, access, has_default;
     u64 name, vals, encodings, numbers, out;
@@ -58,6 +59,8 @@ static u64 answer(const struct call *c) {
         return loomfinch_write(DICTIONARY, STORE, index, sub_index, c->kind, BYTES(encodings));
     case VALIDATE:
         return loomfinch_validate_pdo_mapping(DICTIONARY, index, sub_index);
+    case RESTORE:
+        return loomfinch_restore_power_on_values(DICTIONARY, STORE, index, (u16)c->kind);
     default:
         return loomfinch_increment_counter(DICTIONARY, index, sub_index);
     }

@@ -8,6 +8,7 @@ mod calls;
 mod damage;
 mod histories;
 mod image;
+mod images;
 mod insertion;
 mod lines;
 mod link;
@@ -17,6 +18,10 @@ mod mappings;
 mod memory;
 mod model;
 mod objects;
+mod restored;
+mod restores;
+mod restoring;
+mod rooms;
 mod rust;
 mod saves;
 mod show;
@@ -40,6 +45,9 @@ pub fn compare(port: &mut Port, random: &mut Random) -> (u64, u64) {
     histories::compare(&mut trial, random);
     written::compare(&mut trial, random);
     saves::compare(&mut trial, random);
+    restored::compare(&mut trial, random);
+    images::compare(&mut trial, random);
+    rooms::compare(&mut trial, random);
     bounds::compare(&mut trial, random);
     malice::compare(&mut trial, random);
     trial.finish()

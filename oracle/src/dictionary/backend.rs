@@ -12,9 +12,12 @@ pub type Table = BTreeMap<(u16, u8), ObjectValue>;
 
 #[derive(Default)]
 pub struct Kept {
-    pub table: Table,
-    /// The table before a save that was not looked at yet.
+    /// None where nothing was saved yet and no readable image was found.
+    pub table: Option<Table>,
+    /// The table before the last save.
     pub replaced: Option<Table>,
+    /// Whether there was a save that was not looked at yet.
+    pub saved: bool,
     pub restore_requested: bool,
 }
 
@@ -29,17 +32,18 @@ pub fn storage() -> (&'static mut dyn ObjectDictionaryStorage, Rc<RefCell<Kept>>
 
 impl ObjectDictionaryStorage for Backend {
     fn load(&mut self) -> Result<Table, PowerlinkError> {
-        Ok(self.0.borrow().table.clone())
+        self.0.borrow().table.clone().ok_or(PowerlinkError::StorageError("No readable image"))
     }
 
     fn save(&mut self, parameters: &Table) -> Result<(), PowerlinkError> {
         let kept = &mut *self.0.borrow_mut();
-        kept.replaced = Some(std::mem::replace(&mut kept.table, parameters.clone()));
+        kept.replaced = kept.table.replace(parameters.clone());
+        kept.saved = true;
         Ok(())
     }
 
     fn clear(&mut self) -> Result<(), PowerlinkError> {
-        self.0.borrow_mut().table.clear();
+        self.0.borrow_mut().table = None;
         Ok(())
     }
 

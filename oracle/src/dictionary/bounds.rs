@@ -5,6 +5,7 @@ use super::insertion::Insertion;
 use super::memory::Lent;
 use super::model::*;
 use super::objects::using;
+use super::restores;
 use super::step::{Call, History, Step};
 use super::trial::Trial;
 use super::writes;
@@ -55,6 +56,7 @@ fn laid(random: &mut Random, used: Used, lengths: [usize; 4]) -> History {
     let mut steps = vec![Step::Lay(objects.clone())];
     steps.extend(calls::each(random, &objects).into_iter().map(Step::Call));
     steps.extend(writes::each(random, &objects).map(Step::Call));
+    steps.push(Step::Call(restores::any(random, &objects)));
     steps.push(insert(&one_more(random, SMALLEST)));
     History { first: Lent { at_start: random.below(2) == 0, lengths, store: STORE }, steps }
 }
@@ -128,6 +130,7 @@ fn near(random: &mut Random, total: Total) -> History {
     }
     steps.extend(calls::each(random, &objects).into_iter().map(Step::Call));
     steps.extend(writes::each(random, &objects).map(Step::Call));
+    steps.push(Step::Call(restores::any(random, &objects)));
     let lengths = match random.below(3) {
         0 => before.plus(exact).lengths(),
         1 => before.plus(over).plus(SMALLEST).lengths(),

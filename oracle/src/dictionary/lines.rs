@@ -107,6 +107,7 @@ pub fn sayable(call: &Call) -> bool {
         Call::New | Call::ReadNumber { .. } | Call::IncrementCounter { .. } => true,
         // history.rt has no line for these.
         Call::Write(_) | Call::ValidatePdoMapping { .. } => false,
+        Call::RestorePowerOnValues { .. } => false,
     }
 }
 
@@ -129,6 +130,7 @@ fn given(call: &Call) -> String {
         Call::GetConfiguredCns(out) => format!("C {out:X}"),
         Call::IncrementCounter { index, sub_index } => format!("P {index:X} {sub_index:X}"),
         Call::Write(_) | Call::ValidatePdoMapping { .. } => unreachable!("no line can say it"),
+        Call::RestorePowerOnValues { .. } => unreachable!("no line can say it"),
     }
 }
 
@@ -138,6 +140,7 @@ fn found(call: &Call, outcome: &Outcome, memory: &Memory) -> String {
     match call {
         Call::New | Call::Insert(_) | Call::IncrementCounter { .. } => String::new(),
         Call::Write(_) | Call::ValidatePdoMapping { .. } => String::new(),
+        Call::RestorePowerOnValues { .. } => String::new(),
         Call::Read { .. } => {
             let (kind, word, start) = (numbers[0], numbers[1], numbers[2] as usize);
             // World has held the string in memory against the Rust's.

@@ -22,6 +22,7 @@ const CNS: u64 = 16;
 const COUNTER: u64 = 17;
 const WRITE: u64 = 18;
 const VALIDATE: u64 = 19;
+const RESTORE: u64 = 20;
 
 /// Cells of one slice that a call changed, from the first one on.
 pub struct Change {
@@ -41,19 +42,23 @@ pub struct Given {
 /// A history's commands; at its end all memory is asked for.
 pub fn commands(history: &History) -> Vec<u64> {
     let mut words = lending(BEGIN, history.first);
-    let mut lengths = history.first.lengths;
+    let mut lent = history.first;
     for step in history.steps.iter() {
-        if !step.fits(lengths) {
+        if !step.fits(&lent) {
             continue;
         }
         match step {
-            Step::Lend(lent) => {
-                lengths = lent.lengths;
-                words.extend(lending(LEND, *lent));
+            Step::Lend(other) => {
+                lent = *other;
+                words.extend(lending(LEND, lent));
             }
             Step::Lay(objects) => words.extend(laying(objects)),
             Step::Put { slice, at, cell } => {
                 words.extend([PUT, *slice as u64, *at as u64, 1, *cell]);
+            }
+            Step::Store(bytes) => {
+                words.extend([PUT, STORE as u64, 0, bytes.len() as u64]);
+                words.extend(whole_words(bytes.clone()));
             }
             Step::Call(call) => words.extend(calling(call)),
         }
@@ -103,6 +108,7 @@ fn place(call: &Call) -> (u64, u64, u64) {
         Call::IncrementCounter { index, sub_index } => at(COUNTER, index, sub_index),
         Call::Write(given) => at(WRITE, &given.index, &given.sub_index),
         Call::ValidatePdoMapping { index, count } => at(VALIDATE, index, count),
+        Call::RestorePowerOnValues { first, .. } => at(RESTORE, first, &0),
     }
 }
 
@@ -112,6 +118,9 @@ fn calling(call: &Call) -> Vec<u64> {
         Call::FindByName(name) => Insertion { name: name.clone(), ..Insertion::default() },
         Call::Write(Write { kind, data, .. }) => {
             Insertion { shape: *kind, encodings: data.clone(), ..Insertion::default() }
+        }
+        Call::RestorePowerOnValues { last, .. } => {
+            Insertion { shape: u64::from(*last), ..Insertion::default() }
         }
         _ => Insertion::default(),
     };

@@ -7,6 +7,7 @@ use super::insertion::Insertion;
 use super::memory::{BYTES, Lent, Memory};
 use super::model::{self, *};
 use super::objects::{self, Pool, Sizes, using};
+use super::restores;
 use super::step::{Call, History, Step};
 use super::trial::Trial;
 use super::writes;
@@ -135,6 +136,7 @@ fn history(random: &mut Random, objects: &[Object], edits: Vec<Step>) -> History
     steps.extend(edits);
     steps.extend(calls::each(random, objects).into_iter().map(Step::Call));
     steps.extend(writes::each(random, objects).map(Step::Call));
+    steps.push(Step::Call(restores::any(random, objects)));
     steps.push(Step::Call(Call::Insert(insertion(random, objects))));
     if random.below(8) == 0 {
         steps.push(Step::Call(Call::New));
@@ -176,6 +178,7 @@ fn large(trial: &mut Trial, random: &mut Random) {
         steps.push(edit(random, &cells[place]));
         steps.push(Step::Call(calls::any(random, &objects)));
         steps.push(Step::Call(writes::any(random, &objects)));
+        steps.push(Step::Call(restores::any(random, &objects)));
         steps.push(Step::Put { slice, at, cell: old });
     }
     steps.push(Step::Call(Call::Insert(insertion(random, &objects))));

@@ -51,6 +51,11 @@ impl Memory {
         }
     }
 
+    /// How much is lent; the side is not known here.
+    pub fn lent(&self) -> Lent {
+        Lent { at_start: false, lengths: self.lengths(), store: self.store.len() }
+    }
+
     /// Of the dictionary's slices.
     pub fn lengths(&self) -> [usize; 4] {
         [self.objects.len(), self.slots.len(), self.words.len(), self.bytes.len()]

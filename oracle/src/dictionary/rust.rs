@@ -1,6 +1,6 @@
 //! The unchanged Rust's dictionary, its answers put into the port's numbers.
 
-use super::backend::{self, Kept};
+use super::backend::{self, Kept, Table};
 use super::image::Record;
 use super::model::{ARRAY, Object, VARIABLE, Value};
 use super::step::{Width, Write};
@@ -51,7 +51,7 @@ pub enum Written {
 }
 
 impl Rust {
-    /// A dictionary with these objects and, where there is a store, one whose table is empty.
+    /// A dictionary with these objects and, where there is a store, a storage without a table.
     pub fn of(objects: &[Object], has_store: bool) -> Self {
         let (storage, kept) = match has_store {
             true => {
@@ -140,29 +140,35 @@ impl Rust {
 
     /// Of a value that keeps R3.4: the Rust has no other.
     pub fn write(&mut self, given: &Write) -> Result<Written, u64> {
-        self.kept.borrow_mut().replaced = None;
+        self.kept.borrow_mut().saved = false;
         let value = original::decode(given.kind, &given.data).expect("a right value decodes");
         self.od.write(given.index, given.sub_index, value).map_err(refusal)?;
         let kept = &mut *self.kept.borrow_mut();
         if std::mem::take(&mut kept.restore_requested) {
             return Ok(Written::RestoreRequested);
         }
-        if kept.replaced.is_none() {
-            return Ok(Written::Taken);
-        }
-        let records = kept.table.iter().map(|((index, sub_index), value)| Record {
-            index: *index,
-            sub_index: *sub_index,
-            kind: kind(value) as u8,
-            body: value.serialize(),
-        });
-        Ok(Written::Saved(records.collect()))
+        Ok(match &kept.table {
+            Some(table) if kept.saved => Written::Saved(records(table)),
+            _ => Written::Taken,
+        })
     }
 
     /// The table is again the one before the last save.
     pub fn undo_save(&mut self) {
         let kept = &mut *self.kept.borrow_mut();
-        kept.table = kept.replaced.take().expect("a save was just made");
+        assert!(kept.saved, "a save was just made");
+        kept.table = kept.replaced.take();
+    }
+
+    /// What its storage keeps: the table of the last save, or that of the last restore.
+    pub fn table(&self) -> Option<Vec<Record>> {
+        self.kept.borrow().table.as_ref().map(records)
+    }
+
+    /// From this table, or without one.
+    pub fn restore_power_on_values(&mut self, table: Option<&[Record]>, first: u16, last: u16) {
+        self.kept.borrow_mut().table = table.map(|records| records.iter().map(row).collect());
+        self.od.restore_power_on_values(first, last);
     }
 
     /// Puts a value that was there before, whatever the access.
@@ -191,6 +197,21 @@ fn refusal(error: PowerlinkError) -> u64 {
         PowerlinkError::PdoMapOverrun => 11,
         other => panic!("the Rust gives {other:?}, which has no number"),
     }
+}
+
+fn records(table: &Table) -> Vec<Record> {
+    let record = |((index, sub_index), value): (&(u16, u8), &ObjectValue)| Record {
+        index: *index,
+        sub_index: *sub_index,
+        kind: kind(value) as u8,
+        body: value.serialize(),
+    };
+    table.iter().map(record).collect()
+}
+
+fn row(record: &Record) -> ((u16, u8), ObjectValue) {
+    let value = original::decode(record.kind.into(), &record.body);
+    ((record.index, record.sub_index), value.expect("a readable record decodes"))
 }
 
 fn value(value: &Value) -> ObjectValue {

@@ -3,6 +3,7 @@
 use super::calls;
 use super::memory::Lent;
 use super::model::*;
+use super::restores;
 use super::step::{Call, History, Step};
 use super::trial::Trial;
 use super::writes;
@@ -12,8 +13,8 @@ use crate::random::Random;
 const OCTET_STRING: u64 = 12;
 const UNSIGNED64: u64 = 8;
 
-const RECORDS: usize = 2048;
-const BODIES: usize = 16_384;
+pub const RECORDS: usize = 2048;
+pub const BODIES: usize = 16_384;
 
 /// Records, bytes of bodies, and how many of the records are 64-bit numbers. At each bound, and
 /// one more; the most of a dictionary; and bodies that are few only where they are cut to 16 bits.
@@ -52,7 +53,7 @@ pub fn compare(trial: &mut Trial, random: &mut Random) {
 
 /// Lists that are saved and together have just so many values, numbers and strings, of so many
 /// bytes. Every string's room has one byte more, as long as there is room for it.
-fn saved(random: &mut Random, records: usize, bodies: usize, numbers: usize) -> Vec<Object> {
+pub fn saved(random: &mut Random, records: usize, bodies: usize, numbers: usize) -> Vec<Object> {
     let mut lengths = vec![0; records - numbers];
     let mut left = bodies - 8 * numbers;
     while left > 0 {
@@ -117,10 +118,13 @@ fn history(random: &mut Random, objects: &[Object]) -> History {
         let list = random.pick(&[2, 3, 4, 255]);
         steps.extend([1, list].map(|list| Step::Call(writes::save(list))));
     }
+    steps.push(Step::Call(restores::any(random, objects)));
     steps.push(Step::Lend(Lent { store: random.pick(&[32_770, 40_000]), ..lent }));
     for _ in 0..6 {
         steps.push(Step::Call(longer_or_shorter(random, objects)));
         steps.push(Step::Call(writes::save(random.pick(&[1, 1, 1, 2, 3]))));
+        steps.push(Step::Call(longer_or_shorter(random, objects)));
+        steps.push(Step::Call(restores::any(random, objects)));
     }
     steps.push(Step::Call(calls::any(random, objects)));
     History { first, steps }

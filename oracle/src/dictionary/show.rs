@@ -18,6 +18,7 @@ pub fn history(history: &History) {
             Step::Lend(lengths) => println!("    {}", lent(lengths)),
             Step::Lay(objects) => lay(objects),
             Step::Put { slice, at, cell } => println!("    {}[{at}] = {cell:X}", SLICES[*slice]),
+            Step::Store(bytes) => println!("    store = {}", text(bytes)),
             Step::Call(made) => println!("    {}", call(made)),
         }
     }
@@ -88,6 +89,7 @@ fn call(call: &Call) -> String {
             format!("{name} {index:04X}h/{sub_index} type {kind:X} data {}", text(data))
         }
         Call::ValidatePdoMapping { index, count } => format!("{name} {index:04X}h, {count}"),
+        Call::RestorePowerOnValues { first, last } => format!("{name} {first:04X}h..{last:04X}h"),
     }
 }
 

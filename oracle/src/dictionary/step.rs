@@ -31,6 +31,10 @@ pub enum Call {
         index: u16,
         count: u8,
     },
+    RestorePowerOnValues {
+        first: u16,
+        last: u16,
+    },
 }
 
 /// A place, and the value for it as its type and its encoding.
@@ -76,6 +80,8 @@ pub enum Step {
         at: usize,
         cell: u64,
     },
+    /// Puts bytes at the store's start without a call.
+    Store(Vec<u8>),
     Call(Call),
 }
 
@@ -95,14 +101,15 @@ pub struct Outcome {
 
 impl Step {
     /// A history that was made smaller may lend too little for a step, which is then left out.
-    pub fn fits(&self, lengths: [usize; 4]) -> bool {
+    pub fn fits(&self, Lent { lengths, store, .. }: &Lent) -> bool {
         match self {
             Self::Lend(_) | Self::Call(_) => true,
             Self::Lay(objects) => {
                 let needed = Used::of(objects).lengths();
-                needed.iter().zip(lengths).all(|(needed, lent)| *needed <= lent)
+                needed.iter().zip(lengths).all(|(needed, lent)| needed <= lent)
             }
-            Self::Put { slice, at, .. } => *at < lengths[*slice],
+            Self::Put { slice, at, .. } => at < lengths.get(*slice).unwrap_or(store),
+            Self::Store(bytes) => bytes.len() <= *store,
         }
     }
 }
@@ -122,6 +129,7 @@ impl Call {
             Self::IncrementCounter { .. } => "increment_counter",
             Self::Write(_) => "write",
             Self::ValidatePdoMapping { .. } => "validate_pdo_mapping",
+            Self::RestorePowerOnValues { .. } => "restore_power_on_values",
         }
     }
 
@@ -133,6 +141,7 @@ impl Call {
             Self::GetConfiguredCns(out) => (1, *out),
             Self::New | Self::Insert(_) | Self::IncrementCounter { .. } => (0, 0),
             Self::Write(_) | Self::ValidatePdoMapping { .. } => (0, 0),
+            Self::RestorePowerOnValues { .. } => (0, 0),
         }
     }
 
@@ -140,6 +149,7 @@ impl Call {
     pub fn writes(&self) -> bool {
         match self {
             Self::New | Self::Insert(_) | Self::IncrementCounter { .. } | Self::Write(_) => true,
+            Self::RestorePowerOnValues { .. } => true,
             Self::Read { .. } | Self::ReadNumber { .. } | Self::FindByName(_) => false,
             Self::GetConfiguredCns(_) | Self::ValidatePdoMapping { .. } => false,
         }

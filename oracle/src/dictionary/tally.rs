@@ -7,6 +7,7 @@ use std::collections::BTreeMap;
 pub struct Tally {
     answers: BTreeMap<&'static str, BTreeMap<u64, u64>>,
     causes: BTreeMap<(&'static str, u64), BTreeMap<&'static str, u64>>,
+    notes: BTreeMap<&'static str, BTreeMap<&'static str, u64>>,
 }
 
 pub fn answer_name(answer: u64) -> &'static str {
@@ -42,6 +43,9 @@ impl Tally {
             let call = if answer == 1 { "every call" } else { call };
             *self.causes.entry((call, answer)).or_default().entry(cause).or_default() += 1;
         }
+        for note in &wanted.notes {
+            *self.notes.entry(call).or_default().entry(note).or_default() += 1;
+        }
     }
 
     pub fn print(&self) {
@@ -52,6 +56,10 @@ impl Tally {
         for ((call, answer), causes) in &self.causes {
             let counts = causes.iter().map(|(cause, count)| (*cause, count));
             println!("    {call}, {}: {}", answer_name(*answer), line(counts));
+        }
+        for (call, notes) in &self.notes {
+            let counts = notes.iter().map(|(note, count)| (*note, count));
+            println!("    {call}, of these: {}", line(counts));
         }
     }
 }

@@ -40,6 +40,8 @@ pub struct World {
 pub struct Wanted {
     pub outcome: Outcome,
     pub cause: Option<&'static str>,
+    /// What else a restore found, for the tally.
+    pub notes: Vec<&'static str>,
 }
 
 /// A refusal's number, and which part of its rule gave it.
@@ -65,13 +67,14 @@ impl World {
 
     /// What is done without a call.
     pub fn change(&mut self, step: &Step) {
-        if !step.fits(self.memory.lengths()) {
+        if !step.fits(&self.memory.lent()) {
             return;
         }
         match step {
             Step::Lend(lent) => self.memory.lend(lent.lengths, lent.store),
             Step::Lay(objects) => model::lay(objects, &mut self.memory),
             Step::Put { slice, at, cell } => self.memory.put(*slice, *at, *cell),
+            Step::Store(bytes) => self.memory.store[..bytes.len()].copy_from_slice(bytes),
             Step::Call(_) => unreachable!("a call has an answer"),
         }
         self.known = Known::Nothing;
@@ -84,7 +87,8 @@ impl World {
             numbers: (0..numbers).map(number_fill).collect(),
             out: (0..out).map(byte_fill).collect(),
         };
-        let cause = match self.done(call) {
+        let mut notes = Vec::new();
+        let cause = match self.done(call, &mut notes) {
             Ok(done) => {
                 outcome.numbers[..done.numbers.len()].copy_from_slice(&done.numbers);
                 outcome.out[..done.out.len()].copy_from_slice(&done.out);
@@ -95,10 +99,10 @@ impl World {
                 cause
             }
         };
-        Wanted { outcome, cause }
+        Wanted { outcome, cause, notes }
     }
 
-    fn done(&mut self, call: &Call) -> Result<Done, Refused> {
+    fn done(&mut self, call: &Call, notes: &mut Vec<&'static str>) -> Result<Done, Refused> {
         if *call == Call::New {
             return self.make_new();
         }
@@ -122,6 +126,9 @@ impl World {
             Call::Write(given) => dictionary.write(given, memory),
             Call::ValidatePdoMapping { index, count } => {
                 dictionary.validate_pdo_mapping(*index, *count)
+            }
+            Call::RestorePowerOnValues { first, last } => {
+                dictionary.restore_power_on_values(*first..=*last, memory, notes)
             }
         }
     }

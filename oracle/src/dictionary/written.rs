@@ -1,4 +1,4 @@
-//! Histories of writes, saves and count checks, with all other calls between them.
+//! Histories of writes, saves, restores and count checks, with all other calls between them.
 
 use super::calls;
 use super::image;
@@ -7,6 +7,7 @@ use super::mappings;
 use super::memory::Lent;
 use super::model::*;
 use super::objects::{self, Pool, Sizes};
+use super::restores;
 use super::step::{Call, History, Step};
 use super::trial::Trial;
 use super::writes;
@@ -30,7 +31,7 @@ pub fn compare(trial: &mut Trial, random: &mut Random) {
 }
 
 /// Long strings, or long lists.
-const LARGER: [Sizes; 3] = [
+pub const LARGER: [Sizes; 3] = [
     Sizes { longest: LARGEST_ROOM, elements: 3 },
     Sizes { longest: 200, elements: 12 },
     Sizes { longest: 2, elements: MOST_ELEMENTS },
@@ -42,7 +43,7 @@ const INDICES: [u16; 12] = [
 ];
 
 /// Objects of any sort, of which half may be saved; mappings among them.
-fn mixed(random: &mut Random, sizes: Sizes) -> Vec<Object> {
+pub fn mixed(random: &mut Random, sizes: Sizes) -> Vec<Object> {
     let mut pool = Pool::new(random, 8);
     for place in 0..6 {
         pool.indices[place] = random.pick(&INDICES);
@@ -140,8 +141,9 @@ fn history(random: &mut Random, objects: Vec<Object>) -> History {
 }
 
 fn any(random: &mut Random, objects: &[Object]) -> Call {
-    match random.below(4) {
-        0 => calls::any(random, objects),
+    match random.below(8) {
+        0 | 1 => calls::any(random, objects),
+        2 => restores::any(random, objects),
         _ => writes::any(random, objects),
     }
 }
