@@ -1,12 +1,17 @@
 //! Times calls of the port and of the Rust on the same dictionaries.
 
+use super::image::{self, Record};
 use super::insertion::Insertion;
 use super::link;
 use super::memory::{Lent, ROW, SLOT};
 use super::model::{Object, Used};
 use super::objects::using;
+use super::restores;
+use super::rooms::table;
 use super::rust::Rust;
-use super::step::{Call, History, Step};
+use super::step::{Call, History, Step, Write};
+use super::writes;
+use crate::original;
 use crate::port::Port;
 use crate::random::Random;
 use std::hint::black_box;
@@ -21,25 +26,61 @@ const MISSING: u16 = 0x0FFF;
 const BETWEEN: u16 = 0x1001 + 3 * 8;
 const PRESENT: u16 = 0x1000 + 3 * 9;
 
+const UNSIGNED32: u64 = 7;
+const READ_WRITE_STORE: u64 = 4;
+
+/// The longest image.
+const STORE: usize = 32_770;
+
+/// A dictionary, and the table that its store has the image of.
+struct Setting {
+    objects: Vec<Object>,
+    records: Vec<Record>,
+}
+
 pub fn print(port: &mut Port, random: &mut Random) {
     println!("objects  values  call                         port ns     Rust ns   ratio");
     for objects in [20, 200, 1000] {
-        let used = Used { objects, values: 4 * objects, bytes: 20 * objects };
-        let dictionary = using(random, used);
-        for (name, call) in calls(&dictionary) {
-            let port_time = port_time(port, &dictionary, &call);
-            let rust_time = least(|_| rust_time(&dictionary, &call));
-            let ratio = port_time / rust_time;
-            println!(
-                "{objects:7} {:7}  {name:24} {port_time:11.0} {rust_time:11.1} {ratio:7.0}",
-                used.values
-            );
+        let setting =
+            third_saved(random, Used { objects, values: 4 * objects, bytes: 20 * objects });
+        for (name, call) in calls(&setting.objects) {
+            row(port, &setting, name, &call);
         }
+    }
+    for records in [0, 512, 1024, 2048] {
+        let setting = evenly_saved(random, records);
+        let name = format!("restore, {records} records");
+        row(port, &setting, &name, &restores::everything());
     }
     judging(port, random);
 }
 
-fn calls(dictionary: &[Object]) -> [(&'static str, Call); 5] {
+fn row(port: &mut Port, setting: &Setting, name: &str, call: &Call) {
+    let port_time = port_time(port, setting, call);
+    let rust_time = least(|_| rust_time(setting, call));
+    let ratio = port_time / rust_time;
+    let Used { objects, values, .. } = Used::of(&setting.objects);
+    println!("{objects:7} {values:7}  {name:24} {port_time:11.0} {rust_time:11.1} {ratio:7.1}");
+}
+
+/// Every third object is saved: of 4,000 values more would be over 2,048 records.
+fn third_saved(random: &mut Random, used: Used) -> Setting {
+    let mut objects = using(random, used);
+    objects.iter_mut().step_by(3).for_each(|object| object.access = READ_WRITE_STORE);
+    let saved = objects.iter().filter(|object| object.access == READ_WRITE_STORE);
+    let records = table(&saved.cloned().collect::<Vec<Object>>());
+    Setting { objects, records }
+}
+
+/// The most values, and so many records, which lie evenly among them.
+fn evenly_saved(random: &mut Random, records: usize) -> Setting {
+    let objects = using(random, Used { objects: 1000, values: 6144, bytes: 0 });
+    let all = table(&objects);
+    let records = (0..records).map(|k| all[k * all.len() / records].clone()).collect();
+    Setting { objects, records }
+}
+
+fn calls(dictionary: &[Object]) -> [(&'static str, Call); 8] {
     let mut inserted = dictionary[9].clone();
     inserted.index = BETWEEN.into();
     let sub_index = 1;
@@ -49,6 +90,9 @@ fn calls(dictionary: &[Object]) -> [(&'static str, Call); 5] {
         ("read, no such object", Call::Read { index: MISSING, sub_index, numbers: 3 }),
         ("find_by_name, none", Call::FindByName(b"no such name".to_vec())),
         ("increment_counter", Call::IncrementCounter { index: PRESENT, sub_index }),
+        ("write", writes::write(PRESENT, sub_index, UNSIGNED32, &[1, 2, 3, 4])),
+        ("write, save", writes::save(1)),
+        ("restore_power_on_values", restores::everything()),
     ]
 }
 
@@ -57,8 +101,8 @@ fn calls(dictionary: &[Object]) -> [(&'static str, Call); 5] {
 fn judging(port: &mut Port, random: &mut Random) {
     let call = Call::Read { index: MISSING, sub_index: 1, numbers: 3 };
     let mut time = |objects, values, bytes| {
-        let dictionary = using(random, Used { objects, values, bytes });
-        port_time(port, &dictionary, &call)
+        let objects = using(random, Used { objects, values, bytes });
+        port_time(port, &Setting { objects, records: Vec::new() }, &call)
     };
     let bare = time(1000, 0, 0);
     let named = time(1000, 0, 32_000);
@@ -75,21 +119,27 @@ fn least(time: impl FnMut(usize) -> f64) -> f64 {
     (0..RUNS).map(time).fold(f64::INFINITY, f64::min)
 }
 
-/// Nanoseconds a call: first a few, to see how often it can be repeated.
-fn port_time(port: &mut Port, dictionary: &[Object], call: &Call) -> f64 {
-    let few = port_repeats(port, dictionary, call, 3);
-    let repeats = (LONG_ENOUGH / few).clamp(3.0, 100_000.0) as u64;
-    least(|_| port_repeats(port, dictionary, call, repeats))
+/// How often a call can be repeated that takes so long.
+fn repeats(time: f64) -> f64 {
+    (LONG_ENOUGH / time.max(1.0)).clamp(3.0, 200_000.0)
 }
 
-fn port_repeats(port: &mut Port, dictionary: &[Object], call: &Call, repeats: u64) -> f64 {
-    let mut lengths = Used::of(dictionary).lengths();
+/// Nanoseconds a call: first a few, to see how often it can be repeated.
+fn port_time(port: &mut Port, setting: &Setting, call: &Call) -> f64 {
+    let few = port_repeats(port, setting, call, 3);
+    let repeats = repeats(few) as u64;
+    least(|_| port_repeats(port, setting, call, repeats))
+}
+
+fn port_repeats(port: &mut Port, setting: &Setting, call: &Call, repeats: u64) -> f64 {
+    let mut lengths = Used::of(&setting.objects).lengths();
     // Room for the object that is inserted.
     let room = [ROW, 100 * SLOT, 100, 2000];
     lengths.iter_mut().zip(room).for_each(|(length, room)| *length += room);
-    let first = Lent { at_start: false, lengths, store: 0 };
-    let history = History { first, steps: vec![Step::Lay(dictionary.to_vec())] };
-    let timed = link::timed(port, &history, call, repeats, call.writes());
+    let first = Lent { at_start: false, lengths, store: STORE };
+    let image = image::of(&setting.records);
+    let steps = vec![Step::Lay(setting.objects.clone()), Step::Store(image)];
+    let timed = link::timed(port, &History { first, steps }, call, repeats, call.writes());
     let (answer, time) = timed.expect("it answers");
     let wanted = if matches!(call, Call::FindByName(_)) || *call == missing() { 3 } else { 0 };
     assert_eq!(answer, wanted, "a timed call is answered as it must be");
@@ -100,32 +150,40 @@ fn missing() -> Call {
     Call::Read { index: MISSING, sub_index: 1, numbers: 3 }
 }
 
-/// The same for the Rust. An insertion has a fresh dictionary each time; what
-/// makes it, and the entry, is not timed.
-fn rust_time(dictionary: &[Object], call: &Call) -> f64 {
+/// The same for the Rust, whose storage copies each table that it takes or gives.
+fn rust_time(setting: &Setting, call: &Call) -> f64 {
     if let Call::Insert(given) = call {
-        let object = given.object().expect("it is a right one");
-        let repeats = 100;
-        let time: u128 = (0..repeats)
-            .map(|_| {
-                let mut rust = Rust::of(dictionary, false);
-                let entry = Rust::entry(&object);
-                let start = Instant::now();
-                rust.insert_entry(black_box(BETWEEN), entry);
-                let time = start.elapsed().as_nanos();
-                black_box(rust);
-                time
-            })
-            .sum();
-        return time as f64 / f64::from(repeats);
+        return rust_insert_time(&setting.objects, given);
     }
-    let mut rust = Rust::of(dictionary, false);
-    let repeats = if matches!(call, Call::FindByName(_)) { 2_000 } else { 200_000 };
-    let start = Instant::now();
-    for _ in 0..repeats {
-        make(&mut rust, black_box(call));
-    }
-    start.elapsed().as_nanos() as f64 / f64::from(repeats)
+    let mut rust = Rust::of(&setting.objects, true);
+    rust.keep(Some(&setting.records));
+    let mut time = |repeats: usize| {
+        let start = Instant::now();
+        for _ in 0..repeats {
+            make(&mut rust, black_box(call));
+        }
+        start.elapsed().as_nanos() as f64 / repeats as f64
+    };
+    let few = time(3);
+    time(repeats(few) as usize)
+}
+
+/// An insertion has a fresh dictionary each time; what makes it, and the entry, is not timed.
+fn rust_insert_time(dictionary: &[Object], given: &Insertion) -> f64 {
+    let object = given.object().expect("it is a right one");
+    let repeats = 100;
+    let time: u128 = (0..repeats)
+        .map(|_| {
+            let mut rust = Rust::of(dictionary, false);
+            let entry = Rust::entry(&object);
+            let start = Instant::now();
+            rust.insert_entry(black_box(BETWEEN), entry);
+            let time = start.elapsed().as_nanos();
+            black_box(rust);
+            time
+        })
+        .sum();
+    time as f64 / f64::from(repeats)
 }
 
 fn make(rust: &mut Rust, call: &Call) {
@@ -136,6 +194,11 @@ fn make(rust: &mut Rust, call: &Call) {
             let _ = black_box(rust.find_by_name(name));
         }
         Call::IncrementCounter { index, sub_index } => rust.increment_counter(*index, *sub_index),
+        Call::Write(Write { index, sub_index, kind, data }) => {
+            let value = original::decode(*kind, data).expect("it is a right one");
+            rust.poke(*index, *sub_index, value);
+        }
+        Call::RestorePowerOnValues { first, last } => rust.restore_power_on_values(*first, *last),
         _ => unreachable!("it is not timed"),
     }
 }

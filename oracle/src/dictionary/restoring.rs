@@ -28,7 +28,8 @@ impl Dictionary {
         if let Some(kept) = self.rust.table() {
             assert!(table.as_ref() == Some(&kept), "the store has the image of the Rust's table");
         }
-        self.rust.restore_power_on_values(table.as_deref(), *range.start(), *range.end());
+        self.rust.keep(table.as_deref());
+        self.rust.restore_power_on_values(*range.start(), *range.end());
         let seen = Seen::of(&self.objects, table.as_deref().unwrap_or_default(), range.clone());
         notes.extend(seen.notes());
         let restored: Option<Vec<Object>> =

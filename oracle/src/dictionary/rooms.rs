@@ -36,7 +36,7 @@ fn object(index: u64, shape: u64, values: Vec<Value>, default: Option<Value>) ->
 }
 
 /// The records of all values, whatever the access.
-fn table(objects: &[Object]) -> Vec<Record> {
+pub fn table(objects: &[Object]) -> Vec<Record> {
     let mut records = Vec::new();
     for object in objects {
         let first = u8::from(object.shape != VARIABLE);

@@ -93,6 +93,11 @@ impl Rust {
         }
     }
 
+    /// Just the Rust's own write, for timing.
+    pub fn poke(&mut self, index: u16, sub_index: u8, value: ObjectValue) {
+        self.od.write(index, sub_index, value).expect("it is a right one");
+    }
+
     /// Just the Rust's own read, for timing.
     pub fn peek(&self, index: u16, sub_index: u8) -> Option<Cow<'_, ObjectValue>> {
         self.od.read(index, sub_index)
@@ -165,9 +170,12 @@ impl Rust {
         self.kept.borrow().table.as_ref().map(records)
     }
 
-    /// From this table, or without one.
-    pub fn restore_power_on_values(&mut self, table: Option<&[Record]>, first: u16, last: u16) {
+    /// Its storage has this table from now on, or cannot be read.
+    pub fn keep(&mut self, table: Option<&[Record]>) {
         self.kept.borrow_mut().table = table.map(|records| records.iter().map(row).collect());
+    }
+
+    pub fn restore_power_on_values(&mut self, first: u16, last: u16) {
         self.od.restore_power_on_values(first, last);
     }
 
