@@ -29,6 +29,7 @@ mod shrink;
 mod spoil;
 mod step;
 mod stored;
+mod stores;
 mod tally;
 mod trial;
 mod world;
@@ -56,6 +57,11 @@ pub fn compare(port: &mut Port, random: &mut Random) -> (u64, u64) {
 /// Prints the histories that crates/cases replays.
 pub fn print_stored() {
     stored::print();
+}
+
+/// Prints those of them that have a store.
+pub fn print_stores() {
+    stores::print();
 }
 
 /// Prints how long calls take, in the port and in the Rust.

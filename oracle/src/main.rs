@@ -1,7 +1,7 @@
 //! Compares the port with the unchanged Rust. Arguments: the seed, the port's
 //! program and, where only one part is to be run, that part: codec, dictionary
 //! or bench, which times calls and compares nothing. Without the port: the
-//! argument --histories prints histories with the answers that they must give.
+//! arguments --histories and --stores print histories with the answers that they must give.
 
 mod call;
 mod dictionary;
@@ -25,6 +25,10 @@ fn main() -> ExitCode {
     let first = arguments.next();
     if first.as_deref() == Some("--histories") {
         dictionary::print_stored();
+        return ExitCode::SUCCESS;
+    }
+    if first.as_deref() == Some("--stores") {
+        dictionary::print_stores();
         return ExitCode::SUCCESS;
     }
     let Some(seed) = first.and_then(|seed| seed.parse().ok()) else {

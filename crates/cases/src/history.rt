@@ -1,5 +1,5 @@
 // Histories: lines that call one lent dictionary after another, each with the answer that it must give. It has room for 8 objects,
-// 300 values and 1,200 bytes, so that each of these can be full.
+// 300 values and 1,200 bytes, so that each of these can be full. The store beside it has 1,000 bytes.
 //   N ANSWER                                               an empty dictionary
 //   I INDEX KIND ACCESS DEFAULT NAME VALS BYTES ANSWER     insertion; VALS has four digits a number, BYTES the encodings
 //   R INDEX SUB ANSWER [TYPE WORD PART]                    reading, and the part
@@ -7,8 +7,11 @@
 //   F NAME ANSWER [INDEX]                                  finding by name
 //   C SIZE ANSWER [LIST]                                   the configured nodes, into SIZE bytes
 //   P INDEX SUB ANSWER                                     counting up
-//   D SLICE PLACE VALUE                                    damage: sets an element of slice 0 to 3
-//   S SUM                                                  the sum over all that is lent
+//   W SIZE INDEX SUB TYPE DATA ANSWER                      writing, with the store's first SIZE bytes; DATA is the encoding
+//   V INDEX COUNT ANSWER                                   the check of a mapping's count
+//   D SLICE PLACE VALUE                                    damage: sets an element of slice 0 to 3, or of the store, 4
+//   S SUM                                                  the sum over the dictionary
+//   T SUM                                                  the sum over the dictionary and the store
 use crate::hex::bytes;
 use crate::hex::next;
 use crate::hex::number;
@@ -19,6 +22,8 @@ use crate::memory::set;
 use crate::memory::set_byte;
 use crate::memory::sum_of;
 use crate::memory::sum_of_bytes;
+use crate::storing::check_line;
+use crate::storing::write_line;
 use crate::tally::Tally;
 use crate::tally::line_end;
 use loomfinch::Answer;
@@ -29,18 +34,18 @@ use loomfinch::Listed;
 use loomfinch::Number;
 use loomfinch::Stored;
 
-fn answer_is(a: Answer, expected: u64) -> bool {
+pub fn answer_is(a: Answer, expected: u64) -> bool {
     match a {
         Answer::Done => expected == 0,
         Answer::Refused(r) => expected == answers::number(r),
     }
 }
 
-fn index_at(s: &[u8], at: usize) -> u16 {
+pub fn index_at(s: &[u8], at: usize) -> u16 {
     (number(s, at) % 0x1_0000) as u16
 }
 
-fn sub_at(s: &[u8], at: usize) -> u8 {
+pub fn sub_at(s: &[u8], at: usize) -> u8 {
     (number(s, at) % 0x100) as u8
 }
 
@@ -251,6 +256,7 @@ fn damage_line(
     slots: &mut [u64],
     words: &mut [u64],
     arena: &mut [u8],
+    store: &mut [u8],
 ) -> bool {
     let place = next(s, at);
     let value = number(s, next(s, place));
@@ -259,23 +265,16 @@ fn damage_line(
         0 => set(objects, place, value),
         1 => set(slots, place, value),
         2 => set(words, place, value),
-        _ => set_byte(arena, place, (value % 256) as u8),
+        3 => set_byte(arena, place, (value % 256) as u8),
+        _ => set_byte(store, place, (value % 256) as u8),
     }
 }
 
-fn sum_line(
-    s: &[u8],
-    at: usize,
-    objects: &[u64],
-    slots: &[u64],
-    words: &[u64],
-    arena: &[u8],
-) -> bool {
-    let sum = sum_of(words, sum_of(slots, sum_of(objects, 0)));
-    sum_of_bytes(arena, sum) == number(s, at)
+fn sum(objects: &[u64], slots: &[u64], words: &[u64], arena: &[u8]) -> u64 {
+    sum_of_bytes(arena, sum_of(words, sum_of(slots, sum_of(objects, 0))))
 }
 
-// Does the call of the line that starts at `at` give its answer on the lent dictionary?
+// Does the call of the line that starts at `at` give its answer on the lent dictionary and store?
 pub fn holds(
     s: &[u8],
     at: usize,
@@ -283,6 +282,7 @@ pub fn holds(
     slots: &mut [u64],
     words: &mut [u64],
     arena: &mut [u8],
+    store: &mut [u8],
 ) -> bool {
     if s.len() <= at {
         return false;
@@ -297,8 +297,11 @@ pub fn holds(
         b'F' => name_line(s, first, objects, slots, words, arena),
         b'C' => nodes_line(s, first, objects, slots, words, arena),
         b'P' => counter_line(s, first, objects, slots, words, arena),
-        b'D' => damage_line(s, first, objects, slots, words, arena),
-        b'S' => sum_line(s, first, objects, slots, words, arena),
+        b'W' => write_line(s, first, objects, slots, words, arena, store),
+        b'V' => check_line(s, first, objects, slots, words, arena),
+        b'D' => damage_line(s, first, objects, slots, words, arena, store),
+        b'S' => sum(objects, slots, words, arena) == number(s, first),
+        b'T' => sum_of_bytes(store, sum(objects, slots, words, arena)) == number(s, first),
         _ => false,
     }
 }
@@ -309,12 +312,21 @@ pub fn run(table: &[u8], before: Tally) -> Tally {
     let mut slots = [0; 900];
     let mut words = [0; 300];
     let mut arena = [0; 1200];
+    let mut store = [0; 1000];
     let mut run = before.run;
     let mut differ = before.differ;
     let mut at = 0;
     while at < table.len() {
         run = std::num::wrapping_add_u64(run, 1);
-        if !holds(table, at, &mut objects, &mut slots, &mut words, &mut arena) {
+        if !holds(
+            table,
+            at,
+            &mut objects,
+            &mut slots,
+            &mut words,
+            &mut arena,
+            &mut store,
+        ) {
             differ = std::num::wrapping_add_u64(differ, 1);
         }
         at = line_end(table, at);

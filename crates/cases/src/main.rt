@@ -1,11 +1,13 @@
 // Runs every table and writes how many lines were run, a space, how many differ, and a newline.
-// The tables are lines (see `lines` and `history`): our own, and those with the Rust's answers in two files, which the oracle made:
-// rust.txt is what oracle/run --sample prints, histories.txt what oracle/run --histories prints.
+// The tables are lines (see `lines` and `history`): our own, and those with the Rust's answers in three files, which the oracle made:
+// rust.txt is what oracle/run --sample prints, histories.txt what oracle/run --histories prints, stores.txt what oracle/run --stores
+// prints.
 mod hex;
 mod histories;
 mod history;
 mod lines;
 mod memory;
+mod storing;
 mod tables;
 mod tally;
 
@@ -40,7 +42,8 @@ fn main() {
     let counted = histories::counting(inserted);
     let damaged = histories::damaged(counted);
     let sampled = stored(b"rust.txt", false, damaged);
-    let all = stored(b"histories.txt", true, sampled);
+    let told = stored(b"histories.txt", true, sampled);
+    let all = stored(b"stores.txt", true, told);
     io::print_decimal(1, all.run);
     io::write_all(1, b" ");
     io::print_decimal(1, all.differ);

@@ -2,14 +2,18 @@
 //! crates/cases/src/history.rt reads; its first comment is their format.
 
 use super::insertion::Insertion;
-use super::memory::Memory;
+use super::memory::{Lent, Memory};
 use super::model::{self, Object, is_string};
-use super::step::{Call, Outcome, Step};
+use super::step::{Call, Outcome, Step, Write};
+use super::tally::Tally;
 use super::world::World;
 use crate::hex::hex;
 
 /// What history.rt lends whole: room for 8 objects, 300 values and 1,200 bytes.
 pub const LENT: [usize; 4] = [108, 900, 300, 1200];
+
+/// Bytes of the store beside it.
+pub const STORE_BYTES: usize = 1000;
 
 /// The longest file that is stored. The program that replays it reads 65,536 bytes at most.
 const LONGEST: usize = 60_000;
@@ -23,16 +27,27 @@ const CALLS_A_SUM: usize = 4;
 
 pub struct Lines {
     world: World,
+    /// What of the store is not lent to the next call: its bytes behind the lent ones.
+    behind: Vec<u8>,
     text: String,
     calls: usize,
+    /// What the lines reach.
+    pub tally: Tally,
 }
 
 impl Lines {
-    /// Memory of zeros, on which nothing was called yet.
-    pub fn new() -> Self {
+    /// Memory of zeros, on which nothing was called yet, and a store of so many.
+    pub fn new(store: usize) -> Self {
         let [objects, slots, words] = [LENT[0], LENT[1], LENT[2]].map(|length| vec![0; length]);
-        let memory = Memory { objects, slots, words, bytes: vec![0; LENT[3]], store: Vec::new() };
-        Self { world: World::on(memory), text: String::new(), calls: 0 }
+        let memory =
+            Memory { objects, slots, words, bytes: vec![0; LENT[3]], store: vec![0; store] };
+        Self {
+            world: World::on(memory),
+            behind: Vec::new(),
+            text: String::new(),
+            calls: 0,
+            tally: Tally::default(),
+        }
     }
 
     pub fn memory(&self) -> &Memory {
@@ -44,11 +59,28 @@ impl Lines {
         model::read_off(self.memory())
     }
 
+    /// Lends so many bytes of the store from now on; what lies behind them stays.
+    pub fn lend(&mut self, store: usize) {
+        let mut all = self.store();
+        self.behind = all.split_off(store);
+        let lengths = self.memory().lengths();
+        self.world.change(&Step::Lend(Lent { at_start: false, lengths, store }));
+        self.world.change(&Step::Store(all));
+    }
+
+    /// All of it.
+    fn store(&self) -> Vec<u8> {
+        [self.memory().store.as_slice(), &self.behind].concat()
+    }
+
     pub fn call(&mut self, call: Call) {
-        let outcome = self.world.call(&call).outcome;
+        let wanted = self.world.call(&call);
+        self.tally.count(call.name(), &wanted);
+        let outcome = wanted.outcome;
         let Outcome { answer, .. } = outcome;
         let found = if answer == 0 { found(&call, &outcome, self.memory()) } else { String::new() };
-        self.line(&format!("{} {answer:X}{found}", given(&call)));
+        let given = given(&call, self.memory().store.len());
+        self.line(&format!("{given} {answer:X}{found}"));
         self.calls += 1;
         if self.calls.is_multiple_of(CALLS_A_SUM) {
             self.sum();
@@ -82,8 +114,9 @@ impl Lines {
     }
 
     fn sum(&mut self) {
-        let sum = sum(self.memory());
-        self.line(&format!("S {sum:X}"));
+        let sum = sum(self.memory(), &self.behind);
+        let over = if self.store().is_empty() { "S" } else { "T" };
+        self.line(&format!("{over} {sum:X}"));
     }
 
     fn line(&mut self, line: &str) {
@@ -106,12 +139,13 @@ pub fn sayable(call: &Call) -> bool {
         Call::GetConfiguredCns(out) => *out <= 0xFF,
         Call::New | Call::ReadNumber { .. } | Call::IncrementCounter { .. } => true,
         // history.rt has no line for these.
-        Call::Write(_) | Call::ValidatePdoMapping { .. } => false,
-        Call::RestorePowerOnValues { .. } => false,
+        Call::Write(given) => given.data.len() <= MOST_BYTES_GIVEN,
+        Call::ValidatePdoMapping { .. } | Call::RestorePowerOnValues { .. } => true,
     }
 }
 
-fn given(call: &Call) -> String {
+/// The call, with so many bytes of the store lent.
+fn given(call: &Call, store: usize) -> String {
     assert!(sayable(call), "a line can say the call");
     match call {
         Call::New => "N".to_string(),
@@ -129,8 +163,11 @@ fn given(call: &Call) -> String {
         Call::FindByName(name) => format!("F {}", hex(name)),
         Call::GetConfiguredCns(out) => format!("C {out:X}"),
         Call::IncrementCounter { index, sub_index } => format!("P {index:X} {sub_index:X}"),
-        Call::Write(_) | Call::ValidatePdoMapping { .. } => unreachable!("no line can say it"),
-        Call::RestorePowerOnValues { .. } => unreachable!("no line can say it"),
+        Call::Write(Write { index, sub_index, kind, data }) => {
+            format!("W {store:X} {index:X} {sub_index:X} {kind:X} {}", hex(data))
+        }
+        Call::ValidatePdoMapping { index, count } => format!("V {index:X} {count:X}"),
+        Call::RestorePowerOnValues { first, last } => format!("O {store:X} {first:X} {last:X}"),
     }
 }
 
@@ -152,10 +189,11 @@ fn found(call: &Call, outcome: &Outcome, memory: &Memory) -> String {
     }
 }
 
-/// The sum of crates/cases/src/memory.rt.
-fn sum(memory: &Memory) -> u64 {
+/// The sum of crates/cases/src/memory.rt, where bytes of the store that are not lent lie behind it.
+fn sum(memory: &Memory, behind: &[u8]) -> u64 {
     const HALF: u64 = 1 << 32;
     let words = memory.objects.iter().chain(&memory.slots).chain(&memory.words).copied();
-    let cells = words.chain(memory.bytes.iter().map(|byte| u64::from(*byte)));
+    let bytes = memory.bytes.iter().chain(&memory.store).chain(behind);
+    let cells = words.chain(bytes.map(|byte| u64::from(*byte)));
     cells.fold(0, |sum, cell| sum % HALF * 65599 + cell % HALF + cell / HALF)
 }

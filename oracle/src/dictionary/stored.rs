@@ -28,7 +28,7 @@ pub const SMALL: Sizes = Sizes { longest: 6, elements: 3 };
 
 pub fn print() {
     let random = &mut Random::new(SEED);
-    let mut lines = Lines::new();
+    let mut lines = Lines::new(0);
     // Zeros are no dictionary.
     each_call(&mut lines, random, &[]);
     kinds(&mut lines, random);
@@ -126,7 +126,7 @@ fn all_of(lines: &mut Lines, random: &mut Random, object: &Object) {
 }
 
 /// Without a name, an access or a default.
-fn bare(index: u64, shape: u64, values: Vec<Value>) -> Object {
+pub fn bare(index: u64, shape: u64, values: Vec<Value>) -> Object {
     Object { index, shape, access: NO_ACCESS, name: Vec::new(), values, default: None }
 }
 

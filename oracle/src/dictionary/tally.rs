@@ -48,6 +48,16 @@ impl Tally {
         }
     }
 
+    /// Whether an answer of a call was reached, by this part of its rule or, without one, by any.
+    pub fn reached(&self, call: &'static str, answer: u64, cause: Option<&str>) -> bool {
+        match cause {
+            Some(cause) => {
+                self.causes.get(&(call, answer)).is_some_and(|causes| causes.contains_key(cause))
+            }
+            None => self.answers.get(call).is_some_and(|answers| answers.contains_key(&answer)),
+        }
+    }
+
     pub fn print(&self) {
         for (call, answers) in &self.answers {
             let counts = answers.iter().map(|(answer, count)| (answer_name(*answer), count));

@@ -101,7 +101,7 @@ fn spoiled(random: &mut Random, index: u16, sub_index: u8, kind: u64, data: Vec<
 }
 
 /// A save or a restore's request, with its signature or something like it.
-fn command(random: &mut Random) -> Call {
+pub fn command(random: &mut Random) -> Call {
     const OCTET_STRING: u64 = 12;
     const LIKE: [&[u8]; 10] =
         [b"save", b"load", b"Save", b"SAVE", b"sav", b"loa", b"save ", b"load\0", b"", b"sav\xFF"];

@@ -62,7 +62,7 @@ pub fn mixed(random: &mut Random, sizes: Sizes) -> Vec<Object> {
 }
 
 /// Mappings and, most times, their limits.
-fn mapped(random: &mut Random, most: usize) -> Vec<Object> {
+pub fn mapped(random: &mut Random, most: usize) -> Vec<Object> {
     let mut all: Vec<Object> =
         (0..1 + random.below(3)).map(|_| mappings::mapping(random, most)).collect();
     if random.below(4) > 0 {
@@ -72,7 +72,7 @@ fn mapped(random: &mut Random, most: usize) -> Vec<Object> {
 }
 
 /// By index, each index once.
-fn rising(mut objects: Vec<Object>) -> Vec<Object> {
+pub fn rising(mut objects: Vec<Object>) -> Vec<Object> {
     objects.sort_by_key(|object| object.index);
     objects.dedup_by_key(|object| object.index);
     objects

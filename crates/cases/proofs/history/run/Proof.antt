@@ -8,11 +8,11 @@ use Rattle.cases.proofs.history.run.Statement.{statement}
 use Rattle.cases.proofs.history.run.Tie as tie
 
 abbrev Inv-loop : tie.InvT-loop
-Inv-loop table objects₀ slots₀ words₀ arena₀ run₀ differ₀ at₀ objects slots words arena run differ at =
-    (length objects ≡ 108) × (length slots ≡ 900) × (length words ≡ 300) × (length arena ≡ 1200)
+Inv-loop table objects₀ slots₀ words₀ arena₀ store₀ run₀ differ₀ at₀ objects slots words arena store run differ at =
+    (length objects ≡ 108) × (length slots ≡ 900) × (length words ≡ 300) × (length arena ≡ 1200) × (length store ≡ 1000)
 
 abbrev μ-loop : tie.MeasureT-loop
-μ-loop table objects₀ slots₀ words₀ arena₀ run₀ differ₀ at₀ objects slots words arena run differ at =
+μ-loop table objects₀ slots₀ words₀ arena₀ store₀ run₀ differ₀ at₀ objects slots words arena store run differ at =
     length table - at
 
 loop-holds : tie.Need-loop-holds Inv-loop μ-loop
@@ -33,6 +33,9 @@ slice-aggregate-holds-3 c = search needs
 slice-aggregate-holds-4 : tie.Need-slice-aggregate-holds-4 Inv-loop μ-loop
 slice-aggregate-holds-4 c = search needs
 
+slice-aggregate-holds-5 : tie.Need-slice-aggregate-holds-5 Inv-loop μ-loop
+slice-aggregate-holds-5 c = search needs
+
 holds-requires : tie.Need-holds-requires Inv-loop μ-loop
 holds-requires c κs = search needs
 
@@ -43,7 +46,7 @@ line-end-requires : tie.Need-line-end-requires Inv-loop μ-loop
 line-end-requires c κs = search needs
 
 loop-less : tie.Need-loop-less Inv-loop μ-loop
-loop-less c = omega (arith, c .line-end .ensures .inside, c .line-end .ensures .onward (c .before .before .before .before .before .before .before .before .before .before .before .before .loop-test .taken))
+loop-less c = omega (arith, c .line-end .ensures .inside, c .line-end .ensures .onward (c .before .before .before .before .before .before .before .before .before .before .before .before .before .before .loop-test .taken))
 
 loop-again : tie.Need-loop-again Inv-loop μ-loop
 loop-again c = search needs
@@ -63,6 +66,7 @@ run-spec =
     slice-aggregate-holds-2
     slice-aggregate-holds-3
     slice-aggregate-holds-4
+    slice-aggregate-holds-5
     holds-requires
     wrapping-add-u64-requires-2
     line-end-requires
