@@ -32,9 +32,12 @@ pub fn compare(trial: &mut Trial, random: &mut Random) {
         ];
         restore_all(trial, random, &objects, stores.concat());
     }
-    let objects = small(random);
-    let stores = [counts(random, &objects), totals(random, &objects)];
-    restore_all(trial, random, &objects, stores.concat());
+    // Several times, since a range may leave out the one record that would show.
+    for _ in 0..4 {
+        let objects = small(random);
+        let stores = [counts(random, &objects), totals(random, &objects)];
+        restore_all(trial, random, &objects, stores.concat());
+    }
 }
 
 /// Strings and numbers, with and without defaults, alone and in lists; the error history; a list
@@ -247,7 +250,10 @@ fn noise(random: &mut Random) -> Vec<Vec<u8>> {
 fn counts(random: &mut Random, objects: &[Object]) -> Vec<Vec<u8>> {
     let mut stores = Vec::new();
     for count in [1, 2047, 2048, 2049, 4097] {
-        let image = image::of(&many(random, objects, &vec![0; count]));
+        let mut lengths = vec![0; count];
+        // The one that the dictionary has a place for is to be seen where it is put.
+        lengths[0] = 8;
+        let image = image::of(&many(random, objects, &lengths));
         stores.push([image.as_slice(), &[0; 9]].concat());
         stores.push(image[..image.len() - 1].to_vec());
         stores.push(image);
