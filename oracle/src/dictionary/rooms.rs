@@ -141,7 +141,7 @@ fn largest(random: &mut Random, values: usize, records: usize) -> History {
     let mut objects = saved(random, records, BODIES, numbers);
     let image = image::of(&table(&objects));
     let default = Value::new(OCTET_STRING, 1, &[7]);
-    let mut index = 0xB000;
+    let mut index = objects.last().map_or(0, |object| object.index + 1);
     let mut left = values - records;
     while left > 0 {
         let count = left.min(MOST_ELEMENTS);
