@@ -148,7 +148,7 @@ fn values(random: &mut Random, kind: u64) -> Vec<Vec<u8>> {
     }
 }
 
-/// An object of each access: its places, the count of a list, and what lies behind.
+/// An object of each access: what of it is saved, its places, the count of a list, and what lies behind.
 fn accesses(lines: &mut Lines, random: &mut Random) {
     lines.begin();
     for access in 0..=NO_ACCESS {
@@ -157,6 +157,7 @@ fn accesses(lines: &mut Lines, random: &mut Random) {
         let values = (0..count).map(|_| Value::new(UNSIGNED8, 0, &random.bytes(1))).collect();
         lines.insert(&Object { access, ..bare(0x3000 + access, shape, values) });
     }
+    lines.call(writes::save(1));
     for index in 0x3000..0x3009 {
         for sub_index in [0, 1, 2, 3, 255] {
             lines.call(write(index, sub_index, UNSIGNED8, &random.bytes(1)));
@@ -196,14 +197,14 @@ fn counts(lines: &mut Lines, random: &mut Random) {
     }
 }
 
-/// Objects at both ends of what each list saves, most of them saved.
+/// Objects at both ends of what each list saves and just beside them, all with access to be saved.
 fn lists(lines: &mut Lines, random: &mut Random) {
     lines.begin();
     for index in [0x0FFF, 0x1000, 0x1FFF, 0x2000, 0x5FFF, 0x6000, 0x9FFF, 0xA000] {
         let shape = random.word() % (LAST_SHAPE + 1);
-        let count = if shape == VARIABLE { 1 } else { random.below(3) };
+        let count = if shape == VARIABLE { 1 } else { 1 + random.below(2) };
         let values = (0..count).map(|_| objects::value(random, 4)).collect();
-        let access = random.pick(&[2, 4, 4, 3]);
+        let access = random.pick(&[2, 4]);
         lines.insert(&Object { access, ..bare(index, shape, values) });
     }
 }
