@@ -18,6 +18,7 @@ mod mappings;
 mod memory;
 mod model;
 mod objects;
+mod recovery;
 mod restored;
 mod restores;
 mod restoring;

@@ -9,6 +9,7 @@
 //   P INDEX SUB ANSWER                                     counting up
 //   W SIZE INDEX SUB TYPE DATA ANSWER                      writing, with the store's first SIZE bytes; DATA is the encoding
 //   V INDEX COUNT ANSWER                                   the check of a mapping's count
+//   O SIZE FIRST LAST ANSWER                               restoring power-on values, from the store's first SIZE bytes
 //   D SLICE PLACE VALUE                                    damage: sets an element of slice 0 to 3, or of the store, 4
 //   S SUM                                                  the sum over the dictionary
 //   T SUM                                                  the sum over the dictionary and the store
@@ -23,6 +24,7 @@ use crate::memory::set_byte;
 use crate::memory::sum_of;
 use crate::memory::sum_of_bytes;
 use crate::storing::check_line;
+use crate::storing::restore_line;
 use crate::storing::write_line;
 use crate::tally::Tally;
 use crate::tally::line_end;
@@ -299,6 +301,7 @@ pub fn holds(
         b'P' => counter_line(s, first, objects, slots, words, arena),
         b'W' => write_line(s, first, objects, slots, words, arena, store),
         b'V' => check_line(s, first, objects, slots, words, arena),
+        b'O' => restore_line(s, first, objects, slots, words, arena, store),
         b'D' => damage_line(s, first, objects, slots, words, arena, store),
         b'S' => sum(objects, slots, words, arena) == number(s, first),
         b'T' => sum_of_bytes(store, sum(objects, slots, words, arena)) == number(s, first),

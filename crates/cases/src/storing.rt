@@ -1,4 +1,5 @@
-// The lines of histories that write, save and check a mapping's count. A line says how many bytes of the store it lends.
+// The lines of histories that write, save, restore and check a mapping's count. A line says how many bytes of the store it
+// lends.
 use crate::hex::bytes;
 use crate::hex::next;
 use crate::hex::number;
@@ -6,6 +7,7 @@ use crate::history::answer_is;
 use crate::history::index_at;
 use crate::history::sub_at;
 use loomfinch::Wrote;
+use restoring::Restored;
 
 fn wrote_is(a: Wrote, expected: u64) -> bool {
     match a {
@@ -90,4 +92,47 @@ pub fn check_line(
         loomfinch::validate_pdo_mapping(objects, slots, words, arena, index, count),
         answer,
     )
+}
+
+fn restored_is(a: Restored, expected: u64) -> bool {
+    match a {
+        Restored::Done => expected == 0,
+        Restored::Refused(r) => expected == answers::number(r),
+    }
+}
+
+// All of the store is lent; the first index starts at `at`.
+fn restore_is(
+    s: &[u8],
+    at: usize,
+    objects: &[u64],
+    slots: &mut [u64],
+    words: &mut [u64],
+    arena: &mut [u8],
+    store: &[u8],
+) -> bool {
+    let last = next(s, at);
+    let expected = number(s, next(s, last));
+    let first = index_at(s, at);
+    let last = index_at(s, last);
+    restored_is(
+        restoring::restore_power_on_values(objects, slots, words, arena, store, first, last),
+        expected,
+    )
+}
+
+pub fn restore_line(
+    s: &[u8],
+    at: usize,
+    objects: &[u64],
+    slots: &mut [u64],
+    words: &mut [u64],
+    arena: &mut [u8],
+    store: &[u8],
+) -> bool {
+    let size = number(s, at) as usize;
+    if store.len() < size {
+        return false;
+    }
+    restore_is(s, next(s, at), objects, slots, words, arena, &store[..size])
 }

@@ -26,7 +26,7 @@ pub fn compare(trial: &mut Trial, random: &mut Random) {
 }
 
 /// Most objects are saved, and half have a default for one of their values.
-fn saved(random: &mut Random, sizes: Sizes) -> Vec<Object> {
+pub fn saved(random: &mut Random, sizes: Sizes) -> Vec<Object> {
     let mut all = mixed(random, sizes);
     for object in &mut all {
         if random.below(4) > 0 {
@@ -60,7 +60,7 @@ fn redefault(random: &mut Random, object: &mut Object) {
 }
 
 /// The objects as another version of a device has them.
-fn varied(random: &mut Random, objects: &[Object], sizes: Sizes) -> Vec<Object> {
+pub fn varied(random: &mut Random, objects: &[Object], sizes: Sizes) -> Vec<Object> {
     let mut all = objects.to_vec();
     all.retain(|_| random.below(12) > 0);
     for object in &mut all {

@@ -1,11 +1,12 @@
 //! The stored histories of writes, saves and count checks, with stores of several lengths; like those
-//! of stored.rs, which have no store.
+//! of stored.rs, which have no store. recovery.rs has the restores.
 
 use super::insertion::Insertion;
 use super::lines::{Lines, STORE_BYTES, sayable};
 use super::mappings;
 use super::model::*;
 use super::objects::{self, Sizes};
+use super::recovery;
 use super::step::Call;
 use super::stored::{any_call, bare, until};
 use super::writes::{self, write};
@@ -37,6 +38,8 @@ pub fn print() {
         mixture(&mut lines, random);
     }
     damage(&mut lines, random);
+    // With numbers of its own, so that it stays as it is where what stands before it changes.
+    recovery::all(&mut lines, &mut Random::new(SEED + 1));
     for (call, answer, cause) in WRITES {
         assert!(lines.tally.reached(call, answer, cause), "{call} gives {answer}, {cause:?}");
     }
@@ -87,7 +90,7 @@ fn is_short(call: &Call) -> bool {
     sayable(call) && !matches!(call, Call::Write(given) if given.data.len() > LONGEST_DATA)
 }
 
-fn any_write(lines: &mut Lines, random: &mut Random, objects: &[Object]) {
+pub fn any_write(lines: &mut Lines, random: &mut Random, objects: &[Object]) {
     lines.call(until(|| Some(writes::any(random, objects)).filter(is_short)));
 }
 
@@ -231,12 +234,12 @@ fn saves(lines: &mut Lines, random: &mut Random) {
 }
 
 /// A store that is long enough most times.
-fn any_store(random: &mut Random, objects: &[Object]) -> usize {
+pub fn any_store(random: &mut Random, objects: &[Object]) -> usize {
     let exact = image_length(objects, 1).min(STORE_BYTES);
     random.pick(&[STORE_BYTES, STORE_BYTES, exact, exact - 1, 1])
 }
 
-fn insert_all(lines: &mut Lines, objects: &[Object]) {
+pub fn insert_all(lines: &mut Lines, objects: &[Object]) {
     lines.begin();
     for object in objects {
         let call = Call::Insert(Insertion::of(object));

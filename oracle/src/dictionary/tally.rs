@@ -58,6 +58,11 @@ impl Tally {
         }
     }
 
+    /// Whether a call found this besides.
+    pub fn noted(&self, call: &str, note: &str) -> bool {
+        self.notes.get(call).is_some_and(|notes| notes.contains_key(note))
+    }
+
     pub fn print(&self) {
         for (call, answers) in &self.answers {
             let counts = answers.iter().map(|(answer, count)| (answer_name(*answer), count));
