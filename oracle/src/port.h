@@ -8,11 +8,6 @@ typedef uint8_t u8;
 typedef uint16_t u16;
 typedef uint64_t u64;
 
-// As include/loomfinch.h declares it, once it does.
-uint64_t loomfinch_restore_power_on_values(const uint64_t *objects, size_t objects_len, uint64_t *slots, size_t slots_len,
-                                           uint64_t *words, size_t words_len, uint8_t *bytes, size_t bytes_len,
-                                           const uint8_t *store, size_t store_len, uint16_t first, uint16_t last);
-
 void *memcpy(void *to, const void *from, u64 count);
 void *memmove(void *to, const void *from, u64 count);
 void *memset(void *to, int byte, u64 count);

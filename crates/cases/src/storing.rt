@@ -6,8 +6,8 @@ use crate::hex::number;
 use crate::history::answer_is;
 use crate::history::index_at;
 use crate::history::sub_at;
+use loomfinch::Restored;
 use loomfinch::Wrote;
-use restoring::Restored;
 
 fn wrote_is(a: Wrote, expected: u64) -> bool {
     match a {
@@ -116,7 +116,7 @@ fn restore_is(
     let first = index_at(s, at);
     let last = index_at(s, last);
     restored_is(
-        restoring::restore_power_on_values(objects, slots, words, arena, store, first, last),
+        loomfinch::restore_power_on_values(objects, slots, words, arena, store, first, last),
         expected,
     )
 }
