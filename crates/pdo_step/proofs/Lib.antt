@@ -1,3 +1,4 @@
 pub mod BitLaws
 pub mod OutcomeLaws
 pub mod CaseLaws
+pub mod MarkLaws

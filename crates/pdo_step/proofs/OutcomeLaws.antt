@@ -8,7 +8,7 @@ use borrow.Author.Tests.{ltb-false}
 use lib.Dec.{eqb, ltb}
 use lib.ListN.{length, drop}
 use Rattle.lists.specs.Numbers.{Bytes}
-use Rattle.lists.proofs.NumberLaws.{part-length, bytes-take, bytes-drop}
+use Rattle.lists.proofs.NumberLaws.{part-length, bytes-take, bytes-drop, bytes-over}
 use Rattle.value.specs.Codec.{isText, wordAt}
 use Rattle.value.specs.declared.Word.{Word}
 use Rattle.value.specs.declared.Word.the-variants.{Takes, Fails}
@@ -18,13 +18,14 @@ use Rattle.mapping.specs.declared.PdoMappingEntry.{PdoMappingEntry}
 use Rattle.mapping.specs.declared.Field.{Field}
 use Rattle.mapping.specs.declared.Field.the-variants as field
 use Rattle.mapping.proofs.WordLaws.{whole-field, entry-in-range}
-use Rattle.entry.specs.Table.{Dict, typeAt, roomAt}
+use Rattle.entry.specs.Table.{Dict, typeAt, startAt, roomAt}
 use Rattle.entry.specs.Find.{placeOf}
 use Rattle.entry.specs.Judge.{wellFormed}
 use Rattle.entry.specs.declared.Place.{Place}
 use Rattle.entry.specs.declared.Place.the-variants.{NoObject, NoSub, Count, Value}
 use Rattle.entry.proofs.ValueLaws.{rows-of, element-of, element-facts}
-use Rattle.entry.specs.Put.{contents, filled}
+use Rattle.entry.specs.Put.{contents, filled, putIn}
+use Rattle.entry.proofs.PutLaws.{put-text, put-fixed}
 use Rattle.entry.proofs.KeepLaws.{Fits, put-element}
 use Rattle.pdo_validator.specs.Counting.{isMapping}
 use Rattle.pdo_step.specs.declared.Outcome.{Outcome}
@@ -163,3 +164,26 @@ step-keeps d payload w e b = go (outcomeOf (d .objects) (d .slots) payload w) re
     go (outcome.Stored p start n) q =
         let s = stored-by d payload p start n w q in
         put-element d (part payload start n) e (element-of d e (s .index) (s .sub) p (s .place)) (bytes-take n (drop start payload) (bytes-drop start payload b)) (s .word) (s .fits)
+
+pub step-bytes : (d : Dict) (payload : List ℕ) (w : ℕ) → wellFormed d ≡ true → Bytes payload → Bytes (d .bytes) → Bytes (applied (d .slots) payload (contents (d .words) (d .bytes)) (outcomeOf (d .objects) (d .slots) payload w) .bytes)
+unfolding applied
+step-bytes d payload w e b bd = go (outcomeOf (d .objects) (d .slots) payload w) refl
+  where
+    put : (p start n : ℕ) → StoredBy d payload p start n → (t : Bool) → isText (typeAt (d .slots) p) ≡ t → Bytes (putIn (d .slots) (contents (d .words) (d .bytes)) p (part payload start n) .bytes)
+    put p start n s true q i =
+        let f = element-facts d e (element-of d e (s .index) (s .sub) p (s .place)) in
+        rw (ap (λ c. c .bytes) (put-text (d .slots) (contents (d .words) (d .bytes)) p (part payload start n) q))
+        (bytes-over (d .bytes) (startAt (d .slots) p) (part payload start n) (omega (arith, f .within, f .bytes)) bd (bytes-take n (drop start payload) (bytes-drop start payload b)) i)
+    put p start n s false q i = rw (ap (λ c. c .bytes) (put-fixed (d .slots) (contents (d .words) (d .bytes)) p (part payload start n) q)) (bd i)
+
+    go : (o : Outcome) → outcomeOf (d .objects) (d .slots) payload w ≡ o → Bytes (applied (d .slots) payload (contents (d .words) (d .bytes)) o .bytes)
+    go outcome.Misaligned q = bd
+    go outcome.Short q = bd
+    go (outcome.Server x start n) q = bd
+    go (outcome.Client x start n) q = bd
+    go outcome.NoTarget q = bd
+    go outcome.Count q = bd
+    go outcome.CountRefused q = bd
+    go (outcome.Undecodable f) q = bd
+    go outcome.TooLong q = bd
+    go (outcome.Stored p start n) q = put p start n (stored-by d payload p start n w q) (isText (typeAt (d .slots) p)) refl
