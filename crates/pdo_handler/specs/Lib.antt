@@ -1,3 +1,4 @@
 pub mod Channel
 pub mod Run
 pub mod Consume
+pub mod Cases
