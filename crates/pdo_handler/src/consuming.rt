@@ -53,7 +53,7 @@ fn consume_ready(
 }
 
 // Consumes a payload; each event is a number of the log, from the first on.
-pub fn consume(
+pub fn consume_pdo_payload(
     objects: &[u64],
     slots: &[u64],
     words: &mut [u64],

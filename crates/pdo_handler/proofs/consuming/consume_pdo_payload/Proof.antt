@@ -1,4 +1,4 @@
--- `pdo_handler::consuming::consume` meets its contract: each way out is a case of the definition. Assumes nothing.
+-- `pdo_handler::consuming::consume_pdo_payload` meets its contract: each way out is a case of the definition. Assumes nothing.
 use mathlib.Core.Path.{_≡_, sym, ap, _∙_}
 use mathlib.Core.Bool.{true}
 use Prim.Native.Nat.{ℕ}
@@ -11,8 +11,8 @@ use Rattle.pdo_handler.specs.Run.{Logged}
 use Rattle.pdo_handler.specs.Consume.{done, consumeOf}
 use native.Mathlib.Omega.{arith}
 use borrow.Author.Needs.{needs}
-use Rattle.pdo_handler.proofs.consuming.consume.Statement.{statement}
-use Rattle.pdo_handler.proofs.consuming.consume.Tie as tie
+use Rattle.pdo_handler.proofs.consuming.consume_pdo_payload.Statement.{statement}
+use Rattle.pdo_handler.proofs.consuming.consume_pdo_payload.Tie as tie
 
 abbrev D : tie.Start → Dict
 D s = dict (now (s .args .objects)) (now (s .args .slots)) (now (s .args .words)) (now (s .args .bytes))
@@ -93,8 +93,8 @@ returns-5 c =
     let b = d .before in
     ap done (u .consume-ready .ensures) ∙ sym (simp (formed (b .before), le-ltb (logs (b .before)) 254 (b .if2 .left), le-ltb 1490 (pays (b .before)) (d .if3 .left), not-false (start (b .before .before) .args .ready) (e .if4 .left)))
 
-pub consume-spec : {M : Type 1} → statement M
-consume-spec =
+pub consume-pdo-payload-spec : {M : Type 1} → statement M
+consume-pdo-payload-spec =
     tie.close
     (tie.spec
     well-formed-requires

@@ -1,0 +1,22 @@
+-- Setting an error bit as a call: RULES.md 11. Assumes nothing.
+use Prim.Native.Nat.{ℕ}
+use mathlib.Core.Bool.{cond}
+use mathlib.Core.List.{List}
+use Rattle.answers.specs.declared.Refusal.the-variants.{Malformed}
+use Rattle.entry.specs.Table.{Dict}
+use Rattle.entry.specs.Judge.{wellFormed}
+use Rattle.od.specs.declared.Answer.{Answer}
+use Rattle.od.specs.declared.Answer.the-variants.{Done, Refused}
+use Rattle.pdo_step.specs.Bits.{markedIn}
+
+-- an answer, and the bytes after it
+pub record After : Type 0 where
+  pub answer : Answer
+  pub bytes : List ℕ
+
+abbrev pub after : Answer → List ℕ → After
+after a bs = record { answer = a; bytes = bs }
+
+-- R11.11: "Malformed (1), else always Done"
+unfoldable pub updateOf : Dict → ℕ → ℕ → After
+updateOf d x n = cond (wellFormed d) (after Done (markedIn (d .objects) (d .slots) (d .words) (d .bytes) x n)) (after (Refused Malformed) (d .bytes))
