@@ -1,16 +1,15 @@
 -- What a save offers of a well-formed dictionary is a right table: its records rise, and each body is a value of its type.
 -- Assumes nothing.
-use mathlib.Core.Path.{_≡_, refl, ap, _∙_}
+use mathlib.Core.Path.{_≡_, refl, ap}
 use mathlib.Core.Bool.{Bool, true, false, cond, _&&_}
 use mathlib.Core.List.{List, [], _∷_, _++_}
 use Prim.Native.Nat.{ℕ, zero, suc, _+_, _-_, _*_, _≤_, _<_}
 use native.Mathlib.Omega.{arith}
 use borrow.Author.Tests.{eqb-true, eqb-false, eq-eqb, ne-eqb, le-leb, leb-true, lt-ltb}
 use lib.Dec.{eqb, leb}
-use lib.ListN.{length, take, drop, getD}
-use Rattle.lists.proofs.NumberLaws.{length-bytesOf}
+use lib.ListN.{length}
 use Rattle.value.specs.Codec.{exact}
-use Rattle.entry.specs.Table.{Dict, numberOf, indexAt, kindAt, firstAt, typeAt, startAt}
+use Rattle.entry.specs.Table.{Dict, numberOf, indexAt, kindAt, firstAt, typeAt}
 use Rattle.entry.specs.Judge.{wellFormed}
 use Rattle.entry.specs.Encode.{encodingAt}
 use Rattle.entry.proofs.JudgeLaws.{and-true, head-ok}
@@ -47,6 +46,14 @@ unfolding recsOk
 recs-cons low r rs h o e = rw (le-leb low (keyOf (r .index) (r .sub)) h, rec-make r o) e
 
 -- ---- the values of a row
+pub sub-few : (kind k : ℕ) → subIn kind k ≤ k + 1
+unfolding subIn
+sub-few kind k = go (eqb kind 0)
+  where
+    go : (b : Bool) → cond b 0 (k + 1) ≤ k + 1
+    go true = omega arith
+    go false = omega arith
+
 module _ (d : Dict) (e : wellFormed d ≡ true) (i n : ℕ) (r : Row (d .objects) i n) where
   abbrev x : ℕ
   x = indexAt (d .objects) i
@@ -57,19 +64,11 @@ module _ (d : Dict) (e : wellFormed d ≡ true) (i n : ℕ) (r : Row (d .objects
   value-ok : (k : ℕ) → k < n → exact (typeAt (d .slots) (firstAt (d .objects) i + k)) (encodingAt d (firstAt (d .objects) i + k)) ≡ true
   value-ok k h = exact-stored d e (firstAt (d .objects) i + k) (facts d e i n r k h .below)
 
-  sub-few : (k : ℕ) → subIn kind k ≤ k + 1
-  unfolding subIn
-  sub-few k = go (eqb kind 0)
-    where
-      go : (b : Bool) → cond b 0 (k + 1) ≤ k + 1
-      go true = omega arith
-      go false = omega arith
-
   record-ok : (k : ℕ) → k < n → RecOk (recAt d i k)
   record-ok k h =
       record {
         index = head-ok _ _ _ _ _ _ (row-facts d e i (r .below) .head) .index-small;
-        sub = omega (arith, sub-few k, row-lies d e i (r .below) .few, r .within);
+        sub = omega (arith, sub-few kind k, row-lies d e i (r .below) .few, r .within);
         value = value-ok k h;
       }
 

@@ -1,9 +1,9 @@
 -- Putting a value keeps a dictionary well-formed.
 -- Assumes nothing.
 use mathlib.Core.Path.{_≡_, refl, sym, ap, _∙_, subst}
-use mathlib.Core.Bool.{Bool, true, false, cond, _&&_}
-use mathlib.Core.List.{List, [], _∷_, _++_, append-nil, append-assoc}
-use Prim.Native.Nat.{ℕ, zero, suc, _+_, _-_, _*_, _<_, _≤_}
+use mathlib.Core.Bool.{true, false, _&&_}
+use mathlib.Core.List.{List, [], _∷_, _++_, append-assoc}
+use Prim.Native.Nat.{ℕ, zero, suc, _+_, _-_, _*_, _<_}
 use native.Mathlib.Nat.{add-zero, zero-add}
 use native.Mathlib.Omega.{arith}
 use borrow.Author.Tests.{lt-ltb}
@@ -11,17 +11,17 @@ use lib.Dec.{leb}
 use lib.ListN.{length, take, drop, getD, set, length-append, length-set}
 use lib.Seq.{set-at, take-at, drop-at, getD-append-add, set-append-left}
 use Rattle.lists.specs.Lists.{over}
-use Rattle.entry.specs.Model.{Val, Obj, rooms, wordsOf, slotsOf, used, size, bytesOf, row, rowsOf, header, allObjects, allSlots, allWords, allBytes}
+use Rattle.entry.specs.Model.{Val, Obj, rooms, wordsOf, slotsOf, used, size, rowsOf, allObjects, allSlots, allWords, allBytes}
 use Rattle.entry.specs.Table.{Dict, Lies, modelOf, valAt, valsFrom, objAt, objsFrom, numberOf, countAt, firstAt, defaultAt, typeAt, startAt, roomAt}
 use Rattle.entry.specs.Rules.{valOk, heldOk, valsOk, objOk, objsOk, headOk, isGood, Few}
-use Rattle.entry.specs.Judge.{Sound, wellFormed}
+use Rattle.entry.specs.Judge.{wellFormed}
 use Rattle.lists.specs.Numbers.{number}
 use Rattle.value.specs.Codec.{isText, sizeOf}
 use Rattle.entry.specs.Put.{Contents, contents, putIn, putAs}
 use Rattle.text.specs.Machine.{judge}
 use Rattle.entry.proofs.JudgeLaws.{and-true, length-vals, length-objs, sound}
 use Rattle.entry.proofs.ModelLaws.{length-wordsOf, length-slotsOf, length-slots, words-append, bytes-append, rows-append, slots-append, begins, first-at}
-use Rattle.entry.proofs.BackLaws.{complete, read-back, FirstOk, first-ok}
+use Rattle.entry.proofs.BackLaws.{complete}
 
 -- ---- the two ways of a put
 module _ (slots : List ℕ) (c : Contents) (p : ℕ) (s : List ℕ) where
@@ -134,11 +134,6 @@ module _ (xs : List Obj) (o : Obj) (ys : List Obj) (us vs : List Val) where
     words-put p q =
         let n : length (allWords xs ++ wordsOf us) ≡ p = rw (length-append (allWords xs) (wordsOf us), length-wordsOf us) (sym q) in
         words-form y ∙ sym (ap (λ l. set l p (y .word)) (words-form x) ∙ set-at (allWords xs ++ wordsOf us) (x .word) (wordsOf vs ++ allWords ys) (y .word) p n)
-
-    bytes-put : (a : ℕ) → a ≡ length (allBytes xs ++ (o .name ++ rooms us)) → allBytes (all y) ≡ over (allBytes (all x)) a (y .room)
-    bytes-put a q =
-        let f = allBytes xs ++ (o .name ++ rooms us) in
-        bytes-form y ∙ sym (ap (λ l. over l a (y .room)) (bytes-form x) ∙ over-middle f (x .room) (rooms vs ++ allBytes ys) (y .room) a q e)
 
   -- ---- the rules: the value is one of the object's elements
   ok-all : (low : ℕ) (x y : Val) → length us < length (us ++ (x ∷ vs)) - o .default → valOk (y .type) (y .word) (length (y .room)) (y .room) ≡ true → objsOk low (all x) ≡ true → objsOk low (all y) ≡ true

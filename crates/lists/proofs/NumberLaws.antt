@@ -7,7 +7,7 @@ use native.Mathlib.Nat.{add-comm, zero-add, suc-add, mul-assoc, mul-left-comm, l
 use native.Mathlib.Omega.{arith}
 use native.Mathlib.Decide.{decLt}
 use lib.ListN.{length, take, drop, getD, set, length-drop, drop-of-length-le}
-use lib.Seq.{drop-cons, length-take-le, getD-take, getD-drop}
+use lib.Seq.{drop-cons, length-take-le, getD-take, getD-drop, getD-set-same, getD-set-other}
 use lib.Pow.{pow-add, pow-mono, pow-pos, mod-pow-add, shr-shr}
 use Rattle.lists.specs.Lists.{over}
 use Rattle.lists.specs.Numbers.{number, bytesOf, bits, Bytes}
@@ -53,6 +53,14 @@ bytes-over xs a ys l bx by i = go (decLt i a) (decLt i (a + length ys))
         let z : getD (over xs a ys) (a + (i - a)) 0 < 256 = rw (getD-over-inside xs a ys (i - a) (omega (arith, h, k)) l) (by (i - a)) in
         rw e at z
     go (no h) (no k) = rw (getD-over-above xs a ys i (omega (arith, k)) l) (bx i)
+
+pub bytes-set : (s : List ℕ) (k v : ℕ) → Bytes s → k < length s → v < 256 → Bytes (set s k v)
+bytes-set s k v b l h i = go (decLt i k) (decLt k i)
+  where
+    go : Dec (i < k) → Dec (k < i) → getD (set s k v) i 0 < 256
+    go (yes x) y = rw (getD-set-other s k i v 0 (λ e. absurd (omega (arith, x, e)))) (b i)
+    go (no x) (yes y) = rw (getD-set-other s k i v 0 (λ e. absurd (omega (arith, y, e)))) (b i)
+    go (no x) (no y) = let e : i ≡ k = omega (arith, x, y) in rw (e, getD-set-same s k v 0 l) h
 
 -- element by element, of a list that is written out
 abbrev pub Each : List ℕ → Type 0

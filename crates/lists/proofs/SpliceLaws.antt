@@ -6,10 +6,10 @@ use Prim.Native.Nat.{ℕ, zero, suc, _+_, _-_, _*_, _<_, _≤_}
 use native.Mathlib.Nat.{mul-suc, mul-le-mul-left, zero-add, suc-add}
 use native.Mathlib.Numerals.{add-one}
 use native.Mathlib.Omega.{arith}
-use lib.ListN.{length, take, drop, getD, set, replicate, length-append, length-set, length-replicate}
-use lib.Seq.{length-take-le, take-suc, take-at, drop-at, set-at, drop-drop, slice, slice-cons, slice-empty, length-slice, take-append-le, drop-append-le, getD-append-add, take-take, drop-append-add}
+use lib.ListN.{length, take, drop, getD, set, replicate, length-append, length-set, length-drop, length-replicate}
+use lib.Seq.{length-take-le, take-suc, take-at, drop-at, set-at, drop-drop, slice, slice-cons, slice-empty, length-slice, take-append-le, drop-append-le, getD-append-add, take-take, take-add, drop-append-add, set-append-left}
 use Rattle.lists.specs.Lists.{over, grown, fallen, spliced}
-use Rattle.lists.proofs.ListLaws.{over-none, getD-over-below, getD-over-above, over-snoc}
+use Rattle.lists.proofs.ListLaws.{over-none, over-same, getD-over-below, getD-over-above, over-snoc}
 
 pub over-cons : (xs : List ℕ) (a : ℕ) (ys : List ℕ) (y : ℕ) → a < length xs → set (over xs (suc a) ys) a y ≡ over xs a (y ∷ ys)
 unfolding over
@@ -148,3 +148,19 @@ laid-other s ls cs bs e =
 pub laid-parts : (s ls cs : List ℕ) → over s 0 (ls ++ cs) ≡ ls ++ (cs ++ drop (length (ls ++ cs)) s)
 unfolding over
 laid-parts s ls cs = rw (zero-add (length (ls ++ cs))) (append-assoc ls cs (drop (length (ls ++ cs)) s))
+
+-- ---- one element of a laid part
+set-over : (xs : List ℕ) (a : ℕ) (ys : List ℕ) (k v : ℕ) → a ≤ length xs → k < length ys → set (over xs a ys) (a + k) v ≡ over xs a (set ys k v)
+unfolding over
+set-over xs a ys k v h l =
+    let e : a + k ≡ length (take a xs) + k = omega (arith, length-take-le a xs h) in
+    rw (e, set-append-add (take a xs) (ys ++ drop (a + length ys) xs) k v, set-append-left ys (drop (a + length ys) xs) k v l, length-set ys k v)
+
+pub set-part : (xs : List ℕ) (a n k v : ℕ) → a + n ≤ length xs → k < n → over xs a (set (take n (drop a xs)) k v) ≡ set xs (a + k) v
+set-part xs a n k v h l =
+    let m : length (take n (drop a xs)) ≡ n = length-take-le n (drop a xs) (rw length-drop (omega arith)) in
+    sym (set-over xs a (take n (drop a xs)) k v (omega arith) (omega (arith, m))) ∙ ap (λ s. set s (a + k) v) (over-same xs a n h)
+
+-- a part in the middle
+pub slice-part : (l : List ℕ) (a n : ℕ) → a ≤ length l → slice a (a + n) l ≡ take n (drop a l)
+slice-part l a n h = ap (drop a) (take-add a n l) ∙ drop-at (take a l) (take n (drop a l)) a (length-take-le a l h)

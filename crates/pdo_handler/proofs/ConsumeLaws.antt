@@ -1,5 +1,5 @@
 -- Consuming keeps the dictionary well-formed, whatever the payload and whatever is answered. Assumes nothing.
-use mathlib.Core.Path.{_≡_, refl, sym, ap, _∙_}
+use mathlib.Core.Path.{_≡_}
 use mathlib.Core.Bool.{Bool, true, false, cond}
 use mathlib.Core.List.{List, [], _∷_}
 use Prim.Native.Nat.{ℕ, _+_}
@@ -13,14 +13,13 @@ use Rattle.entry.specs.Judge.{wellFormed}
 use Rattle.entry.specs.Put.{Contents, contents, filled}
 use Rattle.entry.specs.declared.Found.{Found}
 use Rattle.entry.specs.declared.Found.the-variants.{At, Nothing}
-use Rattle.pdo_step.specs.declared.Outcome.{Outcome}
 use Rattle.pdo_step.specs.Steps.{applied}
 use Rattle.pdo_step.proofs.OutcomeLaws.{step-keeps, step-bytes}
 use Rattle.pdo_step.proofs.MarkLaws.{mark-keeps, mark-bytes}
 use Rattle.pdo_handler.specs.declared.Consumed.the-variants.{Refused}
 use Rattle.pdo_handler.specs.Channel.{firstMatch, expectedOf, rightVersion}
-use Rattle.pdo_handler.specs.Run.{Frame, frame, decided, isShort, stopsOf, eventOf, actOf, ran, one, behind, runFrom, listIn, runOn, logged, finished}
-use Rattle.pdo_handler.specs.Consume.{held, marked, mapVersion, onChannel, consumedBy, after, done, consumeOf}
+use Rattle.pdo_handler.specs.Run.{Frame, frame, held, marked, decided, isShort, stopsOf, eventOf, actOf, ran, one, behind, runFrom, listIn, runOn, logged, finished}
+use Rattle.pdo_handler.specs.Consume.{mapVersion, onChannel, consumedBy, after, done, consumeOf}
 
 -- a well-formed dictionary of bytes
 pub record Sane (f : Frame) (c : Contents) : Type 0 where

@@ -1,20 +1,19 @@
 -- One word's turn. Assumes nothing.
-use mathlib.Core.Path.{_≡_, refl, sym, ap, _∙_, subst}
+use mathlib.Core.Path.{_≡_, refl, sym, subst}
 use mathlib.Core.Bool.{Bool, true, false, cond}
 use mathlib.Core.List.{List, [], _∷_}
 use mathlib.Core.Logic.{⊎-elim, _≢_}
-use Prim.Native.Nat.{ℕ, zero, suc, _+_, _-_, _<_, _≤_}
+use Prim.Native.Nat.{ℕ, suc, _+_, _-_, _<_, _≤_}
 use native.Mathlib.Omega.{arith}
 use native.Mathlib.Numerals.{add-one}
 use borrow.Author.Tests.{eq-eqb, ne-eqb}
 use lib.Dec.{eqb}
-use lib.ListN.{length, take, drop, getD, set, length-set, length-drop, drop-of-length-le}
+use lib.ListN.{length, take, drop, getD, set, length-drop, drop-of-length-le}
 use lib.Seq.{drop-cons, take-suc, take-suc-set, getD-drop}
 use types.Run.{OneOf}
 use denote.Enum.Declared.{tagOf}
 use Rattle.value.specs.declared.Fault.{Fault}
 use Rattle.value.specs.declared.Fault.the-variants as fault
-use Rattle.lists.specs.Lists.{over}
 use Rattle.lists.specs.Numbers.{Bytes}
 use Rattle.lists.proofs.ListLaws.{over-none, over-first}
 use Rattle.entry.specs.Table.{Dict, typeAt}
@@ -25,9 +24,8 @@ use Rattle.pdo_step.specs.declared.Outcome.the-variants as outcome
 use Rattle.pdo_step.specs.Outcomes.{outcomeOf}
 use Rattle.pdo_step.specs.Steps.{applied}
 use Rattle.pdo_step.proofs.OutcomeLaws.{step-keeps}
-use Rattle.pdo_step.specs.Bits.{markedIn}
 use Rattle.pdo_step.proofs.Outcome.{the-type as outcome-type}
-use Rattle.pdo_handler.specs.Run.{causeOf, eventOf, stopsOf, isShort, Frame, frame, decided, actOf, Ran, ran, one, behind, runFrom, Logged, logged, finished, notedLog, notedCount}
+use Rattle.pdo_handler.specs.Run.{causeOf, eventOf, stopsOf, isShort, Frame, frame, decided, marked, actOf, Ran, ran, one, behind, runFrom, logged, finished, notedLog, notedCount}
 
 pub cause-small : (f : Fault) → causeOf f < 16
 cause-small fault.Value = omega arith
@@ -35,7 +33,7 @@ cause-small fault.Text = omega arith
 cause-small fault.Odd = omega arith
 
 -- ---- the act: the bit of a short payload, else the put
-pub act-short : (f : Frame) (c : Contents) (o : Outcome) → o ≡ outcome.Short → actOf f c o ≡ contents (c .words) (markedIn (f .objects) (f .slots) (c .words) (c .bytes) 0x1C81 (f .sender))
+pub act-short : (f : Frame) (c : Contents) (o : Outcome) → o ≡ outcome.Short → actOf f c o ≡ marked f c 0x1C81
 unfolding actOf
 act-short f c o e = rw e
 
@@ -125,13 +123,6 @@ noted-few n e = go (eqb e 0)
     go : (b : Bool) → cond b n (n + 1) ≤ n + 1
     go true = omega arith
     go false = omega arith
-
-pub noted-long : (l : List ℕ) (n e : ℕ) → length (notedLog l n e) ≡ length l
-noted-long l n e = go (eqb e 0)
-  where
-    go : (b : Bool) → length (cond b l (set l n e)) ≡ length l
-    go true = refl
-    go false = length-set l n e
 
 -- ---- gathering, one word more
 pub gathered-more : (list words : List ℕ) (first j v : ℕ) → j < length list → first + j < length words → v ≡ getD words (first + j) 0 → take j list ≡ take j (drop first words) → take (j + 1) (set list j v) ≡ take (j + 1) (drop first words)

@@ -4,26 +4,17 @@ use mathlib.Core.Bool.{Bool, cond}
 use mathlib.Core.List.{List, [], _∷_}
 use lib.Dec.{ltb}
 use lib.ListN.{length}
-use Rattle.answers.specs.declared.Refusal.{Refusal}
 use Rattle.answers.specs.declared.Refusal.the-variants.{Malformed, NoEventRoom, PayloadTooLong}
-use Rattle.entry.specs.Table.{Dict, dict}
+use Rattle.entry.specs.Table.{Dict}
 use Rattle.entry.specs.Find.{findRow}
 use Rattle.entry.specs.Judge.{wellFormed}
 use Rattle.entry.specs.Put.{Contents, contents}
 use Rattle.entry.specs.declared.Found.{Found}
 use Rattle.entry.specs.declared.Found.the-variants.{At, Nothing}
-use Rattle.pdo_step.specs.Bits.{markedIn}
 use Rattle.pdo_handler.specs.declared.Consumed.{Consumed}
 use Rattle.pdo_handler.specs.declared.Consumed.the-variants.{Done, Refused}
 use Rattle.pdo_handler.specs.Channel.{firstMatch, expectedOf, rightVersion}
-use Rattle.pdo_handler.specs.Run.{Frame, frame, Ran, ran, packed, runOn, Logged, logged, finished}
-
-abbrev pub held : Frame → Contents → Dict
-held f c = dict (f .objects) (f .slots) (c .words) (c .bytes)
-
--- the sender's bit in the object at an index
-abbrev pub marked : Frame → Contents → ℕ → Contents
-marked f c x = contents (c .words) (markedIn (f .objects) (f .slots) (c .words) (c .bytes) x (f .sender))
+use Rattle.pdo_handler.specs.Run.{Frame, frame, held, marked, Ran, ran, packed, runOn, Logged, logged, finished}
 
 -- R11.9: element 0
 abbrev pub mapVersion : ℕ

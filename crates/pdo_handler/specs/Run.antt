@@ -1,6 +1,5 @@
 -- The mapped words of a channel, in turn: RULES.md 11. Assumes nothing.
-use Prim.Native.Nat.{ℕ, zero, suc, _+_, _*_, _<_, _≤_}
-use mathlib.Core.Path.{_≡_}
+use Prim.Native.Nat.{ℕ, _+_, _*_}
 use mathlib.Core.Bool.{Bool, true, false, cond}
 use mathlib.Core.List.{List, [], _∷_, _++_}
 use lib.Dec.{eqb}
@@ -8,7 +7,7 @@ use lib.ListN.{length, take, drop, set}
 use Rattle.lists.specs.Lists.{over}
 use Rattle.value.specs.declared.Fault.{Fault}
 use Rattle.value.specs.declared.Fault.the-variants as fault
-use Rattle.entry.specs.Table.{kindAt, countAt, firstAt, typeAt}
+use Rattle.entry.specs.Table.{Dict, dict, kindAt, countAt, firstAt, typeAt}
 use Rattle.entry.specs.declared.Found.{Found}
 use Rattle.entry.specs.declared.Found.the-variants.{At, Nothing}
 use Rattle.entry.specs.Put.{Contents, contents}
@@ -80,9 +79,16 @@ frame objects slots payload sender = record { objects = objects; slots = slots; 
 abbrev pub decided : Frame → ℕ → Outcome
 decided f w = outcomeOf (f .objects) (f .slots) (f .payload) w
 
+abbrev pub held : Frame → Contents → Dict
+held f c = dict (f .objects) (f .slots) (c .words) (c .bytes)
+
+-- the sender's bit in the object at an index
+abbrev pub marked : Frame → Contents → ℕ → Contents
+marked f c x = contents (c .words) (markedIn (f .objects) (f .slots) (c .words) (c .bytes) x (f .sender))
+
+-- R11.5: the bit, or the act
 unfoldable pub actOf : Frame → Contents → Outcome → Contents
-actOf f c o =
-    cond (isShort o) (contents (c .words) (markedIn (f .objects) (f .slots) (c .words) (c .bytes) 0x1C81 (f .sender))) (applied (f .slots) (f .payload) c o)
+actOf f c o = cond (isShort o) (marked f c 0x1C81) (applied (f .slots) (f .payload) c o)
 
 -- what is left of a run: the contents, and its events
 pub record Ran : Type 0 where

@@ -6,7 +6,7 @@ ghost use Rattle.entry.specs.Table.{dict, numberOf};
 ghost use Rattle.entry.specs.Find.{findRow};
 ghost use Rattle.entry.specs.Judge.{wellFormed};
 ghost use Rattle.entry.specs.declared.Found.the-variants.{At};
-ghost use Rattle.pdo_handler.specs.Channel.{u8At, isSender, matchesIn, commIndex, firstMatch, orZero, expectedOf, rightVersion, Rising};
+ghost use Rattle.pdo_handler.specs.Channel.{u8At, isSender, matchesIn, firstMatch, expectedOf, rightVersion, Rising};
 use entry::Found;
 use entry::Place;
 

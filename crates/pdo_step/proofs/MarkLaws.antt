@@ -1,24 +1,21 @@
 -- Setting an error bit keeps the dictionary well-formed: it is a put of the same string with that bit. Assumes nothing.
-use mathlib.Core.Path.{_≡_, refl, sym, ap, ap₂, _∙_}
+use mathlib.Core.Path.{_≡_, refl, ap, _∙_}
 use mathlib.Core.Bool.{Bool, true, false, cond, _&&_, _||_}
-use mathlib.Core.List.{List, _++_}
-use Prim.Native.Nat.{ℕ, _+_, _-_, _*_, _%_, _^_, _<_, _≤_}
+use mathlib.Core.List.{List}
+use Prim.Native.Nat.{ℕ, _+_, _-_, _%_, _^_, _<_, _≤_}
 use native.Mathlib.Omega.{arith}
-use native.Mathlib.Decide.{decLt}
 use borrow.Author.Tests.{eqb-true, ltb-true}
 use lib.Bits.{bitOr, or-lt}
 use lib.Dec.{eqb, ltb}
 use lib.Pow.{pow-mono}
 use lib.ListN.{length, take, drop, getD, set, length-set, length-drop}
-use lib.Seq.{length-take-le, set-append-left, set-getD, getD-set-same, getD-set-other}
-use Rattle.lists.specs.Lists.{over}
+use lib.Seq.{length-take-le, set-getD}
 use Rattle.lists.specs.Numbers.{Bytes}
-use Rattle.lists.proofs.ListLaws.{over-same}
-use Rattle.lists.proofs.NumberLaws.{bytes-take, bytes-drop}
-use Rattle.lists.proofs.SpliceLaws.{set-append-add}
+use Rattle.lists.proofs.NumberLaws.{bytes-take, bytes-drop, bytes-set}
+use Rattle.lists.proofs.SpliceLaws.{set-part}
 use Rattle.value.specs.Codec.{isText, wordAt, textWord}
 use Rattle.value.specs.declared.Word.the-variants.{Takes}
-use Rattle.entry.specs.Table.{Dict, countAt, kindAt, firstAt, typeAt, startAt, roomAt}
+use Rattle.entry.specs.Table.{Dict, countAt, kindAt, firstAt, typeAt, startAt}
 use Rattle.entry.specs.Find.{findRow}
 use Rattle.entry.specs.Judge.{wellFormed}
 use Rattle.entry.specs.Put.{contents, filled, putAt}
@@ -30,27 +27,7 @@ use Rattle.entry.proofs.PutLaws.{put-text}
 use Rattle.entry.proofs.KeepLaws.{put-data}
 use Rattle.entry.proofs.ValueLaws.{found-lies}
 use Rattle.pdo_step.specs.Bits.{byteOf, maskOf, bitIn, bitAt, markedAt, markedIn}
-use Rattle.pdo_step.proofs.BitLaws.{variable-facts, BitLies, bit-lies}
-
--- ---- one element of a laid part
-set-over : (xs : List ℕ) (a : ℕ) (ys : List ℕ) (k v : ℕ) → a ≤ length xs → k < length ys → set (over xs a ys) (a + k) v ≡ over xs a (set ys k v)
-unfolding over
-set-over xs a ys k v h l =
-    let e : a + k ≡ length (take a xs) + k = omega (arith, length-take-le a xs h) in
-    rw (e, set-append-add (take a xs) (ys ++ drop (a + length ys) xs) k v, set-append-left ys (drop (a + length ys) xs) k v l, length-set ys k v)
-
-set-part : (xs : List ℕ) (a n k v : ℕ) → a + n ≤ length xs → k < n → over xs a (set (take n (drop a xs)) k v) ≡ set xs (a + k) v
-set-part xs a n k v h l =
-    let m : length (take n (drop a xs)) ≡ n = length-take-le n (drop a xs) (rw length-drop (omega arith)) in
-    sym (set-over xs a (take n (drop a xs)) k v (omega arith) (omega (arith, m))) ∙ ap (λ s. set s (a + k) v) (over-same xs a n h)
-
-bytes-set : (s : List ℕ) (k v : ℕ) → Bytes s → k < length s → v < 256 → Bytes (set s k v)
-bytes-set s k v b l h i = go (decLt i k) (decLt k i)
-  where
-    go : Dec (i < k) → Dec (k < i) → getD (set s k v) i 0 < 256
-    go (yes x) y = rw (getD-set-other s k i v 0 (λ e. absurd (omega (arith, x, e)))) (b i)
-    go (no x) (yes y) = rw (getD-set-other s k i v 0 (λ e. absurd (omega (arith, y, e)))) (b i)
-    go (no x) (no y) = let e : i ≡ k = omega (arith, x, y) in rw (e, getD-set-same s k v 0 l) h
+use Rattle.pdo_step.proofs.BitLaws.{variable-facts, bit-lies}
 
 mask-small : (n : ℕ) → maskOf n < 256
 mask-small n = let h : (n - 1) % 8 ≤ 7 = omega arith in let p : 2 ^ ((n - 1) % 8) ≤ 2 ^ 7 = pow-mono h in omega (arith, p)

@@ -1,26 +1,23 @@
 -- Copying a default is putting its encoding. Assumes nothing.
-use mathlib.Core.Path.{_≡_, refl, sym, ap, ap₂, _∙_}
+use mathlib.Core.Path.{_≡_, sym, ap, _∙_}
 use mathlib.Core.Bool.{true, false}
 use mathlib.Core.List.{List, []}
-use Prim.Native.Nat.{ℕ, _+_, _*_, _^_, _≤_, _<_}
+use Prim.Native.Nat.{ℕ, _+_}
 use native.Mathlib.Omega.{arith}
 use lib.ListN.{length, take, drop, getD, set, length-drop}
-use lib.Seq.{slice, take-add, take-all, drop-at, length-take-le}
+use lib.Seq.{slice, take-all, length-take-le}
 use Rattle.lists.specs.Lists.{over}
-use Rattle.lists.specs.Numbers.{number, bytesOf}
+use Rattle.lists.specs.Numbers.{bytesOf}
+use Rattle.lists.proofs.SpliceLaws.{slice-part}
 use Rattle.lists.proofs.NumberLaws.{number-bytesOf, length-bytesOf}
 use Rattle.value.specs.Codec.{isText, sizeOf}
 use Rattle.value.proofs.CodecLaws.{encoding-text, encoding-fixed}
-use Rattle.entry.specs.Table.{Dict, dict, typeAt, startAt, slotEnd}
+use Rattle.entry.specs.Table.{Dict, dict, typeAt, startAt}
 use Rattle.entry.specs.Encode.{encodingIn}
 use Rattle.entry.specs.Put.{contents, putIn, retyped}
 use Rattle.entry.proofs.PutLaws.{put-text, put-fixed}
 use Rattle.entry.proofs.KeepLaws.{type-new, start-new}
 use Rattle.restoring.specs.Restore.{Copies}
-
--- a part in the middle
-slice-part : (l : List ℕ) (a n : ℕ) → a ≤ length l → slice a (a + n) l ≡ take n (drop a l)
-slice-part l a n h = ap (drop a) (take-add a n l) ∙ drop-at (take a l) (take n (drop a l)) a (length-take-le a l h)
 
 module _ (slots words bytes : List ℕ) (p q : ℕ) (c : Copies slots words bytes p q) where
   abbrev d : Dict

@@ -1,12 +1,12 @@
-use mathlib.Core.Path.{_≡_, refl, sym, ap, _∙_}
+use mathlib.Core.Path.{_≡_, refl, sym, _∙_}
 use native.Mathlib.Omega.{arith}
 use borrow.Author.Needs.{needs}
 use Prim.Native.Nat.{ℕ, _≤_, _<_, _-_, _+_, _*_, _^_}
-use native.Mathlib.Nat.{mul-suc, mul-zero, add-zero}
+use native.Mathlib.Nat.{mul-suc, mul-zero}
 use native.Mathlib.Numerals.{add-one}
 use lib.ListN.{length, getD, length-set}
 use lib.Seq.{getD-set-other}
-use Rattle.lists.specs.Lists.{over, grown}
+use Rattle.lists.specs.Lists.{grown}
 use Rattle.lists.proofs.SpliceLaws.{grown-more, grown-end, stride}
 use Rattle.lists.proofs.grow.Statement.{statement}
 use Rattle.lists.proofs.grow.Tie as tie

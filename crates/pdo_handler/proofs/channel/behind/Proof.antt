@@ -1,5 +1,5 @@
 -- `pdo_handler::channel::behind` meets its contract: a row that was found is one of the rows. Assumes nothing.
-use mathlib.Core.Path.{_≡_, sym, _∙_}
+use mathlib.Core.Path.{sym, _∙_}
 use Prim.Native.Nat.{_<_}
 use denote.Ref.{now}
 use Rattle.entry.specs.Table.{numberOf}

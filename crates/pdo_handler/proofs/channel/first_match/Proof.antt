@@ -1,12 +1,11 @@
 -- `pdo_handler::channel::first_match` meets its contract: the scan from here on gives what the whole scan gives. Assumes nothing.
-use mathlib.Core.Path.{_≡_, refl, sym, ap, _∙_}
-use Prim.Native.Nat.{_+_, _-_, _≤_}
+use mathlib.Core.Path.{_≡_, refl, sym, _∙_}
+use Prim.Native.Nat.{_-_, _≤_}
 use denote.Ref.{now}
 use Rattle.entry.specs.Table.{Dict, dict, numberOf}
 use Rattle.pdo_handler.specs.Channel.{channelFrom, firstMatch}
 use Rattle.pdo_handler.proofs.ChannelLaws.{rising-of, channel-here, channel-next, channel-end}
 use native.Mathlib.Omega.{arith}
-use borrow.Author.Needs.{needs}
 use Rattle.pdo_handler.proofs.channel.first_match.Statement.{statement}
 use Rattle.pdo_handler.proofs.channel.first_match.Tie as tie
 

@@ -1,10 +1,9 @@
 -- `pdo_handler::channel::matches_at` meets its contract: a missing object, or one without the U8, has no sender. Assumes nothing.
-use mathlib.Core.Path.{_≡_, sym, ap, _∙_}
+use mathlib.Core.Path.{sym, ap, _∙_}
 use denote.Ref.{now}
 use Rattle.entry.specs.Table.{Dict, dict}
 use Rattle.entry.specs.Find.{onRow}
 use Rattle.pdo_handler.specs.Channel.{u8In, matchesIn}
-use native.Mathlib.Omega.{arith}
 use borrow.Author.Needs.{needs}
 use Rattle.pdo_handler.proofs.channel.matches_at.Statement.{statement}
 use Rattle.pdo_handler.proofs.channel.matches_at.Tie as tie

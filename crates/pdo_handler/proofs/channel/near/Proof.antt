@@ -1,9 +1,8 @@
 -- `pdo_handler::channel::near` meets its contract: it stays within the rows. Assumes nothing.
 use Prim.Native.Nat.{_-_, _≤_}
 use denote.Ref.{now}
-use Rattle.pdo_handler.proofs.ChannelLaws.{Lies, lies}
+use Rattle.pdo_handler.proofs.ChannelLaws.{lies}
 use native.Mathlib.Omega.{arith}
-use borrow.Author.Needs.{needs}
 use Rattle.pdo_handler.proofs.channel.near.Statement.{statement}
 use Rattle.pdo_handler.proofs.channel.near.Tie as tie
 

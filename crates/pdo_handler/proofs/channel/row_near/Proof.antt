@@ -1,5 +1,5 @@
 -- `pdo_handler::channel::row_near` meets its contract: the row is the one, or none has the index; else it was looked for. Assumes nothing.
-use mathlib.Core.Path.{_≡_, sym, _∙_}
+use mathlib.Core.Path.{sym, _∙_}
 use mathlib.Core.Logic.{⊎-elim}
 use Prim.Native.Nat.{_-_, _<_}
 use denote.Ref.{now}

@@ -1,11 +1,10 @@
 -- `pdo_handler::channel::version_of` meets its contract: the U8 there, or 0. Assumes nothing.
-use mathlib.Core.Path.{_≡_, sym, ap, _∙_}
+use mathlib.Core.Path.{sym, ap, _∙_}
 use denote.Ref.{now}
 use Rattle.entry.specs.Table.{Dict, dict}
 use Rattle.entry.specs.Find.{onRow}
 use Rattle.entry.proofs.ValueLaws.{rows-of}
 use Rattle.pdo_handler.specs.Channel.{u8In, orZero}
-use native.Mathlib.Omega.{arith}
 use borrow.Author.Needs.{needs}
 use Rattle.pdo_handler.proofs.channel.version_of.Statement.{statement}
 use Rattle.pdo_handler.proofs.channel.version_of.Tie as tie

@@ -7,9 +7,7 @@ use lib.ListN.{length}
 use borrow.Author.Tests.{not-true, not-false, lt-ltb, le-ltb}
 use Rattle.entry.specs.Table.{Dict, dict}
 use Rattle.entry.specs.Judge.{wellFormed}
-use Rattle.pdo_handler.specs.Run.{Logged}
 use Rattle.pdo_handler.specs.Consume.{done, consumeOf}
-use native.Mathlib.Omega.{arith}
 use borrow.Author.Needs.{needs}
 use Rattle.pdo_handler.proofs.consuming.consume_pdo_payload.Statement.{statement}
 use Rattle.pdo_handler.proofs.consuming.consume_pdo_payload.Tie as tie

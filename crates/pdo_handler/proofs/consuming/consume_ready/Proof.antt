@@ -10,8 +10,8 @@ use Rattle.entry.specs.Put.{Contents, contents}
 use Rattle.entry.specs.declared.Found.{Found}
 use Rattle.entry.specs.declared.Found.the-variants.{At}
 use Rattle.pdo_handler.specs.Channel.{rightVersion}
-use Rattle.pdo_handler.specs.Run.{Frame, frame, ran, runOn, logged, finished}
-use Rattle.pdo_handler.specs.Consume.{marked, mapVersion, onChannel, consumedBy}
+use Rattle.pdo_handler.specs.Run.{Frame, frame, marked, ran, runOn, logged, finished}
+use Rattle.pdo_handler.specs.Consume.{mapVersion, onChannel, consumedBy}
 use Rattle.pdo_handler.proofs.ChannelLaws.{channel-below}
 use Rattle.pdo_handler.proofs.RunLaws.{finished-none, finished-one}
 use native.Mathlib.Omega.{arith}

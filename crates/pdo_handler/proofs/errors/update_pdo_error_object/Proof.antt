@@ -7,7 +7,6 @@ use Rattle.entry.specs.Table.{Dict, dict}
 use Rattle.entry.specs.Judge.{wellFormed}
 use Rattle.od.specs.declared.Answer.the-variants.{Done}
 use Rattle.pdo_handler.specs.Errors.{after, updateOf}
-use native.Mathlib.Omega.{arith}
 use borrow.Author.Needs.{needs}
 use Rattle.pdo_handler.proofs.errors.update_pdo_error_object.Statement.{statement}
 use Rattle.pdo_handler.proofs.errors.update_pdo_error_object.Tie as tie

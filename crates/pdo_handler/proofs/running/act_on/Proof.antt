@@ -7,9 +7,8 @@ use Rattle.entry.specs.Judge.{wellFormed}
 use Rattle.entry.specs.Put.{Contents, contents}
 use Rattle.pdo_step.specs.Steps.{applied}
 use Rattle.pdo_step.specs.Bits.{markedIn}
-use Rattle.pdo_handler.specs.Run.{frame, actOf}
+use Rattle.pdo_handler.specs.Run.{frame}
 use Rattle.pdo_handler.proofs.RunLaws.{act-short, act-long}
-use native.Mathlib.Omega.{arith}
 use borrow.Author.Needs.{needs}
 use Rattle.pdo_handler.proofs.running.act_on.Statement.{statement}
 use Rattle.pdo_handler.proofs.running.act_on.Tie as tie

@@ -1,5 +1,5 @@
 -- `pdo_handler::running::event_of` meets its contract: each outcome is a case of the definition. Assumes nothing.
-use mathlib.Core.Path.{_≡_, sym, ap, _∙_}
+use mathlib.Core.Path.{sym, ap, _∙_}
 use Rattle.pdo_step.specs.Outcomes.{reach}
 use Rattle.pdo_handler.specs.Run.{packed, eventOf}
 use Rattle.pdo_handler.proofs.RunLaws.{cause-small}

@@ -1,7 +1,5 @@
 -- `pdo_handler::running::note` meets its contract: the number where it is an event. Assumes nothing.
-use mathlib.Core.Path.{_≡_}
 use borrow.Author.Tests.{eq-eqb, ne-eqb}
-use native.Mathlib.Omega.{arith}
 use borrow.Author.Needs.{needs}
 use Rattle.pdo_handler.proofs.running.note.Statement.{statement}
 use Rattle.pdo_handler.proofs.running.note.Tie as tie

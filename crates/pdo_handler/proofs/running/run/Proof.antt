@@ -1,8 +1,7 @@
 -- `pdo_handler::running::run` meets its contract: what the words from here on leave is what all leave. Assumes nothing.
 use mathlib.Core.Path.{_≡_, refl, sym, ap, ap₂, _∙_, subst}
 use mathlib.Core.Bool.{true}
-use mathlib.Core.List.{List}
-use Prim.Native.Nat.{ℕ, _+_, _-_, _≤_, _<_}
+use Prim.Native.Nat.{_+_, _-_, _≤_, _<_}
 use denote.Ref.{now}
 use lib.ListN.{length, drop}
 use Rattle.lists.specs.Numbers.{Bytes}
@@ -14,7 +13,7 @@ use Rattle.pdo_step.specs.declared.Outcome.{Outcome}
 use Rattle.pdo_step.specs.Outcomes.{reach}
 use Rattle.pdo_step.proofs.OutcomeLaws.{reach-small}
 use Rattle.pdo_handler.specs.Run.{Logged, Frame, frame, eventOf, actOf, runFrom, logged, finished, notedLog, notedCount}
-use Rattle.pdo_handler.proofs.RunLaws.{act-keeps, run-end, run-over, run-stops, run-on, finished-none, finished-one, finished-behind, noted-few, noted-long}
+use Rattle.pdo_handler.proofs.RunLaws.{act-keeps, run-end, run-over, run-stops, run-on, finished-none, finished-one, finished-behind, noted-few}
 use native.Mathlib.Omega.{arith}
 use borrow.Author.Needs.{needs}
 use Rattle.pdo_handler.proofs.running.run.Statement.{statement}

@@ -9,7 +9,6 @@ use Rattle.entry.specs.declared.Found.{Found}
 use Rattle.entry.proofs.ValueLaws.{RowLies, rows-of, found-lies}
 use Rattle.pdo_handler.specs.Run.{frame, runOn, finished}
 use Rattle.pdo_handler.proofs.RunLaws.{finished-none}
-use native.Mathlib.Omega.{arith}
 use borrow.Author.Needs.{needs}
 use Rattle.pdo_handler.proofs.running.run_list.Statement.{statement}
 use Rattle.pdo_handler.proofs.running.run_list.Tie as tie

@@ -11,7 +11,6 @@ use Rattle.entry.proofs.ValueLaws.{ValueFacts, every-value, RowLies, row-lies}
 use Rattle.restoring.specs.Restore.{slotIn, defaultIn}
 use Rattle.restoring.proofs.TurnLaws.{facts, default-slot}
 use native.Mathlib.Omega.{arith}
-use borrow.Author.Needs.{needs}
 use Rattle.restoring.proofs.choosing.default_for.Statement.{statement}
 use Rattle.restoring.proofs.choosing.default_for.Tie as tie
 

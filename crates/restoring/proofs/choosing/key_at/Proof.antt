@@ -1,23 +1,11 @@
 -- `restoring::choosing::key_at` meets its contract: it is the index and the sub-index. Assumes nothing.
-use mathlib.Core.Path.{_≡_, sym, ap₂, _∙_}
-use mathlib.Core.Bool.{Bool, true, false, cond}
-use Prim.Native.Nat.{ℕ, _+_, _*_, _≤_}
-use denote.Ref.{now}
-use lib.Dec.{eqb}
-use Rattle.entry.specs.Table.{kindAt}
-use Rattle.commands.specs.Image.{subIn}
+use mathlib.Core.Path.{ap₂, _∙_}
+use Prim.Native.Nat.{_+_, _*_}
+use Rattle.commands.proofs.RightLaws.{sub-few}
 use native.Mathlib.Omega.{arith}
 use borrow.Author.Needs.{needs}
 use Rattle.restoring.proofs.choosing.key_at.Statement.{statement}
 use Rattle.restoring.proofs.choosing.key_at.Tie as tie
-
-sub-few : (kind k : ℕ) → subIn kind k ≤ k + 1
-unfolding subIn
-sub-few kind k = go (eqb kind 0)
-  where
-    go : (b : Bool) → cond b 0 (k + 1) ≤ k + 1
-    go true = omega arith
-    go false = omega arith
 
 index-at-requires : tie.Need-index-at-requires
 index-at-requires c κs = search needs
