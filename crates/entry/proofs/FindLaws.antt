@@ -2,18 +2,15 @@
 -- Assumes nothing.
 use mathlib.Core.Path.{_≡_, refl, sym, ap, _∙_}
 use mathlib.Core.Bool.{Bool, true, false, cond}
-use mathlib.Core.List.{List, [], _∷_, _++_}
-use mathlib.Core.Option.{Option, none, some}
-use Prim.Native.Nat.{ℕ, zero, suc, _+_, _-_, _<_, _≤_}
+use mathlib.Core.List.{List}
+use mathlib.Core.Option.{some}
+use Prim.Native.Nat.{ℕ, zero, suc, _+_, _-_, _<_}
 use native.Mathlib.Nat.{add-zero}
 use native.Mathlib.Omega.{arith}
 use borrow.Author.Tests.{eqb-true}
 use lib.Dec.{eqb}
-use lib.ListN.{length, take, drop}
-use Rattle.entry.specs.Model.{Obj}
-use Rattle.entry.specs.Table.{Dict, valAt, valsFrom, objAt, objsFrom, modelOf, indexAt, numberOf}
+use Rattle.entry.specs.Table.{Dict, valAt, valsFrom, objAt, objsFrom, indexAt}
 use Rattle.entry.specs.Find.{objectOf, findFrom, objectIn, nth}
-use Rattle.entry.specs.declared.Found.{Found}
 use Rattle.entry.specs.declared.Found.the-variants.{At, Nothing}
 
 pub found : (d : Dict) (x k i : ℕ) → objectOf x (objsFrom d k i) ≡ objectIn d (findFrom (d .objects) x k i)

@@ -1,14 +1,13 @@
 -- Laws on the layout: it goes by parts, and starts move with what lies before.
 -- Assumes nothing.
 use mathlib.Core.Path.{_≡_, refl, sym, ap, _∙_}
-use mathlib.Core.List.{List, [], _∷_, _++_, append-nil, append-assoc}
+use mathlib.Core.List.{List, [], _∷_, _++_, append-assoc}
 use Prim.Native.Nat.{ℕ, zero, suc, _+_, _-_, _*_, _<_, _≤_}
 use native.Mathlib.Nat.{add-zero, zero-add, add-assoc}
-use native.Mathlib.Numerals.{add-one}
 use native.Mathlib.Omega.{arith}
 use native.Mathlib.Decide.{decLe}
-use lib.ListN.{length, take, drop, getD, set, length-append}
-use lib.Seq.{take-at, drop-at, getD-append-add, drop-append-add}
+use lib.ListN.{length, drop, getD, length-append}
+use lib.Seq.{getD-append-add}
 use Rattle.lists.specs.Lists.{over, grown}
 use Rattle.lists.proofs.SpliceLaws.{grown-turn, grown-end}
 use Rattle.entry.specs.Model.{Val, Obj, rooms, wordsOf, slotsOf, used, size, bytesOf, row, rowsOf, header, allObjects, allSlots, allWords, allBytes}

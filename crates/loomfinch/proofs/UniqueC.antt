@@ -1,5 +1,5 @@
 -- The same of each call for C. Assumes nothing.
-use mathlib.Core.Path.{_≡_, refl, ap, ap₂, _∙_, sym}
+use mathlib.Core.Path.{refl, ap, ap₂, _∙_, sym}
 use Rattle.entry.specs.Table.{Dict}
 use Rattle.loomfinch.specs.C.{Lent, Written}
 use Rattle.loomfinch.specs.Dictionary.{Told}

@@ -14,7 +14,7 @@ use Rattle.value.specs.declared.Decoded.the-variants.{Value, Fails, NoType}
 use Rattle.value.specs.Meaning.{wordOf, fieldsOf}
 use Rattle.value.specs.declared.Encoded.{Encoded}
 use Rattle.value.specs.declared.Encoded.the-variants.{Wrote, Refused}
-use Rattle.value.specs.Codec.{decodeOf, refusalOf, After, encodeOf}
+use Rattle.value.specs.Codec.{decodeOf, refusalOf, encodeOf}
 use Rattle.mapping.specs.declared.Aligned.{Aligned}
 use Rattle.mapping.specs.declared.Aligned.the-variants.{Bytes, Misaligned}
 use Rattle.mapping.specs.declared.PdoMappingEntry.{PdoMappingEntry}

@@ -1,16 +1,15 @@
 -- A counter lies within the dictionary.
 -- Assumes nothing.
-use mathlib.Core.Path.{_≡_, refl, sym, ap, _∙_}
+use mathlib.Core.Path.{_≡_, refl, ap, _∙_}
 use mathlib.Core.Bool.{Bool, true, false, cond}
-use mathlib.Core.List.{List}
-use Prim.Native.Nat.{ℕ, _+_, _*_, _^_, _<_, _≤_}
+use Prim.Native.Nat.{ℕ, _^_, _<_}
 use native.Mathlib.Omega.{arith}
 use borrow.Author.Tests.{eqb-true, ltb-true}
 use lib.Dec.{eqb}
 use lib.ListN.{length, getD}
 use Rattle.value.specs.Codec.{sizeOf, isText, fitsType}
-use Rattle.entry.specs.Table.{Dict, numberOf, kindAt, typeAt}
-use Rattle.entry.specs.Find.{Rows, findRow, subAt, onRow, placeOf}
+use Rattle.entry.specs.Table.{Dict, kindAt, typeAt}
+use Rattle.entry.specs.Find.{findRow, subAt, onRow}
 use Rattle.entry.specs.Judge.{wellFormed}
 use Rattle.entry.specs.declared.Found.{Found}
 use Rattle.entry.specs.declared.Found.the-variants.{At, Nothing}

@@ -7,7 +7,7 @@ use native.Mathlib.Omega.{arith}
 use lib.ListN.{length, getD}
 use Rattle.answers.specs.declared.Refusal.the-variants.{Malformed}
 use Rattle.value.specs.Codec.{isText}
-use Rattle.entry.specs.Table.{Dict, usedOf, typeAt, startAt, roomAt}
+use Rattle.entry.specs.Table.{Dict, typeAt, startAt}
 use Rattle.entry.specs.Find.{placeOf}
 use Rattle.entry.specs.Judge.{wellFormed}
 use Rattle.entry.specs.declared.Place.{Place}

@@ -1,22 +1,22 @@
 -- The masks of the bits, and where a bit's byte lies. Assumes nothing.
-use mathlib.Core.Path.{_≡_, refl, sym, ap, _∙_}
+use mathlib.Core.Path.{_≡_, refl, ap}
 use mathlib.Core.Bool.{Bool, true, false, cond, _&&_, _||_}
 use mathlib.Core.List.{List, [], _∷_}
-use Prim.Native.Nat.{ℕ, _+_, _-_, _/_, _%_, _^_, _<_, _≤_}
+use Prim.Native.Nat.{ℕ, _+_, _-_, _^_, _<_}
 use native.Mathlib.Omega.{arith}
 use borrow.Author.Tests.{eqb-true, eqb-false, ltb-true}
 use lib.Dec.{eqb, ltb, eqb→eq}
 use lib.ListN.{length, getD}
 use Rattle.lists.specs.Tests.{below, below-at}
 use Rattle.value.specs.Codec.{isText}
-use Rattle.entry.specs.Table.{Dict, numberOf, kindAt, countAt, firstAt, typeAt, startAt, roomAt}
+use Rattle.entry.specs.Table.{Dict, kindAt, countAt, firstAt, typeAt, startAt}
 use Rattle.entry.specs.Find.{findRow}
 use Rattle.entry.specs.Judge.{wellFormed}
 use Rattle.entry.specs.declared.Found.{Found}
 use Rattle.entry.specs.declared.Found.the-variants.{At, Nothing}
 use Rattle.entry.proofs.JudgeLaws.{and-true, head-ok}
 use Rattle.entry.proofs.FactLaws.{row-facts}
-use Rattle.entry.proofs.ValueLaws.{ValueFacts, value-facts, RowLies, found-lies}
+use Rattle.entry.proofs.ValueLaws.{ValueFacts, value-facts, found-lies}
 use Rattle.pdo_step.specs.Bits.{byteOf, bitIn, bitAt}
 
 abbrev pub masks : List ℕ

@@ -1,12 +1,12 @@
 -- What a choice comes from. Assumes nothing.
-use mathlib.Core.Path.{_≡_, refl, sym, ap, _∙_}
-use mathlib.Core.Bool.{Bool, true, false, cond, _&&_, _||_, not}
+use mathlib.Core.Path.{_≡_, refl, ap, _∙_}
+use mathlib.Core.Bool.{Bool, true, false, cond, _||_, not}
 use mathlib.Core.List.{List}
 use Prim.Native.Nat.{ℕ, zero, suc, _+_, _<_, _≤_}
 use native.Mathlib.Omega.{arith}
 use borrow.Author.Tests.{eqb-true, leb-true}
 use lib.Dec.{eqb, leb}
-use lib.ListN.{length, take, drop, length-drop}
+use lib.ListN.{length}
 use Rattle.lists.proofs.NumberLaws.{part-length}
 use Rattle.value.specs.Codec.{exact}
 use Rattle.entry.specs.Table.{Dict, defaultAt}
@@ -15,9 +15,8 @@ use Rattle.entry.specs.declared.Found.the-variants.{At, Nothing}
 use Rattle.commands.specs.Readable.{field, keyIn, typeIn, startIn, sizeAt, readable}
 use Rattle.restoring.specs.Records.{records, recordPlace, recordFrom, recordOf, bodyIn, Body}
 use Rattle.restoring.specs.Restore.{defaultIn, keyAt, hasDefault, choiceOf, chosenAt}
-use Rattle.restoring.specs.declared.Choice.{Choice}
 use Rattle.restoring.specs.declared.Choice.the-variants.{Keep, Stored, Default}
-use Rattle.restoring.proofs.RisingLaws.{Held, image, lies}
+use Rattle.restoring.proofs.RisingLaws.{image, lies}
 use Rattle.entry.proofs.JudgeLaws.{and-true}
 
 -- ---- a record that is found is one of the image's

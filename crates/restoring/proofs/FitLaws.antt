@@ -1,18 +1,16 @@
 -- What values and rows get, and whether it fits, does not change where other values do. Assumes nothing.
-use mathlib.Core.Path.{_≡_, refl, sym, ap, ap₂, _∙_}
-use mathlib.Core.Bool.{Bool, true, false, cond, _&&_, _||_, not}
+use mathlib.Core.Path.{_≡_, refl, ap, ap₂, _∙_}
+use mathlib.Core.Bool.{Bool, true, false, _&&_, _||_, not}
 use mathlib.Core.List.{List}
-use Prim.Native.Nat.{ℕ, zero, suc, _+_, _-_, _*_, _<_, _≤_}
+use Prim.Native.Nat.{ℕ, zero, suc, _+_, _-_, _<_, _≤_}
 use native.Mathlib.Omega.{arith}
-use lib.Dec.{eqb, leb}
+use lib.Dec.{eqb}
 use lib.ListN.{getD}
 use borrow.Author.Tests.{eqb-true}
-use Rattle.value.specs.Codec.{isText}
-use Rattle.entry.specs.Table.{Dict, numberOf, valuesOf, indexAt, kindAt, countAt, firstAt, defaultAt, typeAt, roomAt}
+use Rattle.entry.specs.Table.{Dict, numberOf, valuesOf, indexAt, kindAt, countAt, firstAt, defaultAt, typeAt}
 use Rattle.entry.specs.Judge.{wellFormed}
 use Rattle.entry.proofs.FactLaws.{row-facts}
 use Rattle.entry.proofs.ApartLaws.{firsts-rise}
-use Rattle.commands.specs.Readable.{typeIn, sizeAt}
 use Rattle.entry.specs.declared.Found.{Found}
 use Rattle.entry.specs.declared.Found.the-variants.{At, Nothing}
 use Rattle.restoring.specs.Records.{recordOf}

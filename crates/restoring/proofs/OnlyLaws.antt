@@ -1,14 +1,13 @@
 -- What a restore leaves as it is. Assumes nothing.
-use mathlib.Core.Path.{_≡_, refl, sym, ap, _∙_}
+use mathlib.Core.Path.{_≡_, refl, _∙_}
 use mathlib.Core.Bool.{true}
-use mathlib.Core.Logic.{_⊎_, inl, inr, ⊎-elim, _≢_}
+use mathlib.Core.Logic.{inl, inr, _≢_}
 use mathlib.Core.List.{List}
 use Prim.Native.Nat.{ℕ, _+_, _*_, _<_, _≤_}
 use native.Mathlib.Omega.{arith}
 use native.Mathlib.Decide.{decLt}
 use lib.ListN.{length, take, drop, getD}
 use lib.Seq.{getD-set-other}
-use Rattle.lists.specs.Lists.{over}
 use Rattle.entry.specs.Table.{Dict, numberOf, valuesOf, nameAt, nameLenAt, typeAt, startAt, roomAt, valAt}
 use Rattle.entry.specs.Put.{putAs}
 use Rattle.entry.specs.Judge.{wellFormed}

@@ -1,6 +1,6 @@
 -- The keys of a readable image rise. Assumes nothing.
-use mathlib.Core.Path.{_≡_, refl, sym, ap, _∙_}
-use mathlib.Core.Bool.{Bool, true, false, cond, _&&_}
+use mathlib.Core.Path.{_≡_, refl}
+use mathlib.Core.Bool.{Bool, true, false}
 use mathlib.Core.Logic.{_⊎_, inl, inr, ⊎-elim}
 use mathlib.Core.List.{List}
 use Prim.Native.Nat.{ℕ, zero, suc, _+_, _-_, _*_, _<_, _≤_}
@@ -12,7 +12,7 @@ use borrow.Author.Tests.{leb-true}
 use Rattle.entry.proofs.JudgeLaws.{and-true}
 use Rattle.value.specs.Codec.{exact}
 use Rattle.commands.specs.Readable.{field, keyIn, typeIn, startIn, sizeAt, placed, headsOk, readable}
-use Rattle.commands.proofs.ReadLaws.{Placed, placed-true}
+use Rattle.commands.proofs.ReadLaws.{placed-true}
 use Rattle.restoring.specs.Records.{recordPlace, records, recordOf, seekFrom, Cursor}
 use Rattle.restoring.proofs.RecordLaws.{Rising, sought, stopped, lookup}
 

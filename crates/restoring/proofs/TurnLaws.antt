@@ -11,7 +11,7 @@ use Rattle.lists.specs.Numbers.{Bytes}
 use Rattle.lists.proofs.NumberLaws.{bytes-take, bytes-drop, bytes-over, bytes-bytesOf}
 use Rattle.value.specs.Codec.{isText, sizeOf}
 use Rattle.value.proofs.CodecLaws.{wordIn, exact-facts, encoding-text, encoding-fixed}
-use Rattle.entry.specs.Table.{Dict, numberOf, valuesOf, countAt, firstAt, defaultAt, typeAt, startAt, roomAt}
+use Rattle.entry.specs.Table.{Dict, numberOf, valuesOf, countAt, defaultAt, typeAt, startAt, roomAt}
 use Rattle.entry.specs.Encode.{encodingAt}
 use Rattle.entry.specs.Judge.{wellFormed}
 use Rattle.entry.specs.Put.{contents, putNew, typed, Puts}

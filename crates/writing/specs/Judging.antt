@@ -1,12 +1,11 @@
 -- What a write comes to, before anything is stored: RULES.md 8.
 -- Assumes nothing.
 use Prim.Native.Nat.{ℕ}
-use mathlib.Core.Bool.{Bool, cond, not, _&&_, _||_}
+use mathlib.Core.Bool.{Bool, cond, _&&_, _||_}
 use mathlib.Core.List.{List, [], _∷_}
-use lib.Dec.{eqb, leb, ltb}
+use lib.Dec.{eqb, ltb}
 use lib.ListN.{getD, length}
 use Rattle.lists.specs.Numbers.{number}
-use Rattle.answers.specs.declared.Refusal.{Refusal}
 use Rattle.answers.specs.declared.Refusal.the-variants.{BadValue, ObjectNotFound, SubObjectNotFound, TypeMismatch, ReadOnly, BadSignature, NoStorage, CountNotWritable, TooLong}
 use Rattle.value.specs.Codec.{isText, exact}
 use Rattle.entry.specs.Table.{Dict, accessAt, typeAt, roomAt}

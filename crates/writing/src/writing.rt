@@ -1,9 +1,6 @@
 // The act of a write.
 ghost use mathlib.Core.Path.{_≡_};
-ghost use mathlib.Core.Bool.{true};
 ghost use Rattle.entry.specs.Table.{dict};
-ghost use Rattle.entry.specs.Judge.{wellFormed};
-ghost use Rattle.commands.specs.Save.{saveOf};
 ghost use Rattle.writing.specs.Writing.{after, savedAs, writeOf};
 use crate::Judged;
 use crate::Wrote;

@@ -1,9 +1,6 @@
-use native.Mathlib.Omega.{arith}
 use borrow.Author.Needs.{needs}
 use Rattle.answers.proofs.number.Statement.{statement}
 use Rattle.answers.proofs.number.Tie as tie
-use Rattle.answers.proofs.number.Reads as reads
-use Rattle.answers.proofs.number.Lts as lts
 
 -- src/lib.rt:30:31
 enum-told : tie.Need-enum-told

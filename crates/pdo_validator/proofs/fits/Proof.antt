@@ -1,8 +1,7 @@
 -- `pdo_validator::fits` meets its contract. Assumes nothing.
-use mathlib.Core.Path.{_≡_, sym, ap, _∙_}
+use mathlib.Core.Path.{sym, ap}
 use borrow.Author.Tests.{le-leb, lt-leb}
 use Rattle.pdo_validator.specs.Counting.{within}
-use native.Mathlib.Omega.{arith}
 use borrow.Author.Needs.{needs}
 use Rattle.pdo_validator.proofs.fits.Statement.{statement}
 use Rattle.pdo_validator.proofs.fits.Tie as tie

@@ -1,8 +1,7 @@
 -- `pdo_validator::is_mapping` meets its contract. Assumes nothing.
-use mathlib.Core.Path.{_≡_, ap}
+use mathlib.Core.Path.{ap}
 use mathlib.Core.Bool.{_||_}
 use Rattle.pdo_validator.specs.Counting.{receives}
-use native.Mathlib.Omega.{arith}
 use borrow.Author.Needs.{needs}
 use Rattle.pdo_validator.proofs.is_mapping.Statement.{statement}
 use Rattle.pdo_validator.proofs.is_mapping.Tie as tie

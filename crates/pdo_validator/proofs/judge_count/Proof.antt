@@ -1,17 +1,14 @@
 -- `pdo_validator::judge_count` meets its contract: each branch is a case of `countOf`. Assumes nothing.
 use mathlib.Core.Path.{_≡_, sym, ap, _∙_}
-use mathlib.Core.Bool.{Bool, true, false, cond, not, _||_}
+use mathlib.Core.Bool.{cond, not, _||_}
 use denote.Ref.{now}
 use Rattle.entry.specs.Table.{Dict, dict}
-use Prim.Native.Nat.{_<_}
 use lib.Dec.{eqb}
 use Rattle.entry.specs.Find.{findRow}
-use Rattle.entry.specs.declared.Found.the-variants.{At}
 use Rattle.entry.proofs.ValueLaws.{rows-of}
 use Rattle.od.specs.declared.Answer.the-variants.{Done}
 use Rattle.entry.proofs.ValueLaws.{found-lies}
 use Rattle.pdo_validator.specs.Counting.{isMapping, countOn, countOf}
-use native.Mathlib.Omega.{arith}
 use borrow.Author.Needs.{needs}
 use Rattle.pdo_validator.proofs.judge_count.Statement.{statement}
 use Rattle.pdo_validator.proofs.judge_count.Tie as tie

@@ -1,12 +1,11 @@
 -- `pdo_validator::validate_pdo_mapping` meets its contract. Assumes nothing.
-use mathlib.Core.Path.{_≡_, sym, ap, _∙_}
-use mathlib.Core.Bool.{Bool, true, false, cond, not, _||_}
+use mathlib.Core.Path.{_≡_, sym, _∙_}
+use mathlib.Core.Bool.{true}
 use denote.Ref.{now}
 use Rattle.entry.specs.Table.{Dict, dict}
 use borrow.Author.Tests.{not-true, not-false}
 use Rattle.entry.specs.Judge.{wellFormed}
 use Rattle.pdo_validator.specs.Counting.{validOf}
-use native.Mathlib.Omega.{arith}
 use borrow.Author.Needs.{needs}
 use Rattle.pdo_validator.proofs.validate_pdo_mapping.Statement.{statement}
 use Rattle.pdo_validator.proofs.validate_pdo_mapping.Tie as tie

@@ -1,5 +1,5 @@
 -- `cases::hex::bytes` meets its contract. Assumes nothing.
-use Prim.Native.Nat.{_≤_, _<_, _-_, _+_, _*_, _^_}
+use Prim.Native.Nat.{_≤_, _-_}
 use mathlib.Core.Path.{_≡_, sym}
 use lib.ListN.{length, length-set}
 use lib.Seq.{length-take-le}

@@ -1,8 +1,6 @@
 -- `cases::lines::same` is safe and ends. Assumes nothing.
-use Prim.Native.Nat.{_≤_, _<_, _-_, _+_, _*_, _^_}
-use mathlib.Core.Path.{_≡_}
+use Prim.Native.Nat.{_-_}
 use lib.ListN.{length}
-use native.Mathlib.Omega.{arith}
 use borrow.Author.Needs.{needs}
 use Rattle.cases.proofs.lines.same.Statement.{statement}
 use Rattle.cases.proofs.lines.same.Tie as tie

@@ -1,8 +1,6 @@
 -- `cases::tally::line_end` meets its contract. Assumes nothing.
-use Prim.Native.Nat.{_≤_, _<_, _-_, _+_, _*_, _^_}
-use mathlib.Core.Path.{_≡_}
+use Prim.Native.Nat.{_≤_, _-_}
 use lib.ListN.{length}
-use native.Mathlib.Omega.{arith}
 use borrow.Author.Needs.{needs}
 use Rattle.cases.proofs.tally.line_end.Statement.{statement}
 use Rattle.cases.proofs.tally.line_end.Tie as tie

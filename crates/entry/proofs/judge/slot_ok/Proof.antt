@@ -1,9 +1,9 @@
 -- `entry::judge::slot_ok` meets its contract: each branch is a case of `slotOk`. Assumes nothing.
 use borrow.Author.Tests.{le-leb, lt-leb, eq-eqb, ne-eqb, not-true, not-false}
 use native.Mathlib.Omega.{arith}
-use mathlib.Core.Bool.{true, false, _||_}
+use mathlib.Core.Bool.{_||_}
 use lib.Dec.{ltb}
-use mathlib.Core.Path.{_≡_, sym, ap, _∙_}
+use mathlib.Core.Path.{sym, ap, _∙_}
 use Rattle.entry.specs.Rules.{heldOk}
 use Rattle.entry.specs.Judge.{slotOk}
 use borrow.Author.Needs.{needs}

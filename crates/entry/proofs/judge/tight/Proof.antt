@@ -1,5 +1,5 @@
 -- `entry::judge::tight` meets its contract. Assumes nothing.
-use mathlib.Core.Path.{_≡_, sym, _∙_}
+use mathlib.Core.Path.{sym, _∙_}
 use borrow.Author.Needs.{needs}
 use Rattle.entry.proofs.judge.tight.Statement.{statement}
 use Rattle.entry.proofs.judge.tight.Tie as tie

@@ -1,6 +1,6 @@
 -- `entry::judge::val_ok` meets its contract: each branch is a case of `valOk`. Assumes nothing.
 use borrow.Author.Tests.{le-leb, lt-leb}
-use mathlib.Core.Path.{_≡_, sym, _∙_}
+use mathlib.Core.Path.{sym, _∙_}
 use Rattle.entry.specs.Rules.{wordOk, valOk}
 use borrow.Author.Needs.{needs}
 use Rattle.entry.proofs.judge.val_ok.Statement.{statement}

@@ -6,7 +6,6 @@ use lib.ListN.{length}
 use borrow.Author.Tests.{not-true, not-false}
 use Rattle.entry.specs.Table.{Dict, dict, numberOf, valuesOf, usedOf, indexAt, kindAt, countAt, defaultAt, nameLenAt}
 use Rattle.entry.specs.Judge.{rowOk, rowFits, rowsFrom, slotsFrom}
-use Rattle.entry.specs.declared.Sum.the-variants as sum
 use Rattle.entry.proofs.JudgeLaws.{RowFits, HeadOk, row-ok, row-fits, head-ok}
 use Rattle.entry.proofs.WalkLaws.{rows-step, rows-end, slots-upto}
 use native.Mathlib.Omega.{arith}

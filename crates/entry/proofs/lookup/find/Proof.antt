@@ -1,6 +1,6 @@
 -- `entry::lookup::find` meets its contract. The loop's invariant: the walk over all rows finds what the walk from here finds. Assumes nothing.
 use mathlib.Core.Path.{_≡_, sym, _∙_}
-use Prim.Native.Nat.{_≤_, _-_, _+_}
+use Prim.Native.Nat.{_≤_, _-_}
 use borrow.Author.Tests.{eq-eqb, ne-eqb}
 use denote.Ref.{now}
 use Rattle.entry.specs.Table.{numberOf}

@@ -1,7 +1,6 @@
 -- `entry::lookup::locate` meets its contract: the row, and the sub-index in it. Assumes nothing.
-use mathlib.Core.Path.{_≡_, sym, ap, _∙_}
+use mathlib.Core.Path.{sym, ap, _∙_}
 use denote.Ref.{now}
-use native.Mathlib.Nat.{zero-add}
 use Rattle.entry.specs.Table.{numberOf}
 use Rattle.entry.specs.Find.{onRow}
 use Rattle.entry.proofs.FindLaws.{found-row}

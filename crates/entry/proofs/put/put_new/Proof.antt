@@ -1,9 +1,8 @@
 -- `entry::put::put_new` meets its contract: the type is set, then the value is put. Assumes nothing.
-use mathlib.Core.Path.{_≡_, sym, ap, _∙_, subst}
+use mathlib.Core.Path.{sym, ap, _∙_, subst}
 use denote.Ref.{now}
 use lib.ListN.{set}
 use Rattle.entry.specs.Put.{contents, putIn, Puts}
-use native.Mathlib.Omega.{arith}
 use borrow.Author.Needs.{needs}
 use Rattle.entry.proofs.put.put_new.Statement.{statement}
 use Rattle.entry.proofs.put.put_new.Tie as tie

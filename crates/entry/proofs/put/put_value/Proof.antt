@@ -1,8 +1,8 @@
 -- `entry::put::put_value` meets its contract: a text's length and bytes, or a number. Assumes nothing.
-use mathlib.Core.Path.{_≡_, sym, ap, ap₂, _∙_}
+use mathlib.Core.Path.{_≡_, sym, ap, _∙_}
 use mathlib.Core.Bool.{true, false}
 use denote.Ref.{now}
-use lib.ListN.{length, take, set}
+use lib.ListN.{take, set}
 use Rattle.lists.specs.Lists.{over}
 use Rattle.lists.specs.Numbers.{number}
 use Rattle.value.specs.Codec.{isText, sizeOf}

@@ -1,7 +1,6 @@
 -- `loomfinch::c::entry_numbers` meets its contract. Assumes nothing.
-use mathlib.Core.Path.{_≡_, ap, _∙_, sym}
+use mathlib.Core.Path.{ap}
 use Rattle.loomfinch.specs.C.{entryNumbers, partsOf}
-use native.Mathlib.Omega.{arith}
 use borrow.Author.Needs.{needs}
 use Rattle.loomfinch.proofs.c.entry_numbers.Statement.{statement}
 use Rattle.loomfinch.proofs.c.entry_numbers.Tie as tie

@@ -1,7 +1,6 @@
 -- `loomfinch::c::give` meets its contract: the word is laid first, the parts behind it. Assumes nothing.
 use mathlib.Core.Path.{_≡_, ap, ap₂, _∙_, sym}
 use mathlib.Core.List.{_∷_}
-use Prim.Native.Nat.{_<_, _≤_}
 use denote.Ref.{now}
 use lib.ListN.{length, set, length-set}
 use Rattle.lists.specs.Lists.{over}

@@ -1,9 +1,8 @@
 -- `loomfinch::c::loomfinch_decode` meets its contract: each arm is a case of `decodedNumbers`. Assumes nothing.
-use mathlib.Core.Path.{_≡_, ap, _∙_, sym}
+use mathlib.Core.Path.{ap, _∙_, sym}
 use denote.Ref.{now}
 use Rattle.answers.specs.Numbers.{numberOf}
 use Rattle.loomfinch.specs.C.{lent, decodeNumbers, decodedNumbers}
-use native.Mathlib.Omega.{arith}
 use borrow.Author.Needs.{needs}
 use Rattle.loomfinch.proofs.c.loomfinch_decode.Statement.{statement}
 use Rattle.loomfinch.proofs.c.loomfinch_decode.Tie as tie

@@ -1,9 +1,8 @@
 -- `loomfinch::c::loomfinch_encode` meets its contract: each arm is a case of `encodedNumbers`. Assumes nothing.
-use mathlib.Core.Path.{_≡_, ap, _∙_, sym}
+use mathlib.Core.Path.{ap, _∙_, sym}
 use denote.Ref.{now}
-use Rattle.value.specs.Codec.{After, after}
+use Rattle.value.specs.Codec.{After}
 use Rattle.loomfinch.specs.C.{wrote, encodeNumbers, encodedNumbers}
-use native.Mathlib.Omega.{arith}
 use borrow.Author.Needs.{needs}
 use Rattle.loomfinch.proofs.c.loomfinch_encode.Statement.{statement}
 use Rattle.loomfinch.proofs.c.loomfinch_encode.Tie as tie

@@ -1,11 +1,9 @@
 -- `loomfinch::c::loomfinch_from_u64` meets its contract. Assumes nothing.
-use mathlib.Core.Path.{_≡_, ap, _∙_, sym}
+use mathlib.Core.Path.{ap, _∙_}
 use borrow.Author.Tests.{lt-ltb, le-ltb}
 use denote.Ref.{now}
-use lib.ListN.{length}
 use Rattle.lists.specs.Lists.{over}
 use Rattle.loomfinch.specs.C.{lent, entryNumbers}
-use native.Mathlib.Omega.{arith}
 use borrow.Author.Needs.{needs}
 use Rattle.loomfinch.proofs.c.loomfinch_from_u64.Statement.{statement}
 use Rattle.loomfinch.proofs.c.loomfinch_from_u64.Tie as tie

@@ -1,7 +1,6 @@
 -- `loomfinch::dictionary::inserted` meets its contract. Assumes nothing.
-use mathlib.Core.Path.{_≡_, ap, _∙_, sym}
+use mathlib.Core.Path.{ap, _∙_, sym}
 use Rattle.loomfinch.specs.Dictionary.{insertedNumber}
-use native.Mathlib.Omega.{arith}
 use borrow.Author.Needs.{needs}
 use Rattle.loomfinch.proofs.dictionary.inserted.Statement.{statement}
 use Rattle.loomfinch.proofs.dictionary.inserted.Tie as tie

@@ -1,8 +1,7 @@
 -- `loomfinch::dictionary::loomfinch_find_by_name` meets its contract: each arm is a case of `nameTold`. Assumes nothing.
-use mathlib.Core.Path.{_≡_, ap, _∙_, sym}
+use mathlib.Core.Path.{ap, _∙_, sym}
 use denote.Ref.{now}
 use Rattle.loomfinch.specs.Dictionary.{told, nameTold, namedTold}
-use native.Mathlib.Omega.{arith}
 use borrow.Author.Needs.{needs}
 use Rattle.loomfinch.proofs.dictionary.loomfinch_find_by_name.Statement.{statement}
 use Rattle.loomfinch.proofs.dictionary.loomfinch_find_by_name.Tie as tie

@@ -1,10 +1,9 @@
 -- `loomfinch::dictionary::loomfinch_get_configured_cns` meets its contract: each arm is a case of `listedNumbers`. Assumes nothing.
-use mathlib.Core.Path.{_≡_, ap, _∙_, sym}
+use mathlib.Core.Path.{ap, _∙_, sym}
 use denote.Ref.{now}
 use Rattle.od.specs.Nodes.{Given}
 use Rattle.loomfinch.specs.C.{wrote}
 use Rattle.loomfinch.specs.Dictionary.{listedNumbers, nodeNumbers}
-use native.Mathlib.Omega.{arith}
 use borrow.Author.Needs.{needs}
 use Rattle.loomfinch.proofs.dictionary.loomfinch_get_configured_cns.Statement.{statement}
 use Rattle.loomfinch.proofs.dictionary.loomfinch_get_configured_cns.Tie as tie

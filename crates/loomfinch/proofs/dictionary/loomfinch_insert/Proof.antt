@@ -1,7 +1,6 @@
 -- `loomfinch::dictionary::loomfinch_insert` meets its contract. Assumes nothing.
-use mathlib.Core.Path.{_≡_, ap, _∙_, sym}
+use mathlib.Core.Path.{ap, _∙_}
 use Rattle.loomfinch.specs.Dictionary.{insertedNumber}
-use native.Mathlib.Omega.{arith}
 use borrow.Author.Needs.{needs}
 use Rattle.loomfinch.proofs.dictionary.loomfinch_insert.Statement.{statement}
 use Rattle.loomfinch.proofs.dictionary.loomfinch_insert.Tie as tie

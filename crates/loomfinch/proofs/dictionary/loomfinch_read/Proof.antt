@@ -1,11 +1,10 @@
 -- `loomfinch::dictionary::loomfinch_read` meets its contract: each arm is a case of `storedNumbers`. Assumes nothing.
-use mathlib.Core.Path.{_≡_, ap, _∙_, sym}
+use mathlib.Core.Path.{ap, _∙_, sym}
 use mathlib.Core.List.{[], _∷_}
 use denote.Ref.{now}
 use Rattle.loomfinch.specs.C.{lent}
 use Rattle.loomfinch.specs.Dictionary.{storedNumbers, readNumbers}
 use Rattle.loomfinch.proofs.CLaws.{results-short, results-done}
-use native.Mathlib.Omega.{arith}
 use borrow.Author.Needs.{needs}
 use Rattle.loomfinch.proofs.dictionary.loomfinch_read.Statement.{statement}
 use Rattle.loomfinch.proofs.dictionary.loomfinch_read.Tie as tie

@@ -1,7 +1,6 @@
 -- `loomfinch::dictionary::number_of` meets its contract. Assumes nothing.
-use mathlib.Core.Path.{_≡_, ap, _∙_, sym}
+use mathlib.Core.Path.{ap, _∙_, sym}
 use Rattle.loomfinch.specs.Dictionary.{answerNumber}
-use native.Mathlib.Omega.{arith}
 use borrow.Author.Needs.{needs}
 use Rattle.loomfinch.proofs.dictionary.number_of.Statement.{statement}
 use Rattle.loomfinch.proofs.dictionary.number_of.Tie as tie

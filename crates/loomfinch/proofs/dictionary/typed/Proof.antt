@@ -1,8 +1,7 @@
 -- `loomfinch::dictionary::typed` meets its contract: each arm is a case of `numberTold`. Assumes nothing.
-use mathlib.Core.Path.{_≡_, ap, _∙_, sym}
+use mathlib.Core.Path.{ap, _∙_, sym}
 use denote.Ref.{now}
 use Rattle.loomfinch.specs.Dictionary.{told, numberTold, typedTold}
-use native.Mathlib.Omega.{arith}
 use borrow.Author.Needs.{needs}
 use Rattle.loomfinch.proofs.dictionary.typed.Statement.{statement}
 use Rattle.loomfinch.proofs.dictionary.typed.Tie as tie

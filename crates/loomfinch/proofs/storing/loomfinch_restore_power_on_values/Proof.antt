@@ -2,7 +2,6 @@
 use mathlib.Core.Path.{ap, _∙_}
 use Rattle.restoring.specs.Restore.{After}
 use Rattle.loomfinch.specs.Storing.{restoredNumber}
-use native.Mathlib.Omega.{arith}
 use borrow.Author.Needs.{needs}
 use Rattle.loomfinch.proofs.storing.loomfinch_restore_power_on_values.Statement.{statement}
 use Rattle.loomfinch.proofs.storing.loomfinch_restore_power_on_values.Tie as tie

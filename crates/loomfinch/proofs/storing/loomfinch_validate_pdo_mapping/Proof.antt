@@ -1,7 +1,6 @@
 -- `loomfinch::storing::loomfinch_validate_pdo_mapping` meets its contract. Assumes nothing.
-use mathlib.Core.Path.{_≡_, ap, _∙_, sym}
+use mathlib.Core.Path.{ap, _∙_}
 use Rattle.loomfinch.specs.Dictionary.{answerNumber}
-use native.Mathlib.Omega.{arith}
 use borrow.Author.Needs.{needs}
 use Rattle.loomfinch.proofs.storing.loomfinch_validate_pdo_mapping.Statement.{statement}
 use Rattle.loomfinch.proofs.storing.loomfinch_validate_pdo_mapping.Tie as tie

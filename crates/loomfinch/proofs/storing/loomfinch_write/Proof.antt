@@ -1,8 +1,7 @@
 -- `loomfinch::storing::loomfinch_write` meets its contract. Assumes nothing.
-use mathlib.Core.Path.{_≡_, ap, _∙_, sym}
+use mathlib.Core.Path.{ap, _∙_}
 use Rattle.writing.specs.Writing.{After}
 use Rattle.loomfinch.specs.Storing.{wroteNumber}
-use native.Mathlib.Omega.{arith}
 use borrow.Author.Needs.{needs}
 use Rattle.loomfinch.proofs.storing.loomfinch_write.Statement.{statement}
 use Rattle.loomfinch.proofs.storing.loomfinch_write.Tie as tie

@@ -1,7 +1,6 @@
 -- `loomfinch::storing::restored` meets its contract: the number of each answer. Assumes nothing.
 use mathlib.Core.Path.{ap, sym, _∙_}
 use Rattle.loomfinch.specs.Storing.{restoredNumber}
-use native.Mathlib.Omega.{arith}
 use borrow.Author.Needs.{needs}
 use Rattle.loomfinch.proofs.storing.restored.Statement.{statement}
 use Rattle.loomfinch.proofs.storing.restored.Tie as tie

@@ -1,7 +1,6 @@
 -- `loomfinch::storing::wrote` meets its contract. Assumes nothing.
-use mathlib.Core.Path.{_≡_, ap, _∙_, sym}
+use mathlib.Core.Path.{ap, _∙_, sym}
 use Rattle.loomfinch.specs.Storing.{wroteNumber}
-use native.Mathlib.Omega.{arith}
 use borrow.Author.Needs.{needs}
 use Rattle.loomfinch.proofs.storing.wrote.Statement.{statement}
 use Rattle.loomfinch.proofs.storing.wrote.Tie as tie

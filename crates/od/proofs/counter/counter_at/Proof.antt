@@ -11,7 +11,6 @@ use Rattle.entry.proofs.ValueLaws.{rows-of, ValueFacts}
 use Rattle.od.specs.Counter.{inRow, counterAt}
 use Rattle.entry.proofs.ValueLaws.{RowLies, found-lies}
 use Rattle.od.proofs.CounterLaws.{value-lies}
-use native.Mathlib.Omega.{arith}
 use borrow.Author.Needs.{needs}
 use Rattle.od.proofs.counter.counter_at.Statement.{statement}
 use Rattle.od.proofs.counter.counter_at.Tie as tie

@@ -1,14 +1,13 @@
 -- `od::counter::increment_counter` meets its contract: the supplied wrapping add on the counter's 32 bits. Assumes nothing.
 use mathlib.Core.Path.{_≡_, sym, ap, _∙_}
-use mathlib.Core.Bool.{true, false}
-use Prim.Native.Nat.{_+_, _%_, _^_}
+use mathlib.Core.Bool.{true}
 use denote.Ref.{now}
 use borrow.Author.Tests.{not-true, not-false}
-use lib.ListN.{set, getD}
+use lib.ListN.{set}
 use Rattle.entry.specs.Table.{Dict, dict}
 use Rattle.entry.specs.Judge.{wellFormed}
 use Rattle.od.specs.declared.Answer.the-variants.{Done}
-use Rattle.od.specs.Counter.{counted, after, counterOf}
+use Rattle.od.specs.Counter.{after, counterOf}
 use Rattle.od.proofs.CounterLaws.{CounterLies, counter-lies}
 use native.Mathlib.Omega.{arith}
 use borrow.Author.Needs.{needs}

@@ -1,12 +1,11 @@
 -- `od::names::find_by_name` meets its contract: each branch is a case of `byNameOf`. Assumes nothing.
-use mathlib.Core.Path.{_≡_, sym, ap, _∙_}
+use mathlib.Core.Path.{_≡_, sym, _∙_}
 use mathlib.Core.Bool.{true}
 use denote.Ref.{now}
 use borrow.Author.Tests.{not-true, not-false, lt-leb, le-leb}
 use Rattle.entry.specs.Table.{Dict, dict}
 use Rattle.entry.specs.Judge.{wellFormed}
 use Rattle.od.specs.Names.{byNameOf}
-use native.Mathlib.Omega.{arith}
 use borrow.Author.Needs.{needs}
 use Rattle.od.proofs.names.find_by_name.Statement.{statement}
 use Rattle.od.proofs.names.find_by_name.Tie as tie

@@ -1,5 +1,5 @@
 -- `od::names::first_named` meets its contract. The loop's invariant: the walk over all rows finds what the walk from here finds. Assumes nothing.
-use mathlib.Core.Path.{_≡_, sym, ap, _∙_}
+use mathlib.Core.Path.{_≡_, sym, _∙_}
 use mathlib.Core.Bool.{cond}
 use Prim.Native.Nat.{_+_, _-_, _<_, _≤_}
 use denote.Ref.{now}

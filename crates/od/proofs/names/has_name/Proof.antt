@@ -1,13 +1,10 @@
 -- `od::names::has_name` meets its contract: a name of another length is another name. Assumes nothing.
-use mathlib.Core.Path.{_≡_, sym, ap₂, _∙_}
-use Prim.Native.Nat.{_+_, _≤_}
+use mathlib.Core.Path.{sym, ap₂, _∙_}
 use denote.Ref.{now}
-use lib.ListN.{length, take, drop}
-use Rattle.entry.specs.Table.{Dict, dict, nameAt, nameLenAt}
+use lib.ListN.{take, drop}
+use Rattle.entry.specs.Table.{Dict, dict}
 use Rattle.od.specs.Names.{same}
 use Rattle.od.proofs.NameLaws.{NameLies, name-lies, name-apart}
-use native.Mathlib.Omega.{arith}
-use borrow.Author.Needs.{needs}
 use Rattle.od.proofs.names.has_name.Statement.{statement}
 use Rattle.od.proofs.names.has_name.Tie as tie
 

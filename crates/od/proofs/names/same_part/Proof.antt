@@ -1,5 +1,5 @@
 -- `od::names::same_part` meets its contract. The loop's invariant: the whole compares as what is left does. Assumes nothing.
-use mathlib.Core.Path.{_≡_, sym, ap, _∙_}
+use mathlib.Core.Path.{_≡_, sym, _∙_}
 use Prim.Native.Nat.{_+_, _-_, _≤_}
 use mathlib.Core.Bool.{_&&_}
 use denote.Ref.{now}

@@ -1,15 +1,13 @@
 -- `od::nodes::elements` meets its contract: each branch is a case of `elementsAt`. Assumes nothing.
 use mathlib.Core.Path.{_≡_, sym, ap, _∙_}
-use mathlib.Core.Bool.{false}
 use denote.Ref.{now}
 use borrow.Author.Tests.{eq-eqb, ne-eqb}
 use Rattle.entry.specs.Table.{Dict, dict}
 use Rattle.entry.specs.Find.{findRow}
 use Rattle.entry.specs.declared.Found.the-variants.{At}
 use Rattle.entry.proofs.ValueLaws.{rows-of}
-use Rattle.od.specs.Nodes.{elementsOn, elementsAt, spanOf}
+use Rattle.od.specs.Nodes.{elementsOn, elementsAt}
 use Rattle.entry.proofs.ValueLaws.{RowLies, found-lies}
-use native.Mathlib.Omega.{arith}
 use borrow.Author.Needs.{needs}
 use Rattle.od.proofs.nodes.elements.Statement.{statement}
 use Rattle.od.proofs.nodes.elements.Tie as tie

@@ -8,9 +8,8 @@ use Rattle.lists.specs.Lists.{over}
 use Rattle.entry.specs.Table.{Dict, dict}
 use Rattle.entry.specs.Judge.{wellFormed}
 use Rattle.od.specs.declared.Listed.the-variants as listed
-use Rattle.od.specs.Nodes.{nodesFrom, nodesOf, given, cnsOf}
+use Rattle.od.specs.Nodes.{nodesOf, given, cnsOf}
 use Rattle.od.proofs.NodeLaws.{elements-lie}
-use native.Mathlib.Omega.{arith}
 use borrow.Author.Needs.{needs}
 use Rattle.od.proofs.nodes.get_configured_cns.Statement.{statement}
 use Rattle.od.proofs.nodes.get_configured_cns.Tie as tie

@@ -1,7 +1,5 @@
 -- `od::reading::of_type` meets its contract: each branch is a case of `ofType`. Assumes nothing.
-use mathlib.Core.Path.{_≡_, sym, ap, _∙_}
 use borrow.Author.Tests.{eq-eqb, ne-eqb}
-use native.Mathlib.Omega.{arith}
 use borrow.Author.Needs.{needs}
 use Rattle.od.proofs.reading.of_type.Statement.{statement}
 use Rattle.od.proofs.reading.of_type.Tie as tie

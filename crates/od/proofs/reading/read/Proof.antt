@@ -1,8 +1,8 @@
 -- `od::reading::read` meets its contract: each place is a case of `readAt`. Assumes nothing.
-use mathlib.Core.Path.{_≡_, sym, ap, ap₂, _∙_}
-use mathlib.Core.Bool.{true, false}
+use mathlib.Core.Path.{_≡_, sym, _∙_}
+use mathlib.Core.Bool.{true}
 use denote.Ref.{now}
-use borrow.Author.Tests.{not-true, not-false, eq-eqb, ne-eqb}
+use borrow.Author.Tests.{not-true, not-false}
 use Rattle.entry.specs.Table.{Dict, dict}
 use Rattle.entry.specs.Judge.{wellFormed}
 use Rattle.entry.proofs.ValueLaws.{rows-of, ValueFacts, element-of, element-facts}

@@ -1,7 +1,6 @@
 -- `od::reading::read_number` meets its contract. Assumes nothing.
 use mathlib.Core.Path.{ap, _∙_}
 use Rattle.od.specs.Read.{ofType}
-use native.Mathlib.Omega.{arith}
 use borrow.Author.Needs.{needs}
 use Rattle.od.proofs.reading.read_number.Statement.{statement}
 use Rattle.od.proofs.reading.read_number.Tie as tie

@@ -1,11 +1,9 @@
 -- `od::reading::read_part` meets its contract: a text or bytes lie within the lent bytes. Assumes nothing.
 use mathlib.Core.Path.{_≡_, sym, ap, _∙_}
-use mathlib.Core.Bool.{true, false}
 use mathlib.Core.List.{List, []}
 use Prim.Native.Nat.{ℕ, _+_, _-_}
 use denote.Ref.{now}
 use lib.ListN.{take, drop}
-use Rattle.value.specs.Codec.{isText}
 use Rattle.entry.specs.Table.{Dict, dict}
 use Rattle.od.specs.declared.Stored.the-variants as stored
 use Rattle.od.specs.Read.{partIn}

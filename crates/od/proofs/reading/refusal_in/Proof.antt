@@ -1,5 +1,4 @@
 -- `od::reading::refusal_in` meets its contract. Assumes nothing.
-use native.Mathlib.Omega.{arith}
 use borrow.Author.Needs.{needs}
 use Rattle.od.proofs.reading.refusal_in.Statement.{statement}
 use Rattle.od.proofs.reading.refusal_in.Tie as tie

@@ -1,13 +1,11 @@
 -- `pdo_step::acting::step` meets its contract: what is stored is put, and else nothing changes. Assumes nothing.
-use mathlib.Core.Path.{_≡_, sym, ap, _∙_}
+use mathlib.Core.Path.{_≡_, sym, _∙_}
 use Prim.Native.Nat.{_+_, _-_}
 use denote.Ref.{now}
-use lib.ListN.{length, take, drop}
 use Rattle.entry.specs.Table.{Dict, dict}
-use Rattle.entry.specs.Put.{contents, putIn}
+use Rattle.entry.specs.Put.{contents}
 use Rattle.entry.proofs.ValueLaws.{element-of, element-facts}
 use Rattle.entry.proofs.KeepLaws.{puts-of}
-use Rattle.pdo_step.specs.Outcomes.{part}
 use Rattle.pdo_step.specs.Steps.{applied}
 use Rattle.pdo_step.proofs.CaseLaws.{idle}
 use Rattle.pdo_step.proofs.OutcomeLaws.{shape-of, StoredBy, stored-by}

@@ -1,15 +1,14 @@
 -- `pdo_step::bits::bit_place` meets its contract: each way out is a case of the definition. Assumes nothing.
-use mathlib.Core.Path.{_≡_, refl, sym, ap, ap₂, _∙_}
-use mathlib.Core.Bool.{cond, _&&_}
+use mathlib.Core.Path.{_≡_, sym, ap, _∙_}
+use mathlib.Core.Bool.{_&&_}
 use Prim.Native.Nat.{_+_}
 use denote.Ref.{now}
 use lib.Dec.{eqb, ltb}
 use lib.ListN.{getD}
 use borrow.Author.Tests.{eq-eqb, ne-eqb}
-use Rattle.entry.specs.Table.{Dict, dict, kindAt, firstAt, typeAt, startAt}
-use Rattle.entry.specs.Find.{findRow}
+use Rattle.entry.specs.Table.{Dict, dict, firstAt, typeAt, startAt}
 use Rattle.entry.specs.declared.Found.{Found}
-use Rattle.entry.specs.declared.Found.the-variants.{At, Nothing}
+use Rattle.entry.specs.declared.Found.the-variants.{At}
 use Rattle.entry.proofs.ValueLaws.{ValueFacts, RowLies, found-lies, rows-of}
 use Rattle.pdo_step.specs.Bits.{byteOf, bitIn, bitAt}
 use Rattle.pdo_step.proofs.BitLaws.{has-bit, variable-facts}

@@ -1,5 +1,4 @@
 -- `pdo_step::bits::mask` meets its contract: the table has the powers of two. Assumes nothing.
-use mathlib.Core.Path.{_≡_}
 use Prim.Native.Nat.{_-_, _%_}
 use Rattle.pdo_step.proofs.BitLaws.{mask-is}
 use native.Mathlib.Omega.{arith}

@@ -1,14 +1,12 @@
 -- `pdo_step::bits::set_bit` meets its contract: the byte of the bit, where there is one. Assumes nothing.
 use mathlib.Core.Path.{_≡_, sym, ap, _∙_}
-use Prim.Native.Nat.{ℕ}
 use denote.Ref.{now}
 use lib.Bits.{bitOr}
 use lib.ListN.{getD, set}
 use Rattle.entry.specs.Table.{Dict, dict}
 use Rattle.entry.specs.declared.Found.{Found}
-use Rattle.pdo_step.specs.Bits.{maskOf, bitAt, markedAt, markedIn}
+use Rattle.pdo_step.specs.Bits.{markedAt, markedIn}
 use Rattle.pdo_step.proofs.BitLaws.{BitLies, bit-lies}
-use native.Mathlib.Omega.{arith}
 use borrow.Author.Needs.{needs}
 use Rattle.pdo_step.proofs.bits.set_bit.Statement.{statement}
 use Rattle.pdo_step.proofs.bits.set_bit.Tie as tie

@@ -1,8 +1,7 @@
 -- `pdo_step::deciding::at_count` meets its contract: its cases are those of the definition. Assumes nothing.
-use mathlib.Core.Path.{_≡_, sym, _∙_}
+use mathlib.Core.Path.{sym, _∙_}
 use borrow.Author.Tests.{eq-eqb, ne-eqb}
 use Rattle.pdo_step.specs.Outcomes.{onCount}
-use native.Mathlib.Omega.{arith}
 use borrow.Author.Needs.{needs}
 use Rattle.pdo_step.proofs.deciding.at_count.Statement.{statement}
 use Rattle.pdo_step.proofs.deciding.at_count.Tie as tie

@@ -5,7 +5,6 @@ use Rattle.entry.specs.Find.{placeOf}
 use Rattle.entry.specs.declared.Place.{Place}
 use Rattle.pdo_step.specs.Outcomes.{onPlace}
 use Rattle.pdo_step.proofs.CaseLaws.{nowhere}
-use native.Mathlib.Omega.{arith}
 use borrow.Author.Needs.{needs}
 use Rattle.pdo_step.proofs.deciding.at_place.Statement.{statement}
 use Rattle.pdo_step.proofs.deciding.at_place.Tie as tie

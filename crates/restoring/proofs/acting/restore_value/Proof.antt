@@ -9,7 +9,6 @@ use Rattle.entry.specs.Put.{Contents, contents}
 use Rattle.entry.proofs.ValueLaws.{ValueFacts, row-lies}
 use Rattle.restoring.specs.Restore.{slotIn, chosenAt, fitsRoom, restoredBy}
 use Rattle.restoring.specs.declared.Choice.{Choice}
-use Rattle.restoring.specs.declared.Choice.the-variants.{Stored}
 use Rattle.restoring.proofs.ChoiceLaws.{chosen-stored, chosen-default}
 use Rattle.restoring.proofs.TurnLaws.{facts, default-slot, stored-fits, puts-new, copies}
 use native.Mathlib.Omega.{arith}

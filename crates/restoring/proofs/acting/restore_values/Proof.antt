@@ -1,6 +1,6 @@
 -- `restoring::acting::restore_values` meets its contract: what the values from here on make of the dictionary as it is now is what all make of it as it was. Assumes nothing.
 use mathlib.Core.Path.{_≡_, refl, sym, ap, _∙_}
-use Prim.Native.Nat.{_+_, _-_, _≤_}
+use Prim.Native.Nat.{_-_, _≤_}
 use denote.Ref.{now}
 use lib.ListN.{length}
 use Rattle.lists.specs.Numbers.{Bytes}

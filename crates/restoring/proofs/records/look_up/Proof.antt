@@ -3,11 +3,10 @@ use mathlib.Core.Path.{_≡_, sym, _∙_}
 use Prim.Native.Nat.{_≤_}
 use denote.Ref.{now}
 use borrow.Author.Tests.{lt-ltb, le-ltb, eq-eqb, ne-eqb}
-use Rattle.restoring.specs.Records.{recordPlace, recordOf}
+use Rattle.restoring.specs.Records.{recordOf}
 use Rattle.restoring.proofs.RecordLaws.{stopped}
 use Rattle.restoring.proofs.RisingLaws.{Lies, lies, sought-within, looked-up}
 use native.Mathlib.Omega.{arith}
-use borrow.Author.Needs.{needs}
 use Rattle.restoring.proofs.records.look_up.Statement.{statement}
 use Rattle.restoring.proofs.records.look_up.Tie as tie
 

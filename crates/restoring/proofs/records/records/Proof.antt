@@ -1,8 +1,5 @@
 -- `restoring::records::records` meets its contract: the first number of a readable image, else none. Assumes nothing.
-use mathlib.Core.Path.{_≡_, sym, _∙_}
-use mathlib.Core.Bool.{true}
-use Prim.Native.Nat.{_≤_}
-use lib.ListN.{length}
+use mathlib.Core.Path.{sym, _∙_}
 use denote.Ref.{now}
 use Rattle.restoring.proofs.RisingLaws.{readable-long}
 use native.Mathlib.Omega.{arith}

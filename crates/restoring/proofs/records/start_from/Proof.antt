@@ -3,7 +3,6 @@ use Prim.Native.Nat.{_-_}
 use denote.Ref.{now}
 use Rattle.restoring.proofs.RisingLaws.{Lies, lies, cursor-first, cursor-near}
 use native.Mathlib.Omega.{arith}
-use borrow.Author.Needs.{needs}
 use Rattle.restoring.proofs.records.start_from.Statement.{statement}
 use Rattle.restoring.proofs.records.start_from.Tie as tie
 

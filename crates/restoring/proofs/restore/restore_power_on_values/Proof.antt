@@ -7,7 +7,6 @@ use Rattle.entry.specs.Table.{Dict, dict, numberOf}
 use Rattle.entry.specs.Judge.{wellFormed}
 use Rattle.restoring.specs.Restore.{rowsFit, after, restoreOf}
 use Rattle.restoring.specs.declared.Restored.the-variants.{Done}
-use native.Mathlib.Omega.{arith}
 use borrow.Author.Needs.{needs}
 use Rattle.restoring.proofs.restore.restore_power_on_values.Statement.{statement}
 use Rattle.restoring.proofs.restore.restore_power_on_values.Tie as tie

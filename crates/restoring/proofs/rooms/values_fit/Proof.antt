@@ -1,5 +1,5 @@
 -- `restoring::rooms::values_fit` meets its contract: whether all values fit is whether those from here on do. Assumes nothing.
-use mathlib.Core.Path.{_≡_, refl, sym, ap, _∙_}
+use mathlib.Core.Path.{_≡_, sym, ap, _∙_}
 use mathlib.Core.Bool.{_&&_}
 use Prim.Native.Nat.{_+_, _-_, _≤_}
 use denote.Ref.{now}
@@ -9,7 +9,6 @@ use Rattle.entry.proofs.ValueLaws.{row-lies}
 use Rattle.restoring.specs.Restore.{slotIn, chosenAt, fitsRoom, valuesFit}
 use Rattle.restoring.proofs.WalkLaws.{fit-step, fit-end}
 use native.Mathlib.Omega.{arith}
-use borrow.Author.Needs.{needs}
 use Rattle.restoring.proofs.rooms.values_fit.Statement.{statement}
 use Rattle.restoring.proofs.rooms.values_fit.Tie as tie
 

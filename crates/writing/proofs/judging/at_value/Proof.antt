@@ -1,6 +1,6 @@
 -- `writing::judging::at_value` meets its contract. Assumes nothing.
-use mathlib.Core.Path.{_≡_, sym, ap, ap₂, _∙_}
-use mathlib.Core.Bool.{Bool, true, _&&_}
+use mathlib.Core.Path.{_≡_, sym, ap₂, _∙_}
+use mathlib.Core.Bool.{true, _&&_}
 use denote.Ref.{now}
 use borrow.Author.Tests.{eq-eqb, ne-eqb}
 use lib.Dec.{eqb, ltb}
@@ -8,7 +8,6 @@ use lib.ListN.{length}
 use Rattle.value.specs.Codec.{isText}
 use Rattle.entry.specs.Table.{typeAt, roomAt}
 use Rattle.writing.proofs.WriteLaws.{value-type, value-room, value-put}
-use native.Mathlib.Omega.{arith}
 use borrow.Author.Needs.{needs}
 use Rattle.writing.proofs.judging.at_value.Statement.{statement}
 use Rattle.writing.proofs.judging.at_value.Tie as tie

@@ -1,10 +1,9 @@
 -- `writing::judging::count_first` meets its contract. Assumes nothing.
-use mathlib.Core.Path.{_≡_, sym, ap, ap₂, _∙_}
-use mathlib.Core.Bool.{Bool, true, false, cond, _&&_}
+use mathlib.Core.Path.{_≡_, sym, ap, _∙_}
+use mathlib.Core.Bool.{_&&_}
 use denote.Ref.{now}
 use borrow.Author.Tests.{eq-eqb, ne-eqb}
 use lib.Dec.{eqb}
-use lib.ListN.{length}
 use Rattle.entry.specs.Table.{Dict, dict}
 use Rattle.pdo_validator.specs.Counting.{isMapping}
 use Rattle.writing.proofs.WriteLaws.{count-type, count-there, count-else, one-byte}

@@ -1,10 +1,9 @@
 -- `writing::judging::in_object` meets its contract. Assumes nothing.
-use mathlib.Core.Path.{_≡_, sym, ap, ap₂, _∙_}
+use mathlib.Core.Path.{sym, ap, _∙_}
 use denote.Ref.{now}
 use Rattle.entry.specs.Table.{Dict, dict}
 use Rattle.entry.proofs.ValueLaws.{rows-of}
 use Rattle.writing.specs.Judging.{inObject}
-use native.Mathlib.Omega.{arith}
 use borrow.Author.Needs.{needs}
 use Rattle.writing.proofs.judging.in_object.Statement.{statement}
 use Rattle.writing.proofs.judging.in_object.Tie as tie

@@ -1,6 +1,6 @@
 -- `writing::judging::in_row` meets its contract: each place is a case of `inPlace`. Assumes nothing.
-use mathlib.Core.Path.{_≡_, sym, ap, ap₂, _∙_}
-use mathlib.Core.Bool.{Bool, true, false, cond, _||_}
+use mathlib.Core.Path.{_≡_, sym, ap, _∙_}
+use mathlib.Core.Bool.{cond, _||_}
 use denote.Ref.{now}
 use lib.Dec.{eqb}
 use Rattle.answers.specs.declared.Refusal.the-variants.{ReadOnly, CountNotWritable}
@@ -8,12 +8,11 @@ use Rattle.entry.specs.Table.{Dict, dict, accessAt}
 use Rattle.entry.specs.Find.{subAt}
 use Rattle.entry.specs.declared.Found.the-variants.{At}
 use Rattle.entry.specs.declared.Place.{Place}
-use Rattle.entry.proofs.ValueLaws.{rows-of, ValueFacts}
+use Rattle.entry.proofs.ValueLaws.{rows-of}
 use Rattle.entry.proofs.ValueLaws.{RowLies, found-lies}
 use Rattle.od.proofs.CounterLaws.{value-lies}
 use Rattle.writing.specs.declared.Judged.the-variants.{Kept, Refused}
 use Rattle.writing.specs.Judging.{inPlace, inObject}
-use native.Mathlib.Omega.{arith}
 use borrow.Author.Needs.{needs}
 use Rattle.writing.proofs.judging.in_row.Statement.{statement}
 use Rattle.writing.proofs.judging.in_row.Tie as tie

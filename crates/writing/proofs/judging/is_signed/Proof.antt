@@ -1,14 +1,12 @@
 -- `writing::judging::is_signed` meets its contract. Assumes nothing.
-use mathlib.Core.Path.{_≡_, sym, ap, ap₂, _∙_}
-use mathlib.Core.Bool.{true, false, _&&_}
+use mathlib.Core.Path.{sym, ap, _∙_}
+use mathlib.Core.Bool.{_&&_}
 use denote.Ref.{now}
-use lib.Dec.{eqb, ltb}
-use lib.ListN.{length, take, drop}
+use lib.Dec.{eqb}
 use Rattle.lists.specs.Numbers.{number}
 use Rattle.writing.specs.Judging.{signedBy}
 use Rattle.writing.proofs.WriteLaws.{four-bytes, whole}
 use native.Mathlib.Omega.{arith}
-use borrow.Author.Needs.{needs}
 use Rattle.writing.proofs.judging.is_signed.Statement.{statement}
 use Rattle.writing.proofs.judging.is_signed.Tie as tie
 

@@ -1,5 +1,5 @@
 -- `writing::judging::judge_write` meets its contract: each branch is a case of `judgeOf`. Assumes nothing.
-use mathlib.Core.Path.{_≡_, sym, ap, ap₂, _∙_}
+use mathlib.Core.Path.{_≡_, sym, ap, _∙_}
 use mathlib.Core.Bool.{true}
 use denote.Ref.{now}
 use borrow.Author.Tests.{not-true, not-false, eq-eqb, ne-eqb}
@@ -7,8 +7,7 @@ use Rattle.entry.specs.Table.{Dict, dict}
 use Rattle.lists.specs.Numbers.{number}
 use Rattle.value.specs.Codec.{exact}
 use Rattle.entry.specs.Find.{findRow}
-use Rattle.writing.specs.Judging.{judgeOf, inObject, afterCount, countFirst}
-use native.Mathlib.Omega.{arith}
+use Rattle.writing.specs.Judging.{judgeOf, inObject, afterCount}
 use borrow.Author.Needs.{needs}
 use Rattle.writing.proofs.judging.judge_write.Statement.{statement}
 use Rattle.writing.proofs.judging.judge_write.Tie as tie

@@ -1,7 +1,6 @@
 -- `writing::writing::saved` meets its contract. Assumes nothing.
-use mathlib.Core.Path.{_≡_, sym, ap}
+use mathlib.Core.Path.{sym, ap}
 use Rattle.writing.specs.Writing.{savedAs}
-use native.Mathlib.Omega.{arith}
 use borrow.Author.Needs.{needs}
 use Rattle.writing.proofs.writing.saved.Statement.{statement}
 use Rattle.writing.proofs.writing.saved.Tie as tie

@@ -1,10 +1,7 @@
 -- `writing::writing::write` meets its contract: what was judged is acted on. Assumes nothing.
-use mathlib.Core.Path.{_≡_, sym, ap, ap₂, _∙_}
+use mathlib.Core.Path.{_≡_, sym, ap, _∙_}
 use mathlib.Core.Bool.{true}
-use mathlib.Core.List.{List}
-use Prim.Native.Nat.{ℕ}
 use denote.Ref.{now}
-use lib.ListN.{length}
 use borrow.Author.Tests.{not-true, not-false}
 use Rattle.entry.specs.Table.{Dict, dict}
 use Rattle.entry.specs.Put.{Contents}
@@ -13,10 +10,8 @@ use Rattle.entry.proofs.KeepLaws.{puts-of}
 use Rattle.commands.specs.Save.{After as Saving}
 use Rattle.writing.specs.declared.Judged.{Judged}
 use Rattle.writing.specs.declared.Wrote.the-variants.{Done}
-use Rattle.writing.specs.Judging.{judgeOf}
 use Rattle.writing.specs.Writing.{after, savedAs, actOf, writeOf}
 use Rattle.writing.proofs.PutLaws.{judged-fits, judged-facts}
-use native.Mathlib.Omega.{arith}
 use borrow.Author.Needs.{needs}
 use Rattle.writing.proofs.writing.write.Statement.{statement}
 use Rattle.writing.proofs.writing.write.Tie as tie
