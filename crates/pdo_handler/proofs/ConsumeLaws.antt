@@ -18,8 +18,8 @@ use Rattle.pdo_step.proofs.OutcomeLaws.{step-keeps, step-bytes}
 use Rattle.pdo_step.proofs.MarkLaws.{mark-keeps, mark-bytes}
 use Rattle.pdo_handler.specs.declared.Consumed.the-variants.{Refused}
 use Rattle.pdo_handler.specs.Channel.{firstMatch, expectedOf, rightVersion}
-use Rattle.pdo_handler.specs.Run.{Frame, frame, held, marked, decided, isShort, stopsOf, eventOf, actOf, ran, one, behind, runFrom, listIn, runOn, logged, finished}
-use Rattle.pdo_handler.specs.Consume.{mapVersion, onChannel, consumedBy, after, done, consumeOf}
+use Rattle.pdo_handler.specs.Run.{Frame, frame, held, marked, decided, isShort, stopsOf, eventOf, actOf, ran, one, behind, runFrom, listIn, runOn, finished}
+use Rattle.pdo_handler.specs.Consume.{mapVersion, onChannel, consumedBy, receivedBy, after, done, consumeOf}
 
 -- a well-formed dictionary of bytes
 pub record Sane (f : Frame) (c : Contents) : Type 0 where
@@ -44,7 +44,7 @@ module _ (f : Frame) (b : Bytes (f .payload)) where
   run-sane p (w ∷ ws) j c s = go (eqb (typeAt (f .slots) (p + j)) 8) (stopsOf (decided f w)) (run-sane p ws (j + 1) c s) (run-sane p ws (j + 1) (actOf f c (decided f w)) (act-sane c w s))
     where
       go : (x y : Bool) → Sane f (runFrom f p ws (j + 1) c .contents) → Sane f (runFrom f p ws (j + 1) (actOf f c (decided f w)) .contents)
-          → Sane f (cond x (cond y (ran (actOf f c (decided f w)) (one (eventOf (j + 1) (decided f w)))) (behind (one (eventOf (j + 1) (decided f w))) (runFrom f p ws (j + 1) (actOf f c (decided f w))))) (runFrom f p ws (j + 1) c) .contents)
+          → Sane f (cond x (cond y (ran (actOf f c (decided f w)) (one (eventOf (f .number) (j + 1) (decided f w)))) (behind (one (eventOf (f .number) (j + 1) (decided f w))) (runFrom f p ws (j + 1) (actOf f c (decided f w))))) (runFrom f p ws (j + 1) c) .contents)
       go true true u v = act-sane c w s
       go true false u v = v
       go false y u v = u
@@ -61,7 +61,7 @@ module _ (f : Frame) (b : Bytes (f .payload)) where
   unfolding consumedBy
   consumed-sane c version s = channel (firstMatch (held f c) (f .sender))
     where
-      go : (i : ℕ) (x : Bool) → Sane f (cond x (runOn f c (findRow (f .objects) (0x1600 + i))) (ran (marked f c 0x1C80) (mapVersion ∷ [])) .contents)
+      go : (i : ℕ) (x : Bool) → Sane f (cond x (runOn f c (findRow (f .objects) (0x1600 + i))) (ran (marked f c 0x1C80) (mapVersion (f .number) ∷ [])) .contents)
       go i true = list-sane c s (findRow (f .objects) (0x1600 + i))
       go i false = marked-sane f c 0x1C80 s
 
@@ -69,19 +69,22 @@ module _ (f : Frame) (b : Bytes (f .payload)) where
       channel Nothing = s
       channel (At i) = go i (rightVersion (expectedOf (held f c) i) version)
 
+  pub received-sane : (c : Contents) (version : ℕ) (ready : Bool) → Sane f c → Sane f (receivedBy f c version ready .contents)
+  received-sane c version true s = consumed-sane c version s
+  received-sane c version false s = s
+
 -- ---- the theorem
-pub consume-keeps : (d : Dict) (payload : List ℕ) (sender version : ℕ) (ready : Bool) (log : List ℕ) → wellFormed d ≡ true → Bytes (d .bytes) → Bytes payload → wellFormed (filled d (consumeOf d payload sender version ready log .contents)) ≡ true
+pub consume-keeps : (d : Dict) (payload : List ℕ) (sender version : ℕ) (ready : Bool) (room : ℕ) (log : List ℕ) → wellFormed d ≡ true → Bytes (d .bytes) → Bytes payload → wellFormed (filled d (consumeOf d payload sender version ready room log .contents)) ≡ true
 unfolding consumeOf
-consume-keeps d payload sender version ready log e b bp = rw e (go (ltb (length log) 254) (ltb 1490 (length payload)) ready)
+consume-keeps d payload sender version ready room log e b bp = rw e (go (ltb room 254) (ltb 1490 (length payload)))
   where
     f : Frame
-    f = frame (d .objects) (d .slots) payload sender
+    f = frame (d .objects) (d .slots) payload sender 0
 
     c : Contents
     c = contents (d .words) (d .bytes)
 
-    go : (x y z : Bool) → wellFormed (filled d (cond x (after (Refused NoEventRoom) c log) (cond y (after (Refused PayloadTooLong) c log) (cond z (done (finished (consumedBy f c version) log 0)) (done (logged c log 0)))) .contents)) ≡ true
-    go true y z = e
-    go false true z = e
-    go false false true = consumed-sane f bp c version (record { well = e; bytes = b }) .well
-    go false false false = e
+    go : (x y : Bool) → wellFormed (filled d (cond x (after (Refused NoEventRoom) c log) (cond y (after (Refused PayloadTooLong) c log) (done (finished (receivedBy f c version ready) log 0))) .contents)) ≡ true
+    go true y = e
+    go false true = e
+    go false false = received-sane f bp c version ready (record { well = e; bytes = b }) .well

@@ -25,6 +25,7 @@ use Rattle.pdo_step.specs.Outcomes.{outcomeOf}
 use Rattle.pdo_step.specs.Steps.{applied}
 use Rattle.pdo_step.proofs.OutcomeLaws.{step-keeps}
 use Rattle.pdo_step.proofs.Outcome.{the-type as outcome-type}
+use Rattle.pdo_handler.specs.Consume.{mapVersion}
 use Rattle.pdo_handler.specs.Run.{causeOf, eventOf, stopsOf, isShort, Frame, frame, decided, marked, actOf, Ran, ran, one, behind, runFrom, logged, finished, notedLog, notedCount}
 
 pub cause-small : (f : Fault) → causeOf f < 16
@@ -67,10 +68,10 @@ unfolding actOf
 act-long f c o k = rw (long o k)
 
 -- a word that does not stop the run keeps the dictionary well-formed
-pub act-keeps : (d : Dict) (payload : List ℕ) (sender w : ℕ) → wellFormed d ≡ true → Bytes payload → (o : Outcome) → o ≡ outcomeOf (d .objects) (d .slots) payload w → stopsOf o ≡ false
-    → wellFormed (filled d (actOf (frame (d .objects) (d .slots) payload sender) (contents (d .words) (d .bytes)) o)) ≡ true
+pub act-keeps : (d : Dict) (payload : List ℕ) (sender i w : ℕ) → wellFormed d ≡ true → Bytes payload → (o : Outcome) → o ≡ outcomeOf (d .objects) (d .slots) payload w → stopsOf o ≡ false
+    → wellFormed (filled d (actOf (frame (d .objects) (d .slots) payload sender i) (contents (d .words) (d .bytes)) o)) ≡ true
 unfolding actOf
-act-keeps d payload sender w e b o q s =
+act-keeps d payload sender i w e b o q s =
     rw (goes-on o s) (subst (λ (x : Outcome). wellFormed (filled d (applied (d .slots) payload (contents (d .words) (d .bytes)) x)) ≡ true) (sym q) (step-keeps d payload w e b))
 
 -- ---- the run, one word at a time
@@ -87,11 +88,11 @@ module _ (f : Frame) (p : ℕ) (list : List ℕ) (j : ℕ) (c : Contents) where
   run-over h t = rw (drop-cons list j 0 h, ne-eqb _ 8 t, add-one)
 
   module _ (h : j < length list) (t : typeAt (f .slots) (p + j) ≡ 8) (o : Outcome) (q : o ≡ decided f (getD list j 0)) where
-    pub run-stops : stopsOf o ≡ true → onward ≡ ran (actOf f c o) (one (eventOf (j + 1) o))
+    pub run-stops : stopsOf o ≡ true → onward ≡ ran (actOf f c o) (one (eventOf (f .number) (j + 1) o))
     unfolding runFrom
     run-stops s = rw (drop-cons list j 0 h, eq-eqb _ 8 t, ← q, s)
 
-    pub run-on : stopsOf o ≡ false → onward ≡ behind (one (eventOf (j + 1) o)) (runFrom f p (drop (j + 1) list) (j + 1) (actOf f c o))
+    pub run-on : stopsOf o ≡ false → onward ≡ behind (one (eventOf (f .number) (j + 1) o)) (runFrom f p (drop (j + 1) list) (j + 1) (actOf f c o))
     unfolding runFrom
     run-on s = rw (drop-cons list j 0 h, eq-eqb _ 8 t, ← q, s, add-one)
 
@@ -116,6 +117,10 @@ module _ (l : List ℕ) (n : ℕ) where
           let z : n + suc (length (r .events)) ≡ n + 1 + length (r .events) = omega arith in
           let y : suc n ≡ n + 1 = omega arith in
           rw (over-first l n e (r .events) h, z, y)
+
+-- a wrong version is an event
+pub version-one : (i : ℕ) → one (mapVersion i) ≡ (mapVersion i ∷ [])
+version-one i = rw (ne-eqb (mapVersion i) 0 (λ e. absurd (omega (arith, e))))
 
 pub noted-few : (n e : ℕ) → notedCount n e ≤ n + 1
 noted-few n e = go (eqb e 0)

@@ -51,7 +51,7 @@ setUp w =
 -- a ready payload of node 5, version 12h
 abbrev consumed : ℕ → List ℕ → Ran
 consumed w payload =
-    consumedBy (frame (allObjects (setUp w)) (allSlots 0 (setUp w)) payload 5) (contents (allWords (setUp w)) (allBytes (setUp w))) 0x12
+    consumedBy (frame (allObjects (setUp w)) (allSlots 0 (setUp w)) payload 5 0) (contents (allWords (setUp w)) (allBytes (setUp w))) 0x12
 
 abbrev words : ℕ → ℕ → ℕ → List ℕ
 words w a b = 5 ∷ 0x10 ∷ w ∷ 0x0020001000036200 ∷ 32 ∷ a ∷ 0 ∷ 0 ∷ b ∷ []
@@ -61,12 +61,12 @@ unfolding consumedBy channelFrom runFrom actOf applied outcomeOf onIndex onCount
 case-8 = refl
 
 -- its last byte is missing: element 2 is PayloadShort, cause Frame, and bit 4 of 1C81h's first byte is set
-pub case-9 : consumed 0x0010000000006000 (0xC4 ∷ 0x09 ∷ 0x10 ∷ 0x27 ∷ 0x00 ∷ []) ≡ ran (contents (words 0x0010000000006000 2500 0) (set zeros 0 0x10)) (packed 2 2 0 0 0 ∷ [])
+pub case-9 : consumed 0x0010000000006000 (0xC4 ∷ 0x09 ∷ 0x10 ∷ 0x27 ∷ 0x00 ∷ []) ≡ ran (contents (words 0x0010000000006000 2500 0) (set zeros 0 0x10)) (packed 0 2 2 0 0 0 ∷ [])
 unfolding consumedBy channelFrom runFrom actOf applied outcomeOf onIndex onCount entryOf fieldOf findFrom subAt putIn wordAt sizeOf number allSlots allWords allBytes rowsOf slotsOf wordsOf rooms over markedIn bitAt
 case-9 = refl
 
 -- a length of 8 bits for a U16: element 1 is PayloadShort, cause Value, and no bit is set
-pub case-10 : consumed 0x0008000000006000 (0xC4 ∷ 0x09 ∷ 0x10 ∷ 0x27 ∷ 0x00 ∷ 0x00 ∷ []) ≡ ran (contents (words 0x0008000000006000 0 0) zeros) (packed 3 1 0 0 0 ∷ [])
+pub case-10 : consumed 0x0008000000006000 (0xC4 ∷ 0x09 ∷ 0x10 ∷ 0x27 ∷ 0x00 ∷ 0x00 ∷ []) ≡ ran (contents (words 0x0008000000006000 0 0) zeros) (packed 0 3 1 0 0 0 ∷ [])
 unfolding consumedBy channelFrom runFrom actOf applied outcomeOf onIndex onCount entryOf fieldOf findFrom subAt putIn wordAt sizeOf number allSlots allWords allBytes rowsOf slotsOf wordsOf rooms over markedIn bitAt
 case-10 = refl
 

@@ -17,9 +17,9 @@ use Rattle.pdo_step.specs.Outcomes.{outcomeOf}
 use Rattle.pdo_step.specs.Steps.{applied}
 use Rattle.pdo_step.specs.Bits.{markedIn}
 
--- ---- an event as one number: what it is, its element, and of a hand-off the index, and start and length in bytes
-abbrev pub packed : ℕ → ℕ → ℕ → ℕ → ℕ → ℕ
-packed kind k x start n = kind + 16 * (k + 256 * (x + 65536 * (start + 65536 * n)))
+-- ---- R11.14: an event as one number: its payload's number, what it is, its element, and of a hand-off the index, and start and length in bytes
+abbrev pub packed : ℕ → ℕ → ℕ → ℕ → ℕ → ℕ → ℕ
+packed i kind k x start n = kind + 16 * (k + 256 * (x + 65536 * (start + 8192 * (n + 8192 * i))))
 
 -- "PayloadShort, cause Value, Text or Odd"
 abbrev pub causeOf : Fault → ℕ
@@ -28,17 +28,17 @@ causeOf fault.Text = 4
 causeOf fault.Odd = 5
 
 -- R11.5: the column "Event"; 0 where there is none
-abbrev pub eventOf : ℕ → Outcome → ℕ
-eventOf k outcome.Misaligned = 0
-eventOf k outcome.Short = packed 2 k 0 0 0
-eventOf k (outcome.Server x start n) = packed 6 k x start n
-eventOf k (outcome.Client x start n) = packed 7 k x start n
-eventOf k outcome.NoTarget = 0
-eventOf k outcome.Count = 0
-eventOf k outcome.CountRefused = packed 8 k 0 0 0
-eventOf k (outcome.Undecodable f) = packed (causeOf f) k 0 0 0
-eventOf k outcome.TooLong = packed 9 k 0 0 0
-eventOf k (outcome.Stored p start n) = 0
+abbrev pub eventOf : ℕ → ℕ → Outcome → ℕ
+eventOf i k outcome.Misaligned = 0
+eventOf i k outcome.Short = packed i 2 k 0 0 0
+eventOf i k (outcome.Server x start n) = packed i 6 k x start n
+eventOf i k (outcome.Client x start n) = packed i 7 k x start n
+eventOf i k outcome.NoTarget = 0
+eventOf i k outcome.Count = 0
+eventOf i k outcome.CountRefused = packed i 8 k 0 0 0
+eventOf i k (outcome.Undecodable f) = packed i (causeOf f) k 0 0 0
+eventOf i k outcome.TooLong = packed i 9 k 0 0 0
+eventOf i k (outcome.Stored p start n) = 0
 
 -- the column "Then"
 abbrev pub stopsOf : Outcome → Bool
@@ -66,15 +66,16 @@ isShort (outcome.Undecodable f) = false
 isShort outcome.TooLong = false
 isShort (outcome.Stored p start n) = false
 
--- ---- what the words are held against: the dictionary's shape, the payload and the sender
+-- ---- what the words are held against: the dictionary's shape, the payload, its sender and its number
 pub record Frame : Type 0 where
   pub objects : List ℕ
   pub slots : List ℕ
   pub payload : List ℕ
   pub sender : ℕ
+  pub number : ℕ
 
-abbrev pub frame : List ℕ → List ℕ → List ℕ → ℕ → Frame
-frame objects slots payload sender = record { objects = objects; slots = slots; payload = payload; sender = sender }
+abbrev pub frame : List ℕ → List ℕ → List ℕ → ℕ → ℕ → Frame
+frame objects slots payload sender i = record { objects = objects; slots = slots; payload = payload; sender = sender; number = i }
 
 abbrev pub decided : Frame → ℕ → Outcome
 decided f w = outcomeOf (f .objects) (f .slots) (f .payload) w
@@ -111,8 +112,8 @@ runFrom f p [] j c = ran c []
 runFrom f p (w ∷ ws) j c =
     cond (eqb (typeAt (f .slots) (p + j)) 8)
     (cond (stopsOf (decided f w))
-    (ran (actOf f c (decided f w)) (one (eventOf (j + 1) (decided f w))))
-    (behind (one (eventOf (j + 1) (decided f w))) (runFrom f p ws (j + 1) (actOf f c (decided f w)))))
+    (ran (actOf f c (decided f w)) (one (eventOf (f .number) (j + 1) (decided f w))))
+    (behind (one (eventOf (f .number) (j + 1) (decided f w))) (runFrom f p ws (j + 1) (actOf f c (decided f w)))))
     (runFrom f p ws (j + 1) c)
 
 -- R11.4: the words of the list in row r, "gathered before the first write"

@@ -1,23 +1,24 @@
 // Consuming a payload: its channel, its version, its words.
 ghost use mathlib.Core.Path.{_≡_};
 ghost use mathlib.Core.Bool.{true};
-ghost use Prim.Native.Nat.{_≤_};
+ghost use Prim.Native.Nat.{_+_, _<_, _≤_};
 ghost use lib.ListN.{length};
 ghost use Rattle.entry.specs.Table.{dict};
 ghost use Rattle.entry.specs.Judge.{wellFormed};
 ghost use Rattle.entry.specs.Put.{contents};
 ghost use Rattle.pdo_handler.specs.Run.{frame, logged, finished};
-ghost use Rattle.pdo_handler.specs.Consume.{consumedBy, after, consumeOf};
+ghost use Rattle.pdo_handler.specs.Consume.{consumedBy, receivedBy, after, consumeOf};
 use crate::Consumed;
 use crate::channel::first_match;
 use crate::channel::right_version;
 use crate::channel::version_of;
 use crate::running::note;
+use crate::running::packed;
 use crate::running::run_list;
 use answers::Refusal;
 use entry::Found;
 
-// A payload that is ready; the number of events in the log.
+// A payload that is ready; the number of events in the log, where so many had begun it.
 fn consume_ready(
     objects: &[u64],
     slots: &[u64],
@@ -26,14 +27,16 @@ fn consume_ready(
     payload: &[u8],
     sender: u8,
     version: u8,
+    number: u64,
     log: &mut [u64],
+    begun: usize,
 ) -> usize
     requires { ⌜ wellFormed (dict (now objects) (now slots) (now words) (now bytes)) ≡ true ⌝ }
-    requires { ⌜ 254 ≤ length (now log) ⌝ }
-    ensures { λ n. ⌜ logged (contents (now (words .exit)) (now (bytes .exit))) (now (log .exit)) n ≡ finished (consumedBy (frame (now (objects .entry)) (now (slots .entry)) (now (payload .entry)) sender) (contents (now (words .entry)) (now (bytes .entry))) version) (now (log .entry)) 0 ⌝ }
+    requires { ⌜ (length (now payload) ≤ 1490) × (number < 1024) × (begun + 254 ≤ length (now log)) ⌝ }
+    ensures { λ n. ⌜ logged (contents (now (words .exit)) (now (bytes .exit))) (now (log .exit)) n ≡ finished (consumedBy (frame (now (objects .entry)) (now (slots .entry)) (now (payload .entry)) sender number) (contents (now (words .entry)) (now (bytes .entry))) version) (now (log .entry)) begun ⌝ }
 {
     let Found::At(i) = first_match(objects, slots, words, bytes, sender) else {
-        return 0;
+        return begun;
     };
     let expected = version_of(objects, slots, words, bytes, i);
     if right_version(expected, version) {
@@ -44,16 +47,18 @@ fn consume_ready(
             bytes,
             payload,
             sender,
+            number,
             0x1600 + i as u16,
             log,
+            begun,
         );
     }
     pdo_step::set_bit(objects, slots, words, bytes, 0x1C80, sender);
-    note(log, 0, 1)
+    note(log, begun, packed(number, 1, 0, 0, 0, 0))
 }
 
-// Consumes a payload; each event is a number of the log, from the first on.
-pub fn consume_pdo_payload(
+// A payload, ready or not.
+pub fn receive(
     objects: &[u64],
     slots: &[u64],
     words: &mut [u64],
@@ -62,21 +67,67 @@ pub fn consume_pdo_payload(
     sender: u8,
     version: u8,
     ready: bool,
+    number: u64,
+    log: &mut [u64],
+    begun: usize,
+) -> usize
+    requires { ⌜ wellFormed (dict (now objects) (now slots) (now words) (now bytes)) ≡ true ⌝ }
+    requires { ⌜ (length (now payload) ≤ 1490) × (number < 1024) × (begun + 254 ≤ length (now log)) ⌝ }
+    ensures { λ n. ⌜ logged (contents (now (words .exit)) (now (bytes .exit))) (now (log .exit)) n ≡ finished (receivedBy (frame (now (objects .entry)) (now (slots .entry)) (now (payload .entry)) sender number) (contents (now (words .entry)) (now (bytes .entry))) version ready) (now (log .entry)) begun ⌝ }
+{
+    if !ready {
+        return begun;
+    }
+    consume_ready(
+        objects,
+        slots,
+        words,
+        bytes,
+        payload,
+        sender,
+        version,
+        number,
+        log,
+        begun,
+    )
+}
+
+// Consumes a payload, where the event list has room for so many records; each event is a number of the log, from the first on.
+pub fn consume_logged(
+    objects: &[u64],
+    slots: &[u64],
+    words: &mut [u64],
+    bytes: &mut [u8],
+    payload: &[u8],
+    sender: u8,
+    version: u8,
+    ready: bool,
+    room: usize,
     log: &mut [u64],
 ) -> Consumed
-    ensures { λ r. ⌜ after r (contents (now (words .exit)) (now (bytes .exit))) (now (log .exit)) ≡ consumeOf (dict (now (objects .entry)) (now (slots .entry)) (now (words .entry)) (now (bytes .entry))) (now (payload .entry)) sender version ready (now (log .entry)) ⌝ }
+    requires { ⌜ (254 ≤ room → 254 ≤ length (now log)) ⌝ }
+    ensures { λ r. ⌜ after r (contents (now (words .exit)) (now (bytes .exit))) (now (log .exit)) ≡ consumeOf (dict (now (objects .entry)) (now (slots .entry)) (now (words .entry)) (now (bytes .entry))) (now (payload .entry)) sender version ready room (now (log .entry)) ⌝ }
 {
     if !entry::well_formed(objects, slots, words, bytes) {
         return Consumed::Refused(Refusal::Malformed);
     }
-    if log.len() < 254 {
+    if room < 254 {
         return Consumed::Refused(Refusal::NoEventRoom);
     }
     if 1490 < payload.len() {
         return Consumed::Refused(Refusal::PayloadTooLong);
     }
-    if !ready {
-        return Consumed::Done(0);
-    }
-    Consumed::Done(consume_ready(objects, slots, words, bytes, payload, sender, version, log))
+    Consumed::Done(receive(
+        objects,
+        slots,
+        words,
+        bytes,
+        payload,
+        sender,
+        version,
+        ready,
+        0,
+        log,
+        0,
+    ))
 }

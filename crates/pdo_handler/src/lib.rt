@@ -8,7 +8,7 @@ use answers::Refusal;
 pub use channel::first_match;
 pub use channel::right_version;
 pub use channel::version_of;
-pub use consuming::consume_pdo_payload;
+pub use consuming::consume_logged;
 pub use errors::update_pdo_error_object;
 
 // How many events there are, or why nothing was consumed.

@@ -1,7 +1,7 @@
 // The gathered words of a channel, in turn.
 ghost use mathlib.Core.Path.{_≡_};
 ghost use mathlib.Core.Bool.{true};
-ghost use Prim.Native.Nat.{_+_, _<_, _≤_};
+ghost use Prim.Native.Nat.{ℕ, _+_, _<_, _≤_};
 ghost use lib.ListN.{length, take, drop};
 ghost use Rattle.entry.specs.Table.{dict, numberOf, valuesOf};
 ghost use Rattle.entry.specs.Find.{findRow};
@@ -14,11 +14,12 @@ use pdo_step::Outcome;
 use value::Fault;
 
 // An event as one number.
-fn packed(kind: u64, k: u64, index: u16, start: usize, len: usize) -> u64
-    requires { ⌜ (kind < 16) × (k < 256) × (start < 16384) × (len < 16384) ⌝ }
-    ensures { λ r. ⌜ r ≡ packed kind k index start len ⌝ }
+pub fn packed(number: u64, kind: u64, k: u64, index: u16, start: usize, len: usize) -> u64
+    requires { ⌜ (number < 1024) × (kind < 16) × (k < 256) × (start + len < 8192) ⌝ }
+    ensures { λ r. ⌜ r ≡ packed number kind k index start len ⌝ }
 {
-    kind + 16 * (k + 256 * (index as u64 + 65536 * (start as u64 + 65536 * len as u64)))
+    let field = start as u64 + 8192 * (len as u64 + 8192 * number);
+    kind + 16 * (k + 256 * (index as u64 + 65536 * field))
 }
 
 fn cause(f: Fault) -> u64
@@ -61,20 +62,20 @@ fn stops(o: Outcome) -> bool
 }
 
 // The event of element k, or 0.
-fn event_of(k: u64, o: Outcome) -> u64
-    requires { ⌜ (k < 256) × (reach o ≤ 16382) ⌝ }
-    ensures { λ r. ⌜ r ≡ eventOf k o ⌝ }
+fn event_of(number: u64, k: u64, o: Outcome) -> u64
+    requires { ⌜ (number < 1024) × (k < 256) × (reach o < 8192) ⌝ }
+    ensures { λ r. ⌜ r ≡ eventOf number k o ⌝ }
 {
     match o {
         Outcome::Misaligned => 0,
-        Outcome::Short => packed(2, k, 0, 0, 0),
-        Outcome::Server { index, start, len } => packed(6, k, index, start, len),
-        Outcome::Client { index, start, len } => packed(7, k, index, start, len),
+        Outcome::Short => packed(number, 2, k, 0, 0, 0),
+        Outcome::Server { index, start, len } => packed(number, 6, k, index, start, len),
+        Outcome::Client { index, start, len } => packed(number, 7, k, index, start, len),
         Outcome::NoTarget => 0,
         Outcome::Count => 0,
-        Outcome::CountRefused => packed(8, k, 0, 0, 0),
-        Outcome::Undecodable(f) => packed(cause(f), k, 0, 0, 0),
-        Outcome::TooLong => packed(9, k, 0, 0, 0),
+        Outcome::CountRefused => packed(number, 8, k, 0, 0, 0),
+        Outcome::Undecodable(f) => packed(number, cause(f), k, 0, 0, 0),
+        Outcome::TooLong => packed(number, 9, k, 0, 0, 0),
         Outcome::Stored {
             p: _,
             start: _,
@@ -107,7 +108,7 @@ fn act_on(
 ) -> Outcome
     requires { ⌜ wellFormed (dict (now objects) (now slots) (now words) (now bytes)) ≡ true ⌝ }
     ensures outcome { λ r. ⌜ r ≡ outcomeOf (now (objects .entry)) (now (slots .entry)) (now (payload .entry)) word ⌝ }
-    ensures held { λ r. ⌜ contents (now (words .exit)) (now (bytes .exit)) ≡ actOf (frame (now (objects .entry)) (now (slots .entry)) (now (payload .entry)) sender) (contents (now (words .entry)) (now (bytes .entry))) r ⌝ }
+    ensures held { λ r. ⌜ ((number : ℕ) → contents (now (words .exit)) (now (bytes .exit)) ≡ actOf (frame (now (objects .entry)) (now (slots .entry)) (now (payload .entry)) sender number) (contents (now (words .entry)) (now (bytes .entry))) r) ⌝ }
 {
     let o = pdo_step::step(objects, slots, words, bytes, payload, word);
     if let Outcome::Short = o {
@@ -116,7 +117,7 @@ fn act_on(
     o
 }
 
-// The words of a list in turn, until one stops; the number of events in the log.
+// The words of a list in turn, until one stops; the number of events in the log, where so many had begun it.
 fn run(
     objects: &[u64],
     slots: &[u64],
@@ -124,15 +125,17 @@ fn run(
     bytes: &mut [u8],
     payload: &[u8],
     sender: u8,
+    number: u64,
     first: usize,
     list: &[u64],
     log: &mut [u64],
+    begun: usize,
 ) -> usize
     requires { ⌜ wellFormed (dict (now objects) (now slots) (now words) (now bytes)) ≡ true ⌝ }
-    requires { ⌜ (first + length (now list) ≤ valuesOf (now objects)) × (length (now list) ≤ 254) × (length (now list) ≤ length (now log)) ⌝ }
-    ensures { λ r. ⌜ logged (contents (now (words .exit)) (now (bytes .exit))) (now (log .exit)) r ≡ finished (runFrom (frame (now (objects .entry)) (now (slots .entry)) (now (payload .entry)) sender) first (now (list .entry)) 0 (contents (now (words .entry)) (now (bytes .entry)))) (now (log .entry)) 0 ⌝ }
+    requires { ⌜ (first + length (now list) ≤ valuesOf (now objects)) × (length (now list) ≤ 254) × (length (now payload) ≤ 1490) × (number < 1024) × (begun + length (now list) ≤ length (now log)) ⌝ }
+    ensures { λ r. ⌜ logged (contents (now (words .exit)) (now (bytes .exit))) (now (log .exit)) r ≡ finished (runFrom (frame (now (objects .entry)) (now (slots .entry)) (now (payload .entry)) sender number) first (now (list .entry)) 0 (contents (now (words .entry)) (now (bytes .entry)))) (now (log .entry)) begun ⌝ }
 {
-    let mut n = 0;
+    let mut n = begun;
     let mut j = 0;
     while j < list.len() {
         if entry::type_at(slots, first + j) != 8 {
@@ -140,7 +143,7 @@ fn run(
             continue;
         }
         let o = act_on(objects, slots, words, bytes, payload, sender, list[j]);
-        n = note(log, n, event_of(j as u64 + 1, o));
+        n = note(log, n, event_of(number, j as u64 + 1, o));
         if stops(o) {
             return n;
         }
@@ -171,12 +174,14 @@ fn run_row(
     bytes: &mut [u8],
     payload: &[u8],
     sender: u8,
+    number: u64,
     r: usize,
     log: &mut [u64],
+    begun: usize,
 ) -> usize
     requires { ⌜ wellFormed (dict (now objects) (now slots) (now words) (now bytes)) ≡ true ⌝ }
-    requires { ⌜ (r < numberOf (now objects)) × (254 ≤ length (now log)) ⌝ }
-    ensures { λ n. ⌜ logged (contents (now (words .exit)) (now (bytes .exit))) (now (log .exit)) n ≡ finished (runIn (frame (now (objects .entry)) (now (slots .entry)) (now (payload .entry)) sender) (contents (now (words .entry)) (now (bytes .entry))) r) (now (log .entry)) 0 ⌝ }
+    requires { ⌜ (r < numberOf (now objects)) × (length (now payload) ≤ 1490) × (number < 1024) × (begun + 254 ≤ length (now log)) ⌝ }
+    ensures { λ n. ⌜ logged (contents (now (words .exit)) (now (bytes .exit))) (now (log .exit)) n ≡ finished (runIn (frame (now (objects .entry)) (now (slots .entry)) (now (payload .entry)) sender number) (contents (now (words .entry)) (now (bytes .entry))) r) (now (log .entry)) begun ⌝ }
 {
     let first = entry::first_at(objects, r) as usize;
     let n = entry::count_at(objects, r) as usize;
@@ -188,9 +193,11 @@ fn run_row(
         bytes,
         payload,
         sender,
+        number,
         first,
         &list[..n],
         log,
+        begun,
     )
 }
 
@@ -202,18 +209,31 @@ pub fn run_list(
     bytes: &mut [u8],
     payload: &[u8],
     sender: u8,
+    number: u64,
     index: u16,
     log: &mut [u64],
+    begun: usize,
 ) -> usize
     requires { ⌜ wellFormed (dict (now objects) (now slots) (now words) (now bytes)) ≡ true ⌝ }
-    requires { ⌜ 254 ≤ length (now log) ⌝ }
-    ensures { λ n. ⌜ logged (contents (now (words .exit)) (now (bytes .exit))) (now (log .exit)) n ≡ finished (runOn (frame (now (objects .entry)) (now (slots .entry)) (now (payload .entry)) sender) (contents (now (words .entry)) (now (bytes .entry))) (findRow (now (objects .entry)) index)) (now (log .entry)) 0 ⌝ }
+    requires { ⌜ (length (now payload) ≤ 1490) × (number < 1024) × (begun + 254 ≤ length (now log)) ⌝ }
+    ensures { λ n. ⌜ logged (contents (now (words .exit)) (now (bytes .exit))) (now (log .exit)) n ≡ finished (runOn (frame (now (objects .entry)) (now (slots .entry)) (now (payload .entry)) sender number) (contents (now (words .entry)) (now (bytes .entry))) (findRow (now (objects .entry)) index)) (now (log .entry)) begun ⌝ }
 {
     let Found::At(r) = entry::find(objects, index) else {
-        return 0;
+        return begun;
     };
     if entry::kind_at(objects, r) == 0 {
-        return 0;
+        return begun;
     }
-    run_row(objects, slots, words, bytes, payload, sender, r, log)
+    run_row(
+        objects,
+        slots,
+        words,
+        bytes,
+        payload,
+        sender,
+        number,
+        r,
+        log,
+        begun,
+    )
 }

@@ -106,45 +106,45 @@ module _ (d : Dict) (payload : List ℕ) (p a n : ℕ) where
       fielded field.Misaligned q e = let z : _≡_ {A = ℕ} 0 1 = cc in absurd (omega arith)
       fielded (field.Whole b m) q e = short b m q (ltb (length payload) (b + m)) refl e
 
--- ---- fields end within what a word can say
+-- ---- a field ends within the payload
 module _ (objects slots payload : List ℕ) (w : ℕ) where
-  reach-value : (q b m : ℕ) → b + m ≤ 16382 → (v : Word) → reach (onValue slots q b m v) ≤ 16382
+  reach-value : (q b m : ℕ) → b + m ≤ length payload → (v : Word) → reach (onValue slots q b m v) ≤ length payload
   reach-value q b m h (Fails f) = omega arith
   reach-value q b m h (Takes v) = go (isText (typeAt slots q) && ltb (roomAt slots q) m)
     where
-      go : (c : Bool) → reach (cond c outcome.TooLong (outcome.Stored q b m)) ≤ 16382
+      go : (c : Bool) → reach (cond c outcome.TooLong (outcome.Stored q b m)) ≤ length payload
       go true = omega arith
       go false = h
 
-  reach-place : (x b m : ℕ) → b + m ≤ 16382 → (q : Place) → reach (onPlace slots payload x b m q) ≤ 16382
+  reach-place : (x b m : ℕ) → b + m ≤ length payload → (q : Place) → reach (onPlace slots payload x b m q) ≤ length payload
   unfolding onCount
   reach-place x b m h NoObject = omega arith
   reach-place x b m h NoSub = omega arith
   reach-place x b m h (Count n) = go (eqb m 0) (isMapping x)
     where
-      go : (c e : Bool) → reach (cond c (outcome.Undecodable fault.Value) (cond e outcome.Count outcome.CountRefused)) ≤ 16382
+      go : (c e : Bool) → reach (cond c (outcome.Undecodable fault.Value) (cond e outcome.Count outcome.CountRefused)) ≤ length payload
       go true e = omega arith
       go false true = omega arith
       go false false = omega arith
   reach-place x b m h (Value q) = reach-value q b m h (wordAt (typeAt slots q) (part payload b m))
 
-  pub reach-small : reach (outcomeOf objects slots payload w) ≤ 16382
+  pub reach-within : reach (outcomeOf objects slots payload w) ≤ length payload
   unfolding outcomeOf onIndex
-  reach-small = fielded (fieldOf (entryOf w)) refl
+  reach-within = fielded (fieldOf (entryOf w))
     where
       e : PdoMappingEntry
       e = entryOf w
 
-      go : (b m : ℕ) → b + m ≤ 16382 → (short server client : Bool)
-          → reach (cond short outcome.Short (cond server (outcome.Server (e .index) b m) (cond client (outcome.Client (e .index) b m) (onPlace slots payload (e .index) b m (placeOf objects (e .index) (e .«sub_index»)))))) ≤ 16382
-      go b m h true s c = omega arith
-      go b m h false true c = h
-      go b m h false false true = h
-      go b m h false false false = reach-place (e .index) b m h (placeOf objects (e .index) (e .«sub_index»))
+      go : (b m : ℕ) (short server client : Bool) → ltb (length payload) (b + m) ≡ short
+          → reach (cond short outcome.Short (cond server (outcome.Server (e .index) b m) (cond client (outcome.Client (e .index) b m) (onPlace slots payload (e .index) b m (placeOf objects (e .index) (e .«sub_index»)))))) ≤ length payload
+      go b m true s c h = omega arith
+      go b m false true c h = ltb-false (length payload) (b + m) h
+      go b m false false true h = ltb-false (length payload) (b + m) h
+      go b m false false false h = reach-place (e .index) b m (ltb-false (length payload) (b + m) h) (placeOf objects (e .index) (e .«sub_index»))
 
-      fielded : (f : Field) → fieldOf (entryOf w) ≡ f → reach (onField objects slots payload (entryOf w) f) ≤ 16382
-      fielded field.Misaligned q = omega arith
-      fielded (field.Whole b m) q = go b m (whole-field (entryOf w) (entry-in-range w) b m q .end-small) (ltb (length payload) (b + m)) (within 0x1200 0x127F (e .index)) (within 0x1280 0x12FF (e .index))
+      fielded : (f : Field) → reach (onField objects slots payload (entryOf w) f) ≤ length payload
+      fielded field.Misaligned = omega arith
+      fielded (field.Whole b m) = go b m (ltb (length payload) (b + m)) (within 0x1200 0x127F (e .index)) (within 0x1280 0x12FF (e .index)) refl
 
 -- ---- a step keeps the dictionary well-formed
 pub step-keeps : (d : Dict) (payload : List ℕ) (w : ℕ) → wellFormed d ≡ true → Bytes payload → wellFormed (filled d (applied (d .slots) payload (contents (d .words) (d .bytes)) (outcomeOf (d .objects) (d .slots) payload w))) ≡ true

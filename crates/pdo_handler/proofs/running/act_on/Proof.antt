@@ -54,7 +54,7 @@ returns c =
     let p = e .before .before .before .before .before .before in
     let s = start p in
     let a = s .args in
-    (p .step .ensures .0, ap (contents _) (b .set-bit .ensures) ∙ ap (λ (x : Contents). contents (x .words) (markedIn (now (a .objects)) (now (a .slots)) (x .words) (x .bytes) 0x1C81 (a .sender))) (kept e) ∙ sym (act-short (frame (now (a .objects)) (now (a .slots)) (now (a .payload)) (a .sender)) (contents (now (a .words)) (now (a .bytes))) _ (e .enum-told .given .1)))
+    (p .step .ensures .0, λ i. ap (contents _) (b .set-bit .ensures) ∙ ap (λ (x : Contents). contents (x .words) (markedIn (now (a .objects)) (now (a .slots)) (x .words) (x .bytes) 0x1C81 (a .sender))) (kept e) ∙ sym (act-short (frame (now (a .objects)) (now (a .slots)) (now (a .payload)) (a .sender) i) (contents (now (a .words)) (now (a .bytes))) _ (e .enum-told .given .1)))
 
 same-length-3 : tie.Need-same-length-3
 same-length-3 c = search needs
@@ -66,7 +66,7 @@ returns-2 : tie.Need-returns-2
 returns-2 c =
     let p = c .before .before .before .before .before in
     let a = start p .args in
-    (p .step .ensures .0, p .step .ensures .1 ∙ act-long (frame (now (a .objects)) (now (a .slots)) (now (a .payload)) (a .sender)) (contents (now (a .words)) (now (a .bytes))) _ (c .match .keys2))
+    (p .step .ensures .0, λ i. p .step .ensures .1 ∙ act-long (frame (now (a .objects)) (now (a .slots)) (now (a .payload)) (a .sender) i) (contents (now (a .words)) (now (a .bytes))) _ (c .match .keys2))
 
 pub act-on-spec : {M : Type 1} → statement M
 act-on-spec =

@@ -24,7 +24,7 @@ packed-requires-2 : tie.Need-packed-requires-2
 packed-requires-2 c κs =
     let o = c .before in
     let s = o .before .before in
-    (omega arith, s .pre .0, omega (arith, ap reach (o .o .given .1), s .pre .1), omega (arith, ap reach (o .o .given .1), s .pre .1))
+    (s .pre .0, omega arith, s .pre .1, omega (arith, ap reach (o .o .given .1), s .pre .2))
 
 enum-known-o-2 : tie.Need-enum-known-o-2
 enum-known-o-2 c = search needs
@@ -33,7 +33,7 @@ packed-requires-3 : tie.Need-packed-requires-3
 packed-requires-3 c κs =
     let o = c .before in
     let s = o .before .before in
-    (omega arith, s .pre .0, omega (arith, ap reach (o .o2 .given .1), s .pre .1), omega (arith, ap reach (o .o2 .given .1), s .pre .1))
+    (s .pre .0, omega arith, s .pre .1, omega (arith, ap reach (o .o2 .given .1), s .pre .2))
 
 enum-told-3 : tie.Need-enum-told-3
 enum-told-3 c = search needs
@@ -56,7 +56,8 @@ cause-requires c κs = search needs
 packed-requires-5 : tie.Need-packed-requires-5
 packed-requires-5 c κs =
     let o = c .before .before in
-    (omega (arith, c .cause .ensures, cause-small (o .o3 .given .0 .0)), o .before .before .pre .0, omega arith, omega arith)
+    let s = o .before .before in
+    (s .pre .0, omega (arith, c .cause .ensures, cause-small (o .o3 .given .0 .0)), s .pre .1, omega arith)
 
 enum-told-6 : tie.Need-enum-told-6
 enum-told-6 c = search needs
@@ -71,13 +72,13 @@ returns : tie.Need-returns
 returns c = search needs
 
 returns-2 : tie.Need-returns-2
-returns-2 c = c .packed .ensures ∙ ap (eventOf _) (sym (c .before .enum-told2 .given .1))
+returns-2 c = c .packed .ensures ∙ ap (eventOf _ _) (sym (c .before .enum-told2 .given .1))
 
 returns-3 : tie.Need-returns-3
-returns-3 c = c .packed2 .ensures ∙ ap (eventOf _) (sym (c .before .before .o .given .1))
+returns-3 c = c .packed2 .ensures ∙ ap (eventOf _ _) (sym (c .before .before .o .given .1))
 
 returns-4 : tie.Need-returns-4
-returns-4 c = c .packed3 .ensures ∙ ap (eventOf _) (sym (c .before .before .o2 .given .1))
+returns-4 c = c .packed3 .ensures ∙ ap (eventOf _ _) (sym (c .before .before .o2 .given .1))
 
 returns-5 : tie.Need-returns-5
 returns-5 c = search needs
@@ -86,13 +87,13 @@ returns-6 : tie.Need-returns-6
 returns-6 c = search needs
 
 returns-7 : tie.Need-returns-7
-returns-7 c = c .packed4 .ensures ∙ ap (eventOf _) (sym (c .before .enum-told5 .given .1))
+returns-7 c = c .packed4 .ensures ∙ ap (eventOf _ _) (sym (c .before .enum-told5 .given .1))
 
 returns-8 : tie.Need-returns-8
-returns-8 c = let q = c .before in c .packed5 .ensures ∙ ap (λ m. packed m (q .before .before .before .before .args .k) 0 0 0) (q .cause .ensures) ∙ ap (eventOf _) (sym (q .before .before .o3 .given .1))
+returns-8 c = let q = c .before in let a = q .before .before .before .before .args in c .packed5 .ensures ∙ ap (λ m. packed (a .number) m (a .k) 0 0 0) (q .cause .ensures) ∙ ap (eventOf _ _) (sym (q .before .before .o3 .given .1))
 
 returns-9 : tie.Need-returns-9
-returns-9 c = c .packed6 .ensures ∙ ap (eventOf _) (sym (c .before .enum-told6 .given .1))
+returns-9 c = c .packed6 .ensures ∙ ap (eventOf _ _) (sym (c .before .enum-told6 .given .1))
 
 returns-10 : tie.Need-returns-10
 returns-10 c = search needs

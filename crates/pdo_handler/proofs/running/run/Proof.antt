@@ -3,7 +3,7 @@ use mathlib.Core.Path.{_≡_, refl, sym, ap, ap₂, _∙_, subst}
 use mathlib.Core.Bool.{true}
 use Prim.Native.Nat.{_+_, _-_, _≤_, _<_}
 use denote.Ref.{now}
-use lib.ListN.{length, drop}
+use lib.ListN.{length, drop, getD}
 use Rattle.lists.specs.Numbers.{Bytes}
 use Rattle.entry.specs.Table.{Dict, dict, typeAt}
 use Rattle.entry.specs.Judge.{wellFormed}
@@ -11,7 +11,7 @@ use Rattle.entry.specs.Put.{Contents, contents}
 use Rattle.entry.proofs.ValueLaws.{ValueFacts, every-value}
 use Rattle.pdo_step.specs.declared.Outcome.{Outcome}
 use Rattle.pdo_step.specs.Outcomes.{reach}
-use Rattle.pdo_step.proofs.OutcomeLaws.{reach-small}
+use Rattle.pdo_step.proofs.OutcomeLaws.{reach-within}
 use Rattle.pdo_handler.specs.Run.{Logged, Frame, frame, eventOf, actOf, runFrom, logged, finished, notedLog, notedCount}
 use Rattle.pdo_handler.proofs.RunLaws.{act-keeps, run-end, run-over, run-stops, run-on, finished-none, finished-one, finished-behind, noted-few}
 use native.Mathlib.Omega.{arith}
@@ -20,24 +20,24 @@ use Rattle.pdo_handler.proofs.running.run.Statement.{statement}
 use Rattle.pdo_handler.proofs.running.run.Tie as tie
 
 abbrev Inv-loop : tie.InvT-loop
-Inv-loop objects slots words₀ bytes₀ payload sender first list log₀ n₀ j₀ words bytes log n j =
-    let f = frame objects slots payload sender in
+Inv-loop objects slots words₀ bytes₀ payload sender number first list log₀ begun n₀ j₀ words bytes log n j =
+    let f = frame objects slots payload sender number in
     (j ≤ length list)
-    × (n ≤ j)
+    × (n ≤ begun + j)
     × (length words ≡ length words₀)
     × (length bytes ≡ length bytes₀)
     × (length log ≡ length log₀)
     × (wellFormed (dict objects slots words bytes) ≡ true)
-    × (finished (runFrom f first (drop j list) j (contents words bytes)) log n ≡ finished (runFrom f first list 0 (contents words₀ bytes₀)) log₀ 0)
+    × (finished (runFrom f first (drop j list) j (contents words bytes)) log n ≡ finished (runFrom f first list 0 (contents words₀ bytes₀)) log₀ begun)
 
 abbrev μ-loop : tie.MeasureT-loop
-μ-loop objects slots words₀ bytes₀ payload sender first list log₀ n₀ j₀ words bytes log n j = length list - j
+μ-loop objects slots words₀ bytes₀ payload sender number first list log₀ begun n₀ j₀ words bytes log n j = length list - j
 
 abbrev D : tie.Start Inv-loop μ-loop → Dict
 D s = dict (now (s .args .objects)) (now (s .args .slots)) (now (s .args .words)) (now (s .args .bytes))
 
 abbrev F : tie.Start Inv-loop μ-loop → Frame
-F s = frame (now (s .args .objects)) (now (s .args .slots)) (now (s .args .payload)) (s .args .sender)
+F s = frame (now (s .args .objects)) (now (s .args .slots)) (now (s .args .payload)) (s .args .sender) (s .args .number)
 
 abbrev begin : tie.At-loop Inv-loop μ-loop → tie.Start Inv-loop μ-loop
 begin l = l .before .before .before .before .before .before .before .before
@@ -55,16 +55,16 @@ eight : (a : tie.After-act-on Inv-loop μ-loop) → let s = begin (turn a .befor
 eight a = let e = a .before .before .before .before in sym (e .before .type-at .ensures) ∙ e .if1 .left
 
 roomy : (i : tie.In-loop Inv-loop μ-loop) → i .before .loop .n < length (i .before .loop .log)
-roomy i = let l = i .before in omega (arith, i .loop-test .taken, begin l .pre .1 .2, l .loop .inv .1, l .loop .inv .4)
+roomy i = let l = i .before in omega (arith, i .loop-test .taken, begin l .pre .1 .4, l .loop .inv .1, l .loop .inv .4)
 
 -- what was acted and noted, as one equation
-same : (t : tie.After-note Inv-loop μ-loop) → let a = acted t in let l = turn a .before in let o = a .act-on .result in let e = eventOf (l .loop .j + 1) o in
+same : (t : tie.After-note Inv-loop μ-loop) → let a = acted t in let l = turn a .before in let o = a .act-on .result in let e = eventOf (begin l .args .number) (l .loop .j + 1) o in
     logged (contents (a .act-on .last .1 .1 .0) (a .act-on .last .1 .1 .1 .0)) (t .note .last .0) (t .note .result) ≡ logged (actOf (F (begin l)) (contents (l .loop .words) (l .loop .bytes)) o) (notedLog (l .loop .log) (l .loop .n) e) (notedCount (l .loop .n) e)
 same t =
     let a = acted t in
     let l = turn a .before in
     let e = t .before .event-of .ensures in
-    ap (λ (x : Contents). logged x (t .note .last .0) (t .note .result)) (a .act-on .ensures .1)
+    ap (λ (x : Contents). logged x (t .note .last .0) (t .note .result)) (a .act-on .ensures .1 (begin l .args .number))
     ∙ ap₂ (λ x y. logged (actOf (F (begin l)) (contents (l .loop .words) (l .loop .bytes)) (a .act-on .result)) x y) (t .note .ensures .1 ∙ ap (notedLog (l .loop .log) (l .loop .n)) e) (t .note .ensures .0 ∙ ap (notedCount (l .loop .n)) e)
 
 loop-holds : tie.Need-loop-holds Inv-loop μ-loop
@@ -108,14 +108,14 @@ event-of-requires c κs =
     let a = c .before .before .before .before .before in
     let i = turn a in
     let s = begin (i .before) in
-    (omega (arith, i .loop-test .taken, s .pre .1 .1), subst (λ (o : Outcome). reach o ≤ 16382) (sym (a .act-on .ensures .0)) (reach-small (now (s .args .objects)) (now (s .args .slots)) (now (s .args .payload)) _))
+    (s .pre .1 .3, omega (arith, i .loop-test .taken, s .pre .1 .1), subst (λ (o : Outcome). reach o < 8192) (sym (a .act-on .ensures .0)) (omega (arith, s .pre .1 .2, reach-within (now (s .args .objects)) (now (s .args .slots)) (now (s .args .payload)) (getD (now (s .args .list)) (i .before .loop .j) 0))))
 
 note-requires : tie.Need-note-requires Inv-loop μ-loop
 note-requires c κs =
     let i = turn (c .before .before .before .before .before .before) in
     let l = i .before in
     let s = begin l in
-    omega (arith, i .loop-test .taken, s .pre .1 .2, l .loop .inv .1, l .loop .inv .4)
+    omega (arith, i .loop-test .taken, s .pre .1 .4, l .loop .inv .1, l .loop .inv .4)
 
 stops-requires : tie.Need-stops-requires Inv-loop μ-loop
 stops-requires c κs = search needs
@@ -138,7 +138,7 @@ returns c =
     let l = i .before in
     let s = begin l in
     let o = a .act-on .result in
-    same t ∙ sym (finished-one (l .loop .log) (l .loop .n) (eventOf (l .loop .j + 1) o) _ (roomy i))
+    same t ∙ sym (finished-one (l .loop .log) (l .loop .n) (eventOf (s .args .number) (l .loop .j + 1) o) _ (roomy i))
     ∙ ap (λ r. finished r (l .loop .log) (l .loop .n)) (sym (run-stops (F s) (s .args .first) (now (s .args .list)) (l .loop .j) _ (i .loop-test .taken) (eight a) o (a .act-on .ensures .0) (sym (z .stops .ensures) ∙ c .if2 .taken)))
     ∙ l .loop .inv .6
 
@@ -158,7 +158,7 @@ loop-again-2 c =
     let s = begin l in
     let g = s .args in
     let o = a .act-on .result in
-    let e = eventOf (l .loop .j + 1) o in
+    let e = eventOf (g .number) (l .loop .j + 1) o in
     let q = sym (z .stops .ensures) ∙ c .if2 .left in
     let b : Bytes (now (g .payload)) = λ k. omega (arith, l .before .before .before .shared-slice-known3 .given k) in (
       omega (arith, i .loop-test .taken),
@@ -166,8 +166,8 @@ loop-again-2 c =
       omega (arith, l .loop .inv .2, t .before .before .before .before .before .before .words .given),
       omega (arith, l .loop .inv .3, t .before .before .before .before .bytes .given),
       omega (arith, l .loop .inv .4),
-      subst (λ (x : Contents). wellFormed (dict (now (g .objects)) (now (g .slots)) (x .words) (x .bytes)) ≡ true) (sym (a .act-on .ensures .1))
-          (act-keeps (dict (now (g .objects)) (now (g .slots)) (l .loop .words) (l .loop .bytes)) (now (g .payload)) (g .sender) _ (l .loop .inv .5) b o (a .act-on .ensures .0) q),
+      subst (λ (x : Contents). wellFormed (dict (now (g .objects)) (now (g .slots)) (x .words) (x .bytes)) ≡ true) (sym (a .act-on .ensures .1 (g .number)))
+          (act-keeps (dict (now (g .objects)) (now (g .slots)) (l .loop .words) (l .loop .bytes)) (now (g .payload)) (g .sender) (g .number) _ (l .loop .inv .5) b o (a .act-on .ensures .0) q),
       ap (λ (x : Logged). finished (runFrom (F s) (g .first) (drop (l .loop .j + 1) (now (g .list))) (l .loop .j + 1) (x .contents)) (x .log) (x .count)) (same t)
           ∙ sym (finished-behind (l .loop .log) (l .loop .n) e _ (roomy i))
           ∙ ap (λ r. finished r (l .loop .log) (l .loop .n)) (sym (run-on (F s) (g .first) (now (g .list)) (l .loop .j) _ (i .loop-test .taken) (eight a) o (a .act-on .ensures .0) q))

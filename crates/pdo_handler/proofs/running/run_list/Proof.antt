@@ -19,11 +19,11 @@ D s = dict (now (s .args .objects)) (now (s .args .slots)) (now (s .args .words)
 abbrev start : tie.After-find → tie.Start
 start c = c .before .before .before .before .before .before .before
 
-found : (c : tie.After-find) (f : Found) → c .find .result ≡ f → let a = start c .args in let g = frame (now (a .objects)) (now (a .slots)) (now (a .payload)) (a .sender) in let k = contents (now (a .words)) (now (a .bytes)) in
-    finished (runOn g k f) (now (a .log)) 0 ≡ finished (runOn g k (findRow (now (a .objects)) (a .index))) (now (a .log)) 0
+found : (c : tie.After-find) (f : Found) → c .find .result ≡ f → let a = start c .args in let g = frame (now (a .objects)) (now (a .slots)) (now (a .payload)) (a .sender) (a .number) in let k = contents (now (a .words)) (now (a .bytes)) in
+    finished (runOn g k f) (now (a .log)) (a .begun) ≡ finished (runOn g k (findRow (now (a .objects)) (a .index))) (now (a .log)) (a .begun)
 found c f e =
     let a = start c .args in
-    ap (λ x. finished (runOn (frame (now (a .objects)) (now (a .slots)) (now (a .payload)) (a .sender)) (contents (now (a .words)) (now (a .bytes))) x) (now (a .log)) 0) (sym e ∙ c .find .ensures)
+    ap (λ x. finished (runOn (frame (now (a .objects)) (now (a .slots)) (now (a .payload)) (a .sender) (a .number)) (contents (now (a .words)) (now (a .bytes))) x) (now (a .log)) (a .begun)) (sym e ∙ c .find .ensures)
 
 lies : (c : tie.After-r) → RowLies (D (start (c .before .before))) (c .r .given .0 .0)
 lies c =
@@ -41,7 +41,7 @@ enum-told : tie.Need-enum-told
 enum-told c = search needs
 
 returns : tie.Need-returns
-returns c = let f = c .before .before in let a = start f .args in sym (finished-none (now (a .log)) 0 (contents (now (a .words)) (now (a .bytes)))) ∙ found f _ (c .enum-told .given .1)
+returns c = let f = c .before .before in let a = start f .args in sym (finished-none (now (a .log)) (a .begun) (contents (now (a .words)) (now (a .bytes)))) ∙ found f _ (c .enum-told .given .1)
 
 kind-at-requires : tie.Need-kind-at-requires
 kind-at-requires c κs = let l = lies (c .before) in (l .small, l .inside)
@@ -52,13 +52,13 @@ returns-2 c =
     let r = k .before .before in
     let f = r .before .before in
     let a = start f .args in
-    sym (finished-none (now (a .log)) 0 (contents (now (a .words)) (now (a .bytes)))) ∙ sym (rw (eq-eqb _ 0 (sym (k .kind-at .ensures) ∙ c .if1 .taken))) ∙ found f _ (r .r .given .1)
+    sym (finished-none (now (a .log)) (a .begun) (contents (now (a .words)) (now (a .bytes)))) ∙ sym (rw (eq-eqb _ 0 (sym (k .kind-at .ensures) ∙ c .if1 .taken))) ∙ found f _ (r .r .given .1)
 
 run-row-requires : tie.Need-run-row-requires
 run-row-requires c κs =
     let r = c .before .before .before .before .before .before in
     let s = start (r .before .before) in
-    (s .pre .0, (lies r .below, s .pre .1))
+    (s .pre .0, (lies r .below, s .pre .1 .0, s .pre .1 .1, s .pre .1 .2))
 
 same-length : tie.Need-same-length
 same-length c = search needs

@@ -52,7 +52,7 @@ run-requires c κs =
     let g = c .before .before .before .before in
     let n = g .before .before in
     let s = start n in
-    (s .pre .0, (omega (arith, inside n, as-long g), omega (arith, few n, as-long g), omega (arith, few n, as-long g, s .pre .1 .1)))
+    (s .pre .0, (omega (arith, inside n, as-long g), omega (arith, few n, as-long g), s .pre .1 .1, s .pre .1 .2, omega (arith, few n, as-long g, s .pre .1 .3)))
 
 same-length : tie.Need-same-length
 same-length c = search needs
@@ -69,10 +69,10 @@ returns c =
     let g = u .before .before .before .before .before in
     let n = g .before .before in
     let a = start n .args in
-    let f = frame (now (a .objects)) (now (a .slots)) (now (a .payload)) (a .sender) in
+    let f = frame (now (a .objects)) (now (a .slots)) (now (a .payload)) (a .sender) (a .number) in
     let k = contents (now (a .words)) (now (a .bytes)) in
-    u .run .ensures ∙ ap (λ l. finished (runFrom f (n .before .first-at .result) l 0 k) (now (a .log)) 0) (g .gather .ensures .1)
-    ∙ ap₂ (λ p m. finished (runFrom f p (take m (drop p (now (a .words)))) 0 k) (now (a .log)) 0) (n .before .first-at .ensures) (n .count-at .ensures)
+    u .run .ensures ∙ ap (λ l. finished (runFrom f (n .before .first-at .result) l 0 k) (now (a .log)) (a .begun)) (g .gather .ensures .1)
+    ∙ ap₂ (λ p m. finished (runFrom f p (take m (drop p (now (a .words)))) 0 k) (now (a .log)) (a .begun)) (n .before .first-at .ensures) (n .count-at .ensures)
 
 pub run-row-spec : {M : Type 1} → statement M
 run-row-spec =

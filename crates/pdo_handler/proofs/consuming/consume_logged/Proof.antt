@@ -1,4 +1,4 @@
--- `pdo_handler::consuming::consume_pdo_payload` meets its contract: each way out is a case of the definition. Assumes nothing.
+-- `pdo_handler::consuming::consume_logged` meets its contract: each way out is a case of the definition. Assumes nothing.
 use mathlib.Core.Path.{_≡_, sym, ap, _∙_}
 use mathlib.Core.Bool.{true}
 use Prim.Native.Nat.{ℕ}
@@ -8,9 +8,10 @@ use borrow.Author.Tests.{not-true, not-false, lt-ltb, le-ltb}
 use Rattle.entry.specs.Table.{Dict, dict}
 use Rattle.entry.specs.Judge.{wellFormed}
 use Rattle.pdo_handler.specs.Consume.{done, consumeOf}
+use native.Mathlib.Omega.{arith}
 use borrow.Author.Needs.{needs}
-use Rattle.pdo_handler.proofs.consuming.consume_pdo_payload.Statement.{statement}
-use Rattle.pdo_handler.proofs.consuming.consume_pdo_payload.Tie as tie
+use Rattle.pdo_handler.proofs.consuming.consume_logged.Statement.{statement}
+use Rattle.pdo_handler.proofs.consuming.consume_logged.Tie as tie
 
 abbrev D : tie.Start → Dict
 D s = dict (now (s .args .objects)) (now (s .args .slots)) (now (s .args .words)) (now (s .args .bytes))
@@ -21,8 +22,8 @@ start c = c .before .before .before .before .before .before .before .before .bef
 formed : (c : tie.Else1) → wellFormed (D (start (c .before))) ≡ true
 formed c = sym (c .before .well-formed .ensures) ∙ not-false _ (c .if1 .left)
 
-abbrev logs : tie.Else1 → ℕ
-logs c = length (now (start (c .before) .args .log))
+abbrev rooms : tie.Else1 → ℕ
+rooms c = start (c .before) .args .room
 
 abbrev pays : tie.Else1 → ℕ
 pays c = length (now (start (c .before) .args .payload))
@@ -58,7 +59,14 @@ same-length-6 c = search needs
 
 returns-3 : tie.Need-returns-3
 unfolding consumeOf
-returns-3 c = let b = c .before in simp (formed (b .before), le-ltb (logs (b .before)) 254 (b .if2 .left), lt-ltb 1490 (pays (b .before)) (c .if3 .taken))
+returns-3 c = let b = c .before in simp (formed (b .before), le-ltb (rooms (b .before)) 254 (b .if2 .left), lt-ltb 1490 (pays (b .before)) (c .if3 .taken))
+
+receive-requires : tie.Need-receive-requires
+receive-requires c κs =
+    let d = c .before .before .before in
+    let b = d .before in
+    let s = start (b .before .before) in
+    (formed (b .before), (d .if3 .left, omega arith, s .pre (b .if2 .left)))
 
 same-length-7 : tie.Need-same-length-7
 same-length-7 c = search needs
@@ -66,33 +74,19 @@ same-length-7 c = search needs
 same-length-8 : tie.Need-same-length-8
 same-length-8 c = search needs
 
-returns-4 : tie.Need-returns-4
-unfolding consumeOf
-returns-4 c = let d = c .before in let b = d .before in simp (formed (b .before), le-ltb (logs (b .before)) 254 (b .if2 .left), le-ltb 1490 (pays (b .before)) (d .if3 .left), not-true (start (b .before .before) .args .ready) (c .if4 .taken))
-
-consume-ready-requires : tie.Need-consume-ready-requires
-consume-ready-requires c κs = let b = c .before .before .before .before .before in (formed (b .before), b .if2 .left)
-
 same-length-9 : tie.Need-same-length-9
 same-length-9 c = search needs
 
-same-length-10 : tie.Need-same-length-10
-same-length-10 c = search needs
-
-same-length-11 : tie.Need-same-length-11
-same-length-11 c = search needs
-
-returns-5 : tie.Need-returns-5
+returns-4 : tie.Need-returns-4
 unfolding consumeOf
-returns-5 c =
+returns-4 c =
     let u = c .before .before .before .before .before .before in
-    let e = u .before .before .before .before in
-    let d = e .before in
+    let d = u .before .before .before .before in
     let b = d .before in
-    ap done (u .consume-ready .ensures) ∙ sym (simp (formed (b .before), le-ltb (logs (b .before)) 254 (b .if2 .left), le-ltb 1490 (pays (b .before)) (d .if3 .left), not-false (start (b .before .before) .args .ready) (e .if4 .left)))
+    ap done (u .receive .ensures) ∙ sym (simp (formed (b .before), le-ltb (rooms (b .before)) 254 (b .if2 .left), le-ltb 1490 (pays (b .before)) (d .if3 .left)))
 
-pub consume-pdo-payload-spec : {M : Type 1} → statement M
-consume-pdo-payload-spec =
+pub consume-logged-spec : {M : Type 1} → statement M
+consume-logged-spec =
     tie.close
     (tie.spec
     well-formed-requires
@@ -105,11 +99,8 @@ consume-pdo-payload-spec =
     same-length-5
     same-length-6
     returns-3
+    receive-requires
     same-length-7
     same-length-8
-    returns-4
-    consume-ready-requires
     same-length-9
-    same-length-10
-    same-length-11
-    returns-5)
+    returns-4)
