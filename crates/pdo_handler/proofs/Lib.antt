@@ -1,3 +1,4 @@
 pub mod ChannelLaws
 pub mod RunLaws
 pub mod ConsumeLaws
+pub mod EventLaws

@@ -9,6 +9,7 @@ pub use channel::first_match;
 pub use channel::right_version;
 pub use channel::version_of;
 pub use consuming::consume_logged;
+pub use consuming::receive;
 pub use errors::update_pdo_error_object;
 
 // How many events there are, or why nothing was consumed.

@@ -1,0 +1,12 @@
+// The payloads of a cycle, consumed one after another: the dictionary is judged once for all of them.
+mod cycling;
+mod payloads;
+
+use answers::Refusal;
+pub use cycling::consume_cycle;
+
+// How many payloads were consumed and how many events there are, or why nothing was consumed.
+pub enum Cycle {
+    Done { consumed: usize, events: usize },
+    Refused(Refusal),
+}
