@@ -1,3 +1,4 @@
 pub mod C
 pub mod Dictionary
 pub mod Storing
+pub mod Receiving

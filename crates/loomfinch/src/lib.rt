@@ -1,6 +1,7 @@
 // The public calls. None has a `requires`: each judges its own input and refuses what breaks a rule.
 mod c;
 mod dictionary;
+mod receiving;
 mod storing;
 
 pub use insertion::Head;
