@@ -28,6 +28,8 @@ enum {
     LOOMFINCH_PDO_MAP_OVERRUN = 11,
     LOOMFINCH_BUFFER_TOO_SHORT = 12,
     LOOMFINCH_TOO_LONG = 13,
+    LOOMFINCH_PAYLOAD_TOO_LONG = 14,
+    LOOMFINCH_NO_EVENT_ROOM = 15,
     LOOMFINCH_OCCUPIED = 16,
     LOOMFINCH_FULL = 17,
     LOOMFINCH_STORE_FULL = 18,
@@ -164,6 +166,58 @@ uint64_t loomfinch_validate_pdo_mapping(const uint64_t *objects, size_t objects_
 uint64_t loomfinch_restore_power_on_values(const uint64_t *objects, size_t objects_len, uint64_t *slots, size_t slots_len,
                                            uint64_t *words, size_t words_len, uint8_t *bytes, size_t bytes_len,
                                            const uint8_t *store, size_t store_len, uint16_t first, uint16_t last);
+
+/* An event is one number. Its kind says what happened, its element where: the place in the mapping list, from 1, or 0 with
+ * LOOMFINCH_MAP_VERSION. Of what is handed to SDO it has the index, and where the field starts in the payload and its length, in
+ * bytes; else these are 0. The payload's number is its place in a cycle, from 0, and 0 for a single payload. */
+enum {
+    LOOMFINCH_MAP_VERSION = 1,
+    LOOMFINCH_SHORT_FRAME = 2, /* the field ends past the payload: the run stops */
+    LOOMFINCH_SHORT_VALUE = 3, /* the field has fewer bytes than the value's type: the run stops */
+    LOOMFINCH_SHORT_TEXT = 4,  /* not UTF-8: the run stops */
+    LOOMFINCH_SHORT_ODD = 5,   /* a UnicodeString of an odd count: the run stops */
+    LOOMFINCH_TO_SERVER = 6,
+    LOOMFINCH_TO_CLIENT = 7,
+    LOOMFINCH_COUNT_REFUSED = 8, /* the target is a list's count */
+    LOOMFINCH_VALUE_REFUSED = 9  /* a string longer than its room */
+};
+#define LOOMFINCH_EVENT_KIND(e) ((e) & 0xF)
+#define LOOMFINCH_EVENT_ELEMENT(e) ((e) >> 4 & 0xFF)
+#define LOOMFINCH_EVENT_INDEX(e) ((e) >> 12 & 0xFFFF)
+#define LOOMFINCH_EVENT_START(e) ((e) >> 28 & 0x1FFF)
+#define LOOMFINCH_EVENT_LENGTH(e) ((e) >> 41 & 0x1FFF)
+#define LOOMFINCH_EVENT_PAYLOAD(e) ((e) >> 54)
+
+/* The most events of one payload, and the most payloads and bytes of one that a call takes. */
+enum { LOOMFINCH_MOST_EVENTS = 254, LOOMFINCH_MOST_PAYLOADS = 1024, LOOMFINCH_MOST_PAYLOAD_BYTES = 1490 };
+
+/* Consumes a received payload: the first of the channels 0..255 whose record 1400h+i names the sender, its version, and then the
+ * mapping words of 1600h+i, each field decoded and put at its target without an access test (docs/RULES.md 11). Ready: 0 is not
+ * ready, and nothing happens; any other number is ready. Answers 1; 15 for fewer than 254 events; 14 for a payload over 1,490 bytes;
+ * in this order.
+ * Done: *count is the number of events, which lie from events[0] on, and those behind stay. A run that stops half-way is Done too:
+ * the fields before the stop are put, and the last event says why it stopped. */
+uint64_t loomfinch_consume_pdo_payload(const uint64_t *objects, size_t objects_len, const uint64_t *slots, size_t slots_len,
+                                       uint64_t *words, size_t words_len, uint8_t *bytes, size_t bytes_len,
+                                       const uint8_t *payload, size_t payload_len, uint8_t sender, uint8_t version,
+                                       uint64_t ready, uint64_t *events, size_t events_len, uint64_t *count);
+
+/* Consumes the payloads of a cycle, one after another; the dictionary is judged once. Each payload takes five numbers of `payloads`:
+ * where it starts in `delivered`, its length, sender, version and ready. Answers 1; 2 where payloads_len is no multiple of 5 or above
+ * 5 * 1,024, a payload does not lie within what was delivered, or a sender or version is above 255; 14 for a payload over 1,490 bytes;
+ * in this order, and before any payload is consumed.
+ * Done: each payload was consumed as loomfinch_consume_pdo_payload would, on the dictionary that those before it left, up to the
+ * first one, ready or not, that had fewer than 254 free events. *consumed is how many were, and *count the number of their events. */
+uint64_t loomfinch_consume_cycle(const uint64_t *objects, size_t objects_len, const uint64_t *slots, size_t slots_len,
+                                 uint64_t *words, size_t words_len, uint8_t *bytes, size_t bytes_len,
+                                 const uint8_t *delivered, size_t delivered_len, const uint64_t *payloads, size_t payloads_len,
+                                 uint64_t *events, size_t events_len, uint64_t *consumed, uint64_t *count);
+
+/* Sets the bit of a node, 1..239, in the error object at an index, where that is an OctetString Variable which now has the byte
+ * (node - 1) / 8; else nothing happens, and that is Done too. Answers 1. */
+uint64_t loomfinch_update_pdo_error_object(const uint64_t *objects, size_t objects_len, const uint64_t *slots, size_t slots_len,
+                                           const uint64_t *words, size_t words_len, uint8_t *bytes, size_t bytes_len,
+                                           uint16_t index, uint8_t node);
 
 #ifdef __cplusplus
 }

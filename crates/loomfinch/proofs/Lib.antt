@@ -1,3 +1,1 @@
 pub mod CLaws
-pub mod Unique
-pub mod UniqueC

@@ -12,6 +12,9 @@ use Rattle.entry.specs.Table.{Dict}
 use Rattle.od.specs.New.{Made}
 use Rattle.od.specs.Nodes.{Given}
 use Rattle.od.specs.Counter.{Counted}
+use Rattle.pdo_cycle.specs.Cycle.{After as Cycling}
+use Rattle.pdo_handler.specs.Errors.{After as Marking}
+use Rattle.restoring.specs.Restore.{After as Restoring}
 use Rattle.writing.specs.Writing.{After as Writing}
 use Rattle.value.proofs.decode.Reads as decode
 use Rattle.value.proofs.decode.Kinds as decode-kinds
@@ -51,9 +54,12 @@ use Rattle.od.proofs.increment_counter.Reads as increment-counter
 use Rattle.od.proofs.increment_counter.Kinds as increment-counter-kinds
 use Rattle.pdo_validator.proofs.validate_pdo_mapping.Reads as validate-pdo-mapping
 use Rattle.pdo_validator.proofs.validate_pdo_mapping.Kinds as validate-pdo-mapping-kinds
+use Rattle.pdo_cycle.proofs.consume_cycle.Reads as consume-cycle
+use Rattle.pdo_cycle.proofs.consume_cycle.Kinds as consume-cycle-kinds
+use Rattle.pdo_handler.proofs.update_pdo_error_object.Reads as update-pdo-error-object
+use Rattle.pdo_handler.proofs.update_pdo_error_object.Kinds as update-pdo-error-object-kinds
 use Rattle.restoring.proofs.restore_power_on_values.Reads as restore
 use Rattle.restoring.proofs.restore_power_on_values.Kinds as restore-kinds
-use Rattle.restoring.specs.Restore.{After as Restoring}
 use Rattle.writing.proofs.write.Reads as write
 use Rattle.writing.proofs.write.Kinds as write-kinds
 
@@ -130,3 +136,9 @@ write-unique κs a z₁ z₂ w₁ w₂ p q = both (λ (x : Writing). x .answer) 
 pub restore-unique : Unique 5 restore-kinds.ps restore-kinds.r restore.Post
 restore-unique κs a z₁ z₂ w₁ w₂ p q =
     both (λ (x : Restoring). x .answer) (λ x. (tt, (x .memory .slots, (x .memory .words, (x .memory .bytes, (tt, (tt, (tt, tt)))))))) p q
+
+pub consume-cycle-unique : Unique 7 consume-cycle-kinds.ps consume-cycle-kinds.r consume-cycle.Post
+consume-cycle-unique κs a z₁ z₂ w₁ w₂ p q = both (λ (x : Cycling). x .answer) (λ x. (tt, (tt, (x .contents .words, (x .contents .bytes, (tt, (tt, (x .log, tt)))))))) p q
+
+pub update-pdo-error-object-unique : Unique 4 update-pdo-error-object-kinds.ps update-pdo-error-object-kinds.r update-pdo-error-object.Post
+update-pdo-error-object-unique κs a z₁ z₂ w₁ w₂ p q = both (λ (x : Marking). x .answer) (λ x. (tt, (tt, (tt, (x .bytes, (tt, (tt, tt))))))) p q
