@@ -1,2 +1,3 @@
 pub mod PayloadLaws
 pub mod CycleLaws
+pub mod KeepLaws
