@@ -6,19 +6,18 @@ use mathlib.Core.Bool.{Bool, true, false, cond, _&&_, _||_}
 use mathlib.Core.Logic.{_⊎_, inl, inr, _≢_}
 use mathlib.Core.List.{List}
 use mathlib.Core.Option.{some}
-use Prim.Native.Nat.{ℕ, zero, suc, _+_, _-_, _*_, _<_, _≤_}
-use native.Mathlib.Nat.{add-zero, zero-add}
+use Prim.Native.Nat.{ℕ, _+_, _-_, _*_, _<_, _≤_}
 use native.Mathlib.Omega.{arith}
 use native.Mathlib.Decide.{decLt}
-use borrow.Author.Tests.{eqb-true, eqb-false, leb-true, eq-eqb, ne-eqb, le-leb}
+use borrow.Author.Tests.{eqb-true, eqb-false, leb-true}
 use lib.Dec.{eqb, leb, ltb}
 use lib.ListN.{length, take, drop, getD}
 use Rattle.value.specs.Codec.{isText, fitsType, takes, textWord}
 use Rattle.entry.specs.Model.{Obj}
-use Rattle.entry.specs.Table.{Dict, modelOf, valAt, objAt, numberOf, valuesOf, usedOf, indexAt, kindAt, countAt, firstAt, defaultAt, typeAt, startAt, roomAt}
+use Rattle.entry.specs.Table.{Dict, modelOf, valAt, objAt, numberOf, valuesOf, usedOf, indexAt, kindAt, countAt, firstAt, typeAt, startAt, roomAt}
 use Rattle.entry.specs.Rules.{wordOk, valOk, tight, heldOk}
 use Rattle.entry.specs.Judge.{usedAt, wellFormed}
-use Rattle.entry.specs.Find.{Rows, findFrom, findRow, subAt, onRow, placeOf, objectOf, objectIn, nth}
+use Rattle.entry.specs.Find.{Rows, findRow, subAt, onRow, placeOf, objectOf, objectIn, nth}
 use Rattle.entry.specs.declared.Found.{Found}
 use Rattle.entry.specs.declared.Found.the-variants.{At, Nothing}
 use Rattle.entry.specs.declared.Place.the-variants.{NoSub, Count, Value}
@@ -31,7 +30,7 @@ use Rattle.entry.proofs.ApartLaws.{owned, rising, firsts-rise}
 pub rows-of : (d : Dict) → wellFormed d ≡ true → Rows (d .objects)
 rows-of d e =
     let h = headed d e in
-    record { few = h .few; long = h .rows; firsts = λ i l. omega (arith, row-facts d e i l .values, h .values) }
+    record { few = h .few; long = h .rows; firsts = λ i l. omega (arith, row-facts d e i l .values, h .values); rises = rising d e }
 
 -- where row i lies
 pub record RowLies (d : Dict) (i : ℕ) : Type 0 where
@@ -94,34 +93,6 @@ element-of d e x sub p q = go (findRow (d .objects) x) refl q
     go (At i) f h =
         at i f (by-sub (eqb (kindAt (d .objects) i) 0) (eqb sub 0) (leb sub (countAt (d .objects) i)) (firstAt (d .objects) i) (countAt (d .objects) i) (firstAt (d .objects) i + (sub - 1)) h)
     go Nothing f h = let z : _≡_ {A = ℕ} 0 1 = cc in absurd (omega arith)
-
--- ---- and back: every element is named by its index and its sub-index
-find-here : (objects : List ℕ) (x k i j : ℕ) → j < k → indexAt objects (i + j) ≡ x → ((m : ℕ) → m < j → indexAt objects (i + m) ≢ x) → findFrom objects x k i ≡ At (i + j)
-unfolding findFrom
-find-here objects x zero i j l h n = absurd (omega arith)
-find-here objects x (suc k) i zero l h n =
-    let e : eqb (indexAt objects i) x ≡ true = eq-eqb (indexAt objects i) x (rw add-zero at h) in
-    rw (add-zero, e)
-find-here objects x (suc k) i (suc j) l h n =
-    let e : eqb (indexAt objects i) x ≡ false = ne-eqb (indexAt objects i) x (rw add-zero at (n 0 (omega arith))) in
-    let f : i + suc j ≡ suc i + j = omega arith in
-    rw (e, f) (find-here objects x k (suc i) j (omega arith) (rw f at h) (λ m o. let g : i + suc m ≡ suc i + m = omega arith in rw g at (n (suc m) (omega arith))))
-
-module _ (d : Dict) (e : wellFormed d ≡ true) (i : ℕ) (h : i < numberOf (d .objects)) where
-  pub row-found : findRow (d .objects) (indexAt (d .objects) i) ≡ At i
-  row-found =
-      rw zero-add at (find-here (d .objects) (indexAt (d .objects) i) (numberOf (d .objects)) 0 i h (rw zero-add) (λ m l. rw zero-add (λ q. omega (arith, rising d e m i l h))))
-
-  pub place-variable : kindAt (d .objects) i ≡ 0 → placeOf (d .objects) (indexAt (d .objects) i) 0 ≡ Value (firstAt (d .objects) i)
-  unfolding subAt
-  place-variable z = ap (onRow (d .objects) 0) row-found ∙ rw (eq-eqb (kindAt (d .objects) i) 0 z)
-
-  pub place-list : (kindAt (d .objects) i ≡ 0 → ⊥) → (k : ℕ) → k < countAt (d .objects) i → placeOf (d .objects) (indexAt (d .objects) i) (k + 1) ≡ Value (firstAt (d .objects) i + k)
-  unfolding subAt
-  place-list z k l =
-      let f : (k + 1) - 1 ≡ k = omega arith in
-      ap (onRow (d .objects) (k + 1)) row-found
-      ∙ rw (ne-eqb (kindAt (d .objects) i) 0 z, ne-eqb (k + 1) 0 (λ q. omega arith), le-leb (k + 1) (countAt (d .objects) i) (omega arith), f)
 
 -- no two indices and sub-indices name the same value
 pub element-one : (d : Dict) → wellFormed d ≡ true → {x y a b p : ℕ} → Element d x a p → Element d y b p → (x ≡ y) × (a ≡ b)
@@ -240,14 +211,3 @@ pub every-value : (d : Dict) → wellFormed d ≡ true → (p : ℕ) → p < val
 every-value d e p h =
     let o = owned d e p h in
     rw (o .place) (value-facts d e (o .row) (o .k) (o .below) (o .inside))
-
--- a default's room is just its bytes
-pub default-tight : (d : Dict) → wellFormed d ≡ true → (i : ℕ) → i < numberOf (d .objects) → 0 < defaultAt (d .objects) i
-    → tight (typeAt (d .slots) (firstAt (d .objects) i + countAt (d .objects) i)) (getD (d .words) (firstAt (d .objects) i + countAt (d .objects) i) 0) (roomAt (d .slots) (firstAt (d .objects) i + countAt (d .objects) i)) ≡ true
-default-tight d e i h f =
-    let c = countAt (d .objects) i in
-    let p = firstAt (d .objects) i + c in
-    let n : c - c ≡ 0 = omega arith in
-    let g = row-facts d e i h .slot c (omega arith) in
-    let o = held-ok (c - c) (typeAt (d .slots) p) (getD (d .words) p 0) (roomAt (d .slots) p) (drop (startAt (d .slots) p) (d .bytes)) (g .held) in
-    rw n at (o .last)

@@ -96,3 +96,10 @@ pub record Rows (objects : List ℕ) : Type 0 where
   pub few : numberOf objects ≤ 1024
   pub long : rowPlace (numberOf objects) ≤ length objects
   pub firsts : (i : ℕ) → i < numberOf objects → firstAt objects i + countAt objects i ≤ 6144
+  pub rises : (i j : ℕ) → i < j → j < numberOf objects → indexAt objects i < indexAt objects j
+
+-- row r is the first whose index is not below x, or none is
+pub record Lower (objects : List ℕ) (x r : ℕ) : Type 0 where
+  pub within : r ≤ numberOf objects
+  pub before : (i : ℕ) → i < r → indexAt objects i < x
+  pub behind : (i : ℕ) → r ≤ i → i < numberOf objects → x ≤ indexAt objects i

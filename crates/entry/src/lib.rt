@@ -29,6 +29,7 @@ pub use judge::is_good;
 pub use judge::well_formed;
 pub use lookup::find;
 pub use lookup::locate;
+pub use lookup::lower;
 pub use lookup::sub_at;
 pub use put::put_new;
 pub use put::put_value;

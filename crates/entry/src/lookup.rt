@@ -2,7 +2,7 @@
 ghost use mathlib.Core.Path.{_≡_};
 ghost use Prim.Native.Nat.{_<_};
 ghost use Rattle.entry.specs.Table.{numberOf};
-ghost use Rattle.entry.specs.Find.{Rows, findRow, subAt, placeOf};
+ghost use Rattle.entry.specs.Find.{Rows, Lower, findRow, subAt, placeOf};
 use crate::Found;
 use crate::Place;
 use crate::columns::count_at;
@@ -11,22 +11,38 @@ use crate::columns::index_at;
 use crate::columns::kind_at;
 use crate::columns::number_of;
 
+// The first row whose index is not below x: the rows rise, so each look leaves half of them.
+pub fn lower(objects: &[u64], x: u64) -> usize
+    requires { ⌜ Rows (now objects) ⌝ }
+    ensures { λ r. ⌜ Lower (now (objects .entry)) x r ⌝ }
+{
+    let mut low = 0;
+    let mut high = number_of(objects) as usize;
+    while low < high {
+        let middle = (low + high) / 2;
+        if index_at(objects, middle) < x {
+            low = middle + 1;
+            continue;
+        }
+        high = middle;
+    }
+    low
+}
+
 // The row of an index.
 pub fn find(objects: &[u64], index: u16) -> Found
     requires { ⌜ Rows (now objects) ⌝ }
     ensures { λ r. ⌜ r ≡ findRow (now (objects .entry)) index ⌝ }
 {
-    let n = number_of(objects) as usize;
     let x = index as u64;
-    let mut i = 0;
-    while i < n {
-        let here = index_at(objects, i);
-        if here == x {
-            return Found::At(i);
-        }
-        i += 1;
+    let r = lower(objects, x);
+    if number_of(objects) as usize <= r {
+        return Found::Nothing;
     }
-    Found::Nothing
+    if index_at(objects, r) != x {
+        return Found::Nothing;
+    }
+    Found::At(r)
 }
 
 // What a sub-index names in row i.

@@ -1,56 +1,32 @@
 -- Rows that rise, looked at near their place; and the scan over the channels. Assumes nothing.
-use mathlib.Core.Path.{_≡_, refl, sym, ap, _∙_}
+use mathlib.Core.Path.{_≡_}
 use mathlib.Core.Bool.{Bool, true, false, cond}
-use mathlib.Core.Logic.{_≢_}
 use mathlib.Core.List.{List}
 use Prim.Native.Nat.{ℕ, zero, suc, _+_, _-_, _*_, _<_, _≤_}
 use native.Mathlib.Omega.{arith}
 use native.Mathlib.Decide.{decLt}
-use borrow.Author.Tests.{eq-eqb, ne-eqb}
-use lib.Dec.{eqb}
 use lib.ListN.{length}
 use Rattle.entry.specs.Table.{Dict, numberOf, indexAt}
-use Rattle.entry.specs.Find.{findFrom, findRow}
-use Rattle.entry.specs.Judge.{wellFormed}
+use Rattle.entry.specs.Find.{Rows, findRow}
 use Rattle.entry.specs.declared.Found.the-variants.{At, Nothing}
-use Rattle.entry.proofs.FindLaws.{found-row}
-use Rattle.entry.proofs.ApartLaws.{rising}
-use Rattle.entry.proofs.ValueLaws.{rows-of}
-use Rattle.pdo_handler.specs.Channel.{u8At, matchesIn, commIndex, channelFrom, Rising}
-
-pub rising-of : (d : Dict) → wellFormed d ≡ true → Rising (d .objects)
-rising-of d e = record { rows = rows-of d e; rises = rising d e }
+use Rattle.entry.proofs.FindLaws.{find-at, find-none, found-row}
+use Rattle.pdo_handler.specs.Channel.{u8At, matchesIn, commIndex, channelFrom}
 
 -- where row i lies
 pub record Lies (objects : List ℕ) (i : ℕ) : Type 0 where
   pub small : i < 1024
   pub inside : 12 * i + 24 ≤ length objects
 
-pub lies : (objects : List ℕ) → Rising objects → (i : ℕ) → i < numberOf objects → Lies objects i
-lies objects s i h = record { small = omega (arith, s .rows .few); inside = omega (arith, s .rows .long) }
+pub lies : (objects : List ℕ) → Rows objects → (i : ℕ) → i < numberOf objects → Lies objects i
+lies objects s i h = record { small = omega (arith, s .few); inside = omega (arith, s .long) }
 
 -- ---- a row that has the index, or none
-row-from : (objects : List ℕ) (x r n i : ℕ) → i ≤ r → r < i + n → indexAt objects r ≡ x → ((j : ℕ) → j < r → indexAt objects j ≢ x) → findFrom objects x n i ≡ At r
-unfolding findFrom
-row-from objects x r zero i a b e f = absurd (omega arith)
-row-from objects x r (suc n) i a b e f = go (decLt i r) (λ l. row-from objects x r n (suc i) l (omega arith) e f)
-  where
-    go : Dec (i < r) → (suc i ≤ r → findFrom objects x n (suc i) ≡ At r) → cond (eqb (indexAt objects i) x) (At i) (findFrom objects x n (suc i)) ≡ At r
-    go (yes l) ih = rw (ne-eqb _ _ (f i l)) (ih (omega (arith, l)))
-    go (no l) ih = let q : r ≡ i = omega (arith, l) in let z : eqb (indexAt objects i) x ≡ true = eq-eqb _ _ (ap (indexAt objects) (sym q) ∙ e) in rw z (ap At (sym q))
-
-none-from : (objects : List ℕ) (x n i : ℕ) → ((j : ℕ) → i ≤ j → j < i + n → indexAt objects j ≢ x) → findFrom objects x n i ≡ Nothing
-unfolding findFrom
-none-from objects x zero i f = refl
-none-from objects x (suc n) i f =
-    rw (ne-eqb _ _ (f i (omega arith) (omega arith))) (none-from objects x n (suc i) (λ j a b. f j (omega arith) (omega arith)))
-
-module _ (objects : List ℕ) (s : Rising objects) (x r : ℕ) where
+module _ (objects : List ℕ) (s : Rows objects) (x r : ℕ) where
   pub row-is : r < numberOf objects → indexAt objects r ≡ x → findRow objects x ≡ At r
-  row-is h e = row-from objects x r (numberOf objects) 0 (omega arith) (omega arith) e (λ j l q. absurd (omega (arith, s .rises j r l h, e, q)))
+  row-is h e = find-at objects x r (numberOf objects) 0 (omega arith) (omega arith) e (λ j l q. absurd (omega (arith, s .rises j r l h, e, q)))
 
   pub no-row : r ≤ numberOf objects → (0 < r → indexAt objects (r - 1) < x) → (r < numberOf objects → x < indexAt objects r) → findRow objects x ≡ Nothing
-  no-row h a b = none-from objects x (numberOf objects) 0 (λ j l k q. absurd (other j (omega (arith, k)) q (decLt j r)))
+  no-row h a b = find-none objects x (numberOf objects) 0 (λ j l k q. absurd (other j (omega (arith, k)) q (decLt j r)))
     where
       same-or : (i j : ℕ) → i ≤ j → j < numberOf objects → indexAt objects i ≤ indexAt objects j
       same-or i j l k = go (decLt i j)

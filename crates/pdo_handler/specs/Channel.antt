@@ -1,11 +1,10 @@
 -- The channel that a sender has, and its version: RULES.md 11. Assumes nothing.
-use Prim.Native.Nat.{ℕ, zero, suc, _+_, _/_, _%_, _<_}
+use Prim.Native.Nat.{ℕ, zero, suc, _+_, _/_, _%_}
 use mathlib.Core.Bool.{Bool, false, cond, not, _&&_, _||_}
-use mathlib.Core.List.{List}
 use lib.Dec.{eqb, leb, ltb}
 use lib.ListN.{getD}
-use Rattle.entry.specs.Table.{Dict, numberOf, indexAt, typeAt}
-use Rattle.entry.specs.Find.{Rows, placeOf}
+use Rattle.entry.specs.Table.{Dict, typeAt}
+use Rattle.entry.specs.Find.{placeOf}
 use Rattle.entry.specs.declared.Found.{Found}
 use Rattle.entry.specs.declared.Found.the-variants.{At, Nothing}
 use Rattle.entry.specs.declared.Place.{Place}
@@ -53,8 +52,3 @@ expectedOf d i = orZero (u8At d (commIndex i) 2)
 -- "Right: expected and received are both 0; or expected is above 0, high nibbles agree and the received low nibble is not smaller."
 abbrev pub rightVersion : ℕ → ℕ → Bool
 rightVersion e v = (eqb e 0 && eqb v 0) || (ltb 0 e && (eqb (e / 16) (v / 16) && leb (e % 16) (v % 16)))
-
--- what looking along the rows needs
-pub record Rising (objects : List ℕ) : Type 0 where
-  pub rows : Rows objects
-  pub rises : (i j : ℕ) → i < j → j < numberOf objects → indexAt objects i < indexAt objects j

@@ -3,32 +3,16 @@ ghost use mathlib.Core.Path.{_≡_};
 ghost use mathlib.Core.Bool.{true};
 ghost use Prim.Native.Nat.{_≤_};
 ghost use Rattle.entry.specs.Table.{dict, numberOf};
-ghost use Rattle.entry.specs.Find.{findRow};
+ghost use Rattle.entry.specs.Find.{Rows, findRow};
 ghost use Rattle.entry.specs.Judge.{wellFormed};
 ghost use Rattle.entry.specs.declared.Found.the-variants.{At};
-ghost use Rattle.pdo_handler.specs.Channel.{u8At, isSender, matchesIn, firstMatch, expectedOf, rightVersion, Rising};
+ghost use Rattle.pdo_handler.specs.Channel.{u8At, isSender, matchesIn, firstMatch, expectedOf, rightVersion};
 use entry::Found;
 use entry::Place;
 
-// The first row whose index is not below: a hint where to look, and no more.
-fn near(objects: &[u64], x: u64) -> usize
-    requires { ⌜ Rising (now objects) ⌝ }
-    ensures { λ r. ⌜ r ≤ numberOf (now (objects .entry)) ⌝ }
-{
-    let n = entry::number_of(objects) as usize;
-    let mut r = 0;
-    while r < n {
-        if x <= entry::index_at(objects, r) {
-            return r;
-        }
-        r += 1;
-    }
-    r
-}
-
 // The row of an index, where row r is that row or the first behind its place; else it is looked for from the first row on.
 fn row_near(objects: &[u64], r: usize, index: u16) -> Found
-    requires { ⌜ Rising (now objects) × (r ≤ numberOf (now objects)) ⌝ }
+    requires { ⌜ Rows (now objects) × (r ≤ numberOf (now objects)) ⌝ }
     ensures { λ f. ⌜ f ≡ findRow (now (objects .entry)) index ⌝ }
 {
     let n = entry::number_of(objects) as usize;
@@ -108,7 +92,7 @@ fn matches_at(
 
 // The row to look at next.
 fn behind(objects: &[u64], r: usize, row: Found, index: u16) -> usize
-    requires { ⌜ Rising (now objects) × (r ≤ numberOf (now objects)) × (row ≡ findRow (now objects) index) ⌝ }
+    requires { ⌜ Rows (now objects) × (r ≤ numberOf (now objects)) × (row ≡ findRow (now objects) index) ⌝ }
     ensures { λ k. ⌜ k ≤ numberOf (now (objects .entry)) ⌝ }
 {
     match row {
@@ -122,7 +106,7 @@ pub fn first_match(objects: &[u64], slots: &[u64], words: &[u64], bytes: &[u8], 
     requires { ⌜ wellFormed (dict (now objects) (now slots) (now words) (now bytes)) ≡ true ⌝ }
     ensures { λ r. ⌜ r ≡ firstMatch (dict (now (objects .entry)) (now (slots .entry)) (now (words .entry)) (now (bytes .entry))) sender ⌝ }
 {
-    let mut r = near(objects, 0x1400);
+    let mut r = entry::lower(objects, 0x1400);
     let mut i = 0;
     loop {
         if 256 <= i {

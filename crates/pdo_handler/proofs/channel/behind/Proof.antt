@@ -16,7 +16,7 @@ enum-known-row : tie.Need-enum-known-row
 enum-known-row c = search needs
 
 add-result : tie.Need-add-result
-add-result c = omega (arith, below (c .before), c .before .before .before .pre .0 .rows .few)
+add-result c = omega (arith, below (c .before), c .before .before .before .pre .0 .few)
 
 enum-told : tie.Need-enum-told
 enum-told c = search needs

@@ -3,8 +3,9 @@ use mathlib.Core.Path.{_≡_, refl, sym, _∙_}
 use Prim.Native.Nat.{_-_, _≤_}
 use denote.Ref.{now}
 use Rattle.entry.specs.Table.{Dict, dict, numberOf}
+use Rattle.entry.proofs.ValueLaws.{rows-of}
 use Rattle.pdo_handler.specs.Channel.{channelFrom, firstMatch}
-use Rattle.pdo_handler.proofs.ChannelLaws.{rising-of, channel-here, channel-next, channel-end}
+use Rattle.pdo_handler.proofs.ChannelLaws.{channel-here, channel-next, channel-end}
 use native.Mathlib.Omega.{arith}
 use Rattle.pdo_handler.proofs.channel.first_match.Statement.{statement}
 use Rattle.pdo_handler.proofs.channel.first_match.Tie as tie
@@ -18,14 +19,14 @@ abbrev μ-loop : tie.MeasureT-loop
 abbrev D : tie.Start Inv-loop μ-loop → Dict
 D s = dict (now (s .args .objects)) (now (s .args .slots)) (now (s .args .words)) (now (s .args .bytes))
 
-abbrev start : tie.After-near Inv-loop μ-loop → tie.Start Inv-loop μ-loop
+abbrev start : tie.After-lower Inv-loop μ-loop → tie.Start Inv-loop μ-loop
 start c = c .before .before .before .before .before
 
-near-requires : tie.Need-near-requires Inv-loop μ-loop
-near-requires c κs = let s = c .before .before .before .before in rising-of (D s) (s .pre)
+lower-requires : tie.Need-lower-requires Inv-loop μ-loop
+lower-requires c κs = let s = c .before .before .before .before in rows-of (D s) (s .pre)
 
 loop-holds : tie.Need-loop-holds Inv-loop μ-loop
-loop-holds c = (omega arith, c .near .ensures, refl)
+loop-holds c = (omega arith, c .lower .ensures .within, refl)
 
 cast-index : tie.Need-cast-index Inv-loop μ-loop
 cast-index c = omega (arith, c .if1 .left)
@@ -34,7 +35,7 @@ add-index : tie.Need-add-index Inv-loop μ-loop
 add-index c = omega (arith, c .if1 .left)
 
 row-near-requires : tie.Need-row-near-requires Inv-loop μ-loop
-row-near-requires c κs = let l = c .before in let s = start (l .before) in (rising-of (D s) (s .pre), l .loop .inv .1)
+row-near-requires c κs = let l = c .before in let s = start (l .before) in (rows-of (D s) (s .pre), l .loop .inv .1)
 
 matches-at-requires : tie.Need-matches-at-requires Inv-loop μ-loop
 matches-at-requires c κs = let s = start (c .before .before .before) in (s .pre, c .row-near .ensures)
@@ -44,7 +45,7 @@ behind-requires c κs =
     let n = c .before .before in
     let l = n .before .before in
     let s = start (l .before) in
-    (rising-of (D s) (s .pre), l .loop .inv .1, n .row-near .ensures)
+    (rows-of (D s) (s .pre), l .loop .inv .1, n .row-near .ensures)
 
 add-i : tie.Need-add-i Inv-loop μ-loop
 add-i c = let e = c .before .before .before .before in omega (arith, e .if1 .left)
@@ -81,7 +82,7 @@ first-match-spec =
     (tie.spec
     Inv-loop
     μ-loop
-    near-requires
+    lower-requires
     loop-holds
     cast-index
     add-index

@@ -14,7 +14,7 @@ below : (j : tie.Joined1) → let a = j .before .before .before .args in 0 < a .
 below j h = ⊎-elim (λ w. omega (arith, w .1 .ensures, w .2 .left)) (λ w. absurd (omega (arith, h, w .left))) (j .if1 .came)
 
 number-of-requires : tie.Need-number-of-requires
-number-of-requires c κs = omega (arith, c .before .pre .0 .rows .long)
+number-of-requires c κs = omega (arith, c .before .pre .0 .long)
 
 sub-index-at : tie.Need-sub-index-at
 sub-index-at c = search needs
@@ -23,7 +23,7 @@ index-at-requires : tie.Need-index-at-requires
 index-at-requires c κs = let s = c .before .before .before in let l = lies (now (s .args .objects)) (s .pre .0) (s .args .r - 1) (omega (arith, s .pre .1, c .if1 .taken)) in (l .small, l .inside)
 
 find-requires : tie.Need-find-requires
-find-requires c κs = c .before .before .before .before .before .pre .0 .rows
+find-requires c κs = c .before .before .before .before .before .pre .0
 
 returns : tie.Need-returns
 returns c = c .find .ensures
@@ -40,7 +40,7 @@ returns-2 c =
     sym (row-is (now (s .args .objects)) (s .pre .0) (s .args .index) (s .args .r) (omega (arith, n .number-of .ensures, t .if3 .taken)) (sym (i .index-at2 .ensures) ∙ c .if4 .taken))
 
 find-requires-2 : tie.Need-find-requires-2
-find-requires-2 c κs = c .before .before .before .before .before .before .before .pre .0 .rows
+find-requires-2 c κs = c .before .before .before .before .before .before .before .pre .0
 
 returns-3 : tie.Need-returns-3
 returns-3 c = c .find2 .ensures
