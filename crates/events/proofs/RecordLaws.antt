@@ -1,0 +1,104 @@
+-- Records and numbers of events. Assumes nothing.
+use mathlib.Core.Path.{_≡_, refl, sym, ap, _∙_}
+use mathlib.Core.List.{List, [], _∷_, _++_, map, append-assoc}
+use mathlib.Core.Logic.{_≢_}
+use Prim.Native.Nat.{ℕ, zero, suc, _+_, _*_, _/_, _%_, _<_, _≤_}
+use native.Mathlib.Nat.{mod-eq-of-lt, add-mul-mod-self-left}
+use native.Mathlib.Omega.{arith}
+use borrow.Author.Tests.{ne-eqb}
+use lib.ListN.{length, getD, set, take, drop, length-set, length-map}
+use lib.Seq.{take-suc, drop-cons, set-at, length-take-le}
+use Rattle.events.specs.declared.Cause.the-variants.{Frame, Value, Text, Odd}
+use Rattle.events.specs.declared.Unwritten.the-variants.{CountNotWritable, TooLong}
+use Rattle.events.specs.declared.Event.{Event}
+use Rattle.events.specs.declared.Event.the-variants.{MapVersion, PayloadShort, Server, Client, WriteRefused}
+use Rattle.events.specs.declared.EventRecord.{EventRecord}
+use Rattle.events.specs.Record.{packed, kindOf, handed, numberOf, causeOf, eventOf, recordOf, recordsOf}
+
+-- an event that is of none of the other kinds
+pub event-short : {kind : ℕ} (x start n : ℕ) → kind ≢ 1 → kind ≢ 6 → kind ≢ 7 → kind ≢ 8 → kind ≢ 9 → PayloadShort (causeOf kind) ≡ eventOf kind x start n
+unfolding eventOf
+event-short {kind} x start n a b c d e = simp (ne-eqb kind 1 a, ne-eqb kind 6 b, ne-eqb kind 7 c, ne-eqb kind 8 d, ne-eqb kind 9 e)
+
+-- ---- the fields of a packed number
+low : {a z : ℕ} (m b : ℕ) → z ≡ a + m * b → a < m → z % m ≡ a
+low {a} m b e h = ap (λ (x : ℕ). x % m) e ∙ add-mul-mod-self-left a m b ∙ mod-eq-of-lt h
+
+pub packed-record : (i kind k x start n : ℕ) → kind < 16 → k < 256 → x < 65536 → start < 8192 → n < 8192 → recordOf (packed i kind k x start n) ≡ record { payload = i; element = k; event = eventOf kind x start n }
+unfolding recordOf
+packed-record i kind k x start n hk he hx hs hn = fields (packed i kind k x start n) refl
+  where
+    fields : (e : ℕ) → e ≡ packed i kind k x start n → recordOf e ≡ record { payload = i; element = k; event = eventOf kind x start n }
+    fields e is =
+        let a : e / 18014398509481984 ≡ i = omega arith in
+        let b : e / 16 % 256 ≡ k = low 256 (x + 65536 * (start + 8192 * (n + 8192 * i))) (omega arith) he in
+        let c : e % 16 ≡ kind = low 16 (k + 256 * (x + 65536 * (start + 8192 * (n + 8192 * i)))) is hk in
+        let d : e / 4096 % 65536 ≡ x = low 65536 (start + 8192 * (n + 8192 * i)) (omega arith) hx in
+        let f : e / 268435456 % 8192 ≡ start = low 8192 (n + 8192 * i) (omega arith) hs in
+        let g : e / 2199023255552 % 8192 ≡ n = low 8192 i (omega arith) hn in
+        rw (a, b, c, d, f, g)
+
+-- ---- the number of a record says that record
+pub record Small (r : EventRecord) : Type 0 where
+  pub element : r .element < 256
+  pub index : handed (r .event) .index < 65536
+  pub start : handed (r .event) .start < 8192
+  pub len : handed (r .event) .len < 8192
+
+kind-small : (v : Event) → kindOf v < 16
+kind-small MapVersion = omega arith
+kind-small (PayloadShort Frame) = omega arith
+kind-small (PayloadShort Value) = omega arith
+kind-small (PayloadShort Text) = omega arith
+kind-small (PayloadShort Odd) = omega arith
+kind-small (Server x start n) = omega arith
+kind-small (Client x start n) = omega arith
+kind-small (WriteRefused CountNotWritable) = omega arith
+kind-small (WriteRefused TooLong) = omega arith
+
+event-kind : (v : Event) → eventOf (kindOf v) (handed v .index) (handed v .start) (handed v .len) ≡ v
+unfolding eventOf
+event-kind MapVersion = refl
+event-kind (PayloadShort Frame) = refl
+event-kind (PayloadShort Value) = refl
+event-kind (PayloadShort Text) = refl
+event-kind (PayloadShort Odd) = refl
+event-kind (Server x start n) = refl
+event-kind (Client x start n) = refl
+event-kind (WriteRefused CountNotWritable) = refl
+event-kind (WriteRefused TooLong) = refl
+
+pub record-number : (r : EventRecord) → Small r → recordOf (numberOf r) ≡ r
+record-number r s =
+    packed-record (r .payload) (kindOf (r .event)) (r .element) (handed (r .event) .index) (handed (r .event) .start) (handed (r .event) .len) (kind-small (r .event)) (s .element) (s .index) (s .start) (s .len)
+    ∙ ap (λ (v : Event). record { payload = r .payload; element = r .element; event = v }) (event-kind (r .event))
+
+-- ---- the events with the records of the first i numbers of the log stored, one after the other
+unfoldable pub stored : List ℕ → List EventRecord → ℕ → List EventRecord
+stored log ys zero = ys
+stored log ys (suc i) = set (stored log ys i) i (recordOf (getD log i 0))
+
+pub length-stored : (log : List ℕ) (ys : List EventRecord) (i : ℕ) → length (stored log ys i) ≡ length ys
+unfolding stored
+length-stored log ys zero = refl
+length-stored log ys (suc i) = length-set (stored log ys i) i (recordOf (getD log i 0)) ∙ length-stored log ys i
+
+length-records : (log : List ℕ) (i : ℕ) → i ≤ length log → length (recordsOf i log) ≡ i
+length-records log i h = length-map (take i log) recordOf ∙ length-take-le i log h
+
+map-append : (xs ys : List ℕ) → map recordOf (xs ++ ys) ≡ map recordOf xs ++ map recordOf ys
+map-append [] ys = refl
+map-append (x ∷ xs) ys = ap (λ (zs : List EventRecord). recordOf x ∷ zs) (map-append xs ys)
+
+records-more : (log : List ℕ) (i : ℕ) → i < length log → recordsOf (suc i) log ≡ recordsOf i log ++ (recordOf (getD log i 0) ∷ [])
+records-more log i h = ap (map recordOf) (take-suc log i 0 h) ∙ map-append (take i log) (getD log i 0 ∷ [])
+
+pub stored-is : (log : List ℕ) (ys : List EventRecord) (i : ℕ) → i ≤ length ys → i ≤ length log → stored log ys i ≡ recordsOf i log ++ drop i ys
+unfolding stored
+stored-is log ys zero h k = refl
+stored-is log ys (suc i) h k =
+    let r = recordOf (getD log i 0) in
+    ap (λ (zs : List EventRecord). set zs i r) (stored-is log ys i (omega arith) (omega arith) ∙ ap (λ (t : List EventRecord). recordsOf i log ++ t) (drop-cons ys i r (omega arith)))
+    ∙ set-at (recordsOf i log) (getD ys i r) (drop (suc i) ys) r i (length-records log i (omega arith))
+    ∙ sym (append-assoc (recordsOf i log) (r ∷ []) (drop (suc i) ys))
+    ∙ ap (λ (zs : List EventRecord). zs ++ drop (suc i) ys) (sym (records-more log i (omega arith)))

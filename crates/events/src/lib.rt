@@ -1,0 +1,34 @@
+// The event list as records that the caller lends, and the events of a payload in it.
+mod records;
+
+pub use records::event_record;
+pub use records::fill;
+
+// Why a payload was too short, or its field could not be decoded.
+pub enum Cause {
+    Frame,
+    Value,
+    Text,
+    Odd,
+}
+
+// Why a value was not written.
+pub enum Unwritten {
+    CountNotWritable,
+    TooLong,
+}
+
+pub enum Event {
+    MapVersion,
+    PayloadShort(Cause),
+    Server { index: u16, start: u16, len: u16 },
+    Client { index: u16, start: u16, len: u16 },
+    WriteRefused(Unwritten),
+}
+
+// The number of the payload in its cycle, the element's place in the mapping, and what happened there.
+pub struct EventRecord {
+    pub payload: u16,
+    pub element: u8,
+    pub event: Event,
+}
