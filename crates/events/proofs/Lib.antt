@@ -1,1 +1,4 @@
+pub mod Locals
+pub mod LocalArray
 pub mod RecordLaws
+pub mod ReceiveLaws

@@ -8,12 +8,18 @@ use native.Mathlib.Omega.{arith}
 use borrow.Author.Tests.{ne-eqb}
 use lib.ListN.{length, getD, set, take, drop, length-set, length-map}
 use lib.Seq.{take-suc, drop-cons, set-at, length-take-le}
+use Rattle.value.specs.declared.Fault.the-variants as fault
+use Rattle.pdo_step.specs.declared.Outcome.{Outcome}
+use Rattle.pdo_step.specs.declared.Outcome.the-variants as outcome
+use Rattle.pdo_step.specs.Outcomes.{reach}
+use Rattle.pdo_handler.specs.Run.{packed, one, eventOf as outcomeEvent}
+use Rattle.pdo_handler.specs.Consume.{mapVersion}
 use Rattle.events.specs.declared.Cause.the-variants.{Frame, Value, Text, Odd}
 use Rattle.events.specs.declared.Unwritten.the-variants.{CountNotWritable, TooLong}
 use Rattle.events.specs.declared.Event.{Event}
 use Rattle.events.specs.declared.Event.the-variants.{MapVersion, PayloadShort, Server, Client, WriteRefused}
 use Rattle.events.specs.declared.EventRecord.{EventRecord}
-use Rattle.events.specs.Record.{packed, kindOf, handed, numberOf, causeOf, eventOf, recordOf, recordsOf}
+use Rattle.events.specs.Record.{kindOf, handed, numberOf, causeOf, eventOf, recordOf, recordsOf, reported, noted, target}
 
 -- an event that is of none of the other kinds
 pub event-short : {kind : ℕ} (x start n : ℕ) → kind ≢ 1 → kind ≢ 6 → kind ≢ 7 → kind ≢ 8 → kind ≢ 9 → PayloadShort (causeOf kind) ≡ eventOf kind x start n
@@ -24,11 +30,11 @@ event-short {kind} x start n a b c d e = simp (ne-eqb kind 1 a, ne-eqb kind 6 b,
 low : {a z : ℕ} (m b : ℕ) → z ≡ a + m * b → a < m → z % m ≡ a
 low {a} m b e h = ap (λ (x : ℕ). x % m) e ∙ add-mul-mod-self-left a m b ∙ mod-eq-of-lt h
 
-pub packed-record : (i kind k x start n : ℕ) → kind < 16 → k < 256 → x < 65536 → start < 8192 → n < 8192 → recordOf (packed i kind k x start n) ≡ record { payload = i; element = k; event = eventOf kind x start n }
+pub packed-record : (i kind k x start n : ℕ) → kind < 16 → k < 256 → x < 65536 → start < 8192 → n < 8192 → recordOf (packed i kind k x start n) ≡ noted i k (eventOf kind x start n)
 unfolding recordOf
 packed-record i kind k x start n hk he hx hs hn = fields (packed i kind k x start n) refl
   where
-    fields : (e : ℕ) → e ≡ packed i kind k x start n → recordOf e ≡ record { payload = i; element = k; event = eventOf kind x start n }
+    fields : (e : ℕ) → e ≡ packed i kind k x start n → recordOf e ≡ noted i k (eventOf kind x start n)
     fields e is =
         let a : e / 18014398509481984 ≡ i = omega arith in
         let b : e / 16 % 256 ≡ k = low 256 (x + 65536 * (start + 8192 * (n + 8192 * i))) (omega arith) he in
@@ -71,7 +77,36 @@ event-kind (WriteRefused TooLong) = refl
 pub record-number : (r : EventRecord) → Small r → recordOf (numberOf r) ≡ r
 record-number r s =
     packed-record (r .payload) (kindOf (r .event)) (r .element) (handed (r .event) .index) (handed (r .event) .start) (handed (r .event) .len) (kind-small (r .event)) (s .element) (s .index) (s .start) (s .len)
-    ∙ ap (λ (v : Event). record { payload = r .payload; element = r .element; event = v }) (event-kind (r .event))
+    ∙ ap (noted (r .payload) (r .element)) (event-kind (r .event))
+
+-- ---- the number that an outcome gives says its event, and none where it gives none
+something : (i kind k x start n : ℕ) → 0 < kind → one (packed i kind k x start n) ≡ packed i kind k x start n ∷ []
+something i kind k x start n h = simp (ne-eqb (packed i kind k x start n) 0 (λ e. omega arith))
+
+single : (i kind k : ℕ) → 0 < kind → kind < 16 → k < 256 → map recordOf (one (packed i kind k 0 0 0)) ≡ noted i k (eventOf kind 0 0 0) ∷ []
+single i kind k h l u = ap (map recordOf) (something i kind k 0 0 0 h) ∙ ap (λ (r : EventRecord). r ∷ []) (packed-record i kind k 0 0 0 l u (omega arith) (omega arith) (omega arith))
+
+hand-off : (i kind k x start n : ℕ) → 0 < kind → kind < 16 → k < 256 → x < 65536 → start + n < 8192 → map recordOf (one (packed i kind k x start n)) ≡ noted i k (eventOf kind x start n) ∷ []
+hand-off i kind k x start n h l u v r = ap (map recordOf) (something i kind k x start n h) ∙ ap (λ (r : EventRecord). r ∷ []) (packed-record i kind k x start n l u v (omega arith) (omega arith))
+
+pub outcome-noted : (i k : ℕ) (o : Outcome) → k < 256 → target o < 65536 → reach o < 8192 → map recordOf (one (outcomeEvent i k o)) ≡ map (noted i k) (reported o)
+unfolding eventOf
+outcome-noted i k outcome.Misaligned u v r = refl
+outcome-noted i k outcome.Short u v r = single i 2 k (omega arith) (omega arith) u
+outcome-noted i k (outcome.Server x start n) u v r = hand-off i 6 k x start n (omega arith) (omega arith) u v r
+outcome-noted i k (outcome.Client x start n) u v r = hand-off i 7 k x start n (omega arith) (omega arith) u v r
+outcome-noted i k outcome.NoTarget u v r = refl
+outcome-noted i k outcome.Count u v r = refl
+outcome-noted i k outcome.CountRefused u v r = single i 8 k (omega arith) (omega arith) u
+outcome-noted i k (outcome.Undecodable fault.Value) u v r = single i 3 k (omega arith) (omega arith) u
+outcome-noted i k (outcome.Undecodable fault.Text) u v r = single i 4 k (omega arith) (omega arith) u
+outcome-noted i k (outcome.Undecodable fault.Odd) u v r = single i 5 k (omega arith) (omega arith) u
+outcome-noted i k outcome.TooLong u v r = single i 9 k (omega arith) (omega arith) u
+outcome-noted i k (outcome.Stored p start n) u v r = refl
+
+pub version-noted : (i : ℕ) → recordOf (mapVersion i) ≡ noted i 0 MapVersion
+unfolding eventOf
+version-noted i = packed-record i 1 0 0 0 0 (omega arith) (omega arith) (omega arith) (omega arith) (omega arith)
 
 -- ---- the events with the records of the first i numbers of the log stored, one after the other
 unfoldable pub stored : List ℕ → List EventRecord → ℕ → List EventRecord

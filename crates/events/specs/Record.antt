@@ -1,22 +1,22 @@
 -- The record and the number of an event: RULES.md 11. Assumes nothing.
-use Prim.Native.Nat.{ℕ, _+_, _*_, _/_, _%_}
+use Prim.Native.Nat.{ℕ, _/_, _%_}
 use mathlib.Core.Bool.{cond}
-use mathlib.Core.List.{List, map}
+use mathlib.Core.List.{List, [], _∷_, map}
 use lib.Dec.{eqb}
 use lib.ListN.{take}
+use Rattle.value.specs.declared.Fault.{Fault}
+use Rattle.value.specs.declared.Fault.the-variants as fault
+use Rattle.pdo_step.specs.declared.Outcome.{Outcome}
+use Rattle.pdo_step.specs.declared.Outcome.the-variants as outcome
+use Rattle.pdo_handler.specs.Run.{packed}
 use Rattle.events.specs.declared.Cause.{Cause}
 use Rattle.events.specs.declared.Cause.the-variants.{Frame, Value, Text, Odd}
-use Rattle.events.specs.declared.Unwritten.{Unwritten}
 use Rattle.events.specs.declared.Unwritten.the-variants.{CountNotWritable, TooLong}
 use Rattle.events.specs.declared.Event.{Event}
 use Rattle.events.specs.declared.Event.the-variants.{MapVersion, PayloadShort, Server, Client, WriteRefused}
 use Rattle.events.specs.declared.EventRecord.{EventRecord}
 
--- R11.14: "kind + 16 (element + 256 (index + 65,536 (start + 8,192 (length + 8,192 payload))))"
-abbrev pub packed : ℕ → ℕ → ℕ → ℕ → ℕ → ℕ → ℕ
-packed i kind k x start n = kind + 16 * (k + 256 * (x + 65536 * (start + 8192 * (n + 8192 * i))))
-
--- "Kinds: 1 MapVersion; 2 to 5 PayloadShort, cause Frame, Value, Text, Odd; 6 Server; 7 Client; 8 WriteRefused(CountNotWritable);
+-- R11.14: "Kinds: 1 MapVersion; 2 to 5 PayloadShort, cause Frame, Value, Text, Odd; 6 Server; 7 Client; 8 WriteRefused(CountNotWritable);
 -- 9 WriteRefused(TooLong)"
 abbrev pub kindOf : Event → ℕ
 kindOf MapVersion = 1
@@ -72,3 +72,38 @@ recordOf e =
 -- R11.9: "Events lie in order from the first record on"
 abbrev pub recordsOf : ℕ → List ℕ → List EventRecord
 recordsOf n log = map recordOf (take n log)
+
+-- ---- R11.5: the column "Event"
+abbrev pub causedBy : Fault → Cause
+causedBy fault.Value = Value
+causedBy fault.Text = Text
+causedBy fault.Odd = Odd
+
+abbrev pub reported : Outcome → List Event
+reported outcome.Misaligned = []
+reported outcome.Short = PayloadShort Frame ∷ []
+reported (outcome.Server x start n) = Server x start n ∷ []
+reported (outcome.Client x start n) = Client x start n ∷ []
+reported outcome.NoTarget = []
+reported outcome.Count = []
+reported outcome.CountRefused = WriteRefused CountNotWritable ∷ []
+reported (outcome.Undecodable f) = PayloadShort (causedBy f) ∷ []
+reported outcome.TooLong = WriteRefused TooLong ∷ []
+reported (outcome.Stored p start n) = []
+
+-- the index of a hand-off
+abbrev pub target : Outcome → ℕ
+target outcome.Misaligned = 0
+target outcome.Short = 0
+target (outcome.Server x start n) = x
+target (outcome.Client x start n) = x
+target outcome.NoTarget = 0
+target outcome.Count = 0
+target outcome.CountRefused = 0
+target (outcome.Undecodable f) = 0
+target outcome.TooLong = 0
+target (outcome.Stored p start n) = 0
+
+-- R11.9: "A record of the event list is an element number and an event"; R11.13: events "carry their payload's number"
+abbrev pub noted : ℕ → ℕ → Event → EventRecord
+noted i k v = record { payload = i; element = k; event = v }

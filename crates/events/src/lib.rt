@@ -1,6 +1,8 @@
 // The event list as records that the caller lends, and the events of a payload in it.
+mod receiving;
 mod records;
 
+pub use receiving::consume_pdo_payload;
 pub use records::event_record;
 pub use records::fill;
 
