@@ -2,6 +2,8 @@
 mod receiving;
 mod records;
 
+use pdo_handler::Consumed;
+pub use receiving::consume_by_value;
 pub use receiving::consume_pdo_payload;
 pub use records::event_record;
 pub use records::fill;
@@ -33,4 +35,10 @@ pub struct EventRecord {
     pub payload: u16,
     pub element: u8,
     pub event: Event,
+}
+
+// An answer, and the event list behind it.
+pub struct Heard {
+    pub answer: Consumed,
+    pub events: [EventRecord; 254],
 }

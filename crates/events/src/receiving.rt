@@ -4,6 +4,7 @@ ghost use Rattle.entry.specs.Table.{dict};
 ghost use Rattle.entry.specs.Put.{contents};
 ghost use Rattle.events.specs.Receive.{countOf, received, receivedOf};
 use crate::EventRecord;
+use crate::Heard;
 use crate::records::fill;
 use pdo_handler::Consumed;
 
@@ -46,4 +47,32 @@ pub fn consume_pdo_payload(
     );
     fill(events, &log, count(answer));
     answer
+}
+
+// The same with the list by value, in and out: for programs, since whoever lends a slice of records is proved by hand.
+pub fn consume_by_value(
+    objects: &[u64],
+    slots: &[u64],
+    words: &mut [u64],
+    bytes: &mut [u8],
+    payload: &[u8],
+    sender: u8,
+    version: u8,
+    ready: bool,
+    mut events: [EventRecord; 254],
+) -> Heard
+    ensures { λ r. ⌜ received (r .answer) (contents (now (words .exit)) (now (bytes .exit))) (r .events) ≡ receivedOf (dict (now (objects .entry)) (now (slots .entry)) (now (words .entry)) (now (bytes .entry))) (now (payload .entry)) sender version ready events ⌝ }
+{
+    let answer = consume_pdo_payload(
+        objects,
+        slots,
+        words,
+        bytes,
+        payload,
+        sender,
+        version,
+        ready,
+        &mut events,
+    );
+    Heard { answer, events }
 }
