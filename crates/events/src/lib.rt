@@ -6,7 +6,6 @@ use pdo_handler::Consumed;
 pub use receiving::consume_by_value;
 pub use receiving::consume_pdo_payload;
 pub use records::event_record;
-pub use records::fill;
 
 // Why a payload was too short, or its field could not be decoded.
 pub enum Cause {
