@@ -1,4 +1,5 @@
 pub mod Locals
 pub mod LocalArray
 pub mod RecordLaws
+pub mod OutcomeLaws
 pub mod ReceiveLaws
