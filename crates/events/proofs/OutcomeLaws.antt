@@ -24,8 +24,8 @@ use Rattle.pdo_step.specs.Outcomes.{part, onCount, onValue, onPlace, within, on
 use Rattle.pdo_step.specs.declared.Outcome.the-variants as outcome
 use Rattle.pdo_step.proofs.OutcomeLaws.{reach-within}
 use Rattle.pdo_handler.specs.Run.{one, eventOf}
-use Rattle.events.specs.Record.{recordOf, reported, noted, target}
-use Rattle.events.proofs.RecordLaws.{outcome-noted}
+use Rattle.events.specs.Record.{recordOf, reported, noted}
+use Rattle.events.proofs.RecordLaws.{target, outcome-noted}
 
 module _ (objects slots payload : List ℕ) where
   -- nothing at a place is handed off

@@ -19,7 +19,7 @@ use Rattle.events.specs.declared.Unwritten.the-variants.{CountNotWritabl
 use Rattle.events.specs.declared.Event.{Event}
 use Rattle.events.specs.declared.Event.the-variants.{MapVersion, PayloadShort, Server, Client, WriteRefused}
 use Rattle.events.specs.declared.EventRecord.{EventRecord}
-use Rattle.events.specs.Record.{kindOf, handed, numberOf, causeOf, eventOf, recordOf, recordsOf, reported, noted, target}
+use Rattle.events.specs.Record.{kindOf, handed, numberOf, causeOf, eventOf, recordOf, recordsOf, reported, noted}
 
 -- an event that is of none of the other kinds
 pub event-short : {kind : ℕ} (x start n : ℕ) → kind ≢ 1 → kind ≢ 6 → kind ≢ 7 → kind ≢ 8 → kind ≢ 9 → PayloadShort (causeOf kind) ≡ eventOf kind x start n
@@ -83,25 +83,38 @@ record-number r s =
 something : (i kind k x start n : ℕ) → 0 < kind → one (packed i kind k x start n) ≡ packed i kind k x start n ∷ []
 something i kind k x start n h = simp (ne-eqb (packed i kind k x start n) 0 (λ e. omega arith))
 
-single : (i kind k : ℕ) → 0 < kind → kind < 16 → k < 256 → map recordOf (one (packed i kind k 0 0 0)) ≡ noted i k (eventOf kind 0 0 0) ∷ []
-single i kind k h l u = ap (map recordOf) (something i kind k 0 0 0 h) ∙ ap (λ (r : EventRecord). r ∷ []) (packed-record i kind k 0 0 0 l u (omega arith) (omega arith) (omega arith))
+handed-off : (i kind k x start n : ℕ) → 0 < kind → kind < 16 → k < 256 → x < 65536 → start + n < 8192 → map recordOf (one (packed i kind k x start n)) ≡ noted i k (eventOf kind x start n) ∷ []
+handed-off i kind k x start n h l u v r = ap (map recordOf) (something i kind k x start n h) ∙ ap (λ (z : EventRecord). z ∷ []) (packed-record i kind k x start n l u v (omega arith) (omega arith))
 
-hand-off : (i kind k x start n : ℕ) → 0 < kind → kind < 16 → k < 256 → x < 65536 → start + n < 8192 → map recordOf (one (packed i kind k x start n)) ≡ noted i k (eventOf kind x start n) ∷ []
-hand-off i kind k x start n h l u v r = ap (map recordOf) (something i kind k x start n h) ∙ ap (λ (r : EventRecord). r ∷ []) (packed-record i kind k x start n l u v (omega arith) (omega arith))
+plain : (i kind k : ℕ) → 0 < kind → kind < 16 → k < 256 → map recordOf (one (packed i kind k 0 0 0)) ≡ noted i k (eventOf kind 0 0 0) ∷ []
+plain i kind k h l u = handed-off i kind k 0 0 0 h l u (omega arith) (omega arith)
+
+-- the index of a hand-off, else 0
+abbrev pub target : Outcome → ℕ
+target outcome.Misaligned = 0
+target outcome.Short = 0
+target (outcome.Server x start n) = x
+target (outcome.Client x start n) = x
+target outcome.NoTarget = 0
+target outcome.Count = 0
+target outcome.CountRefused = 0
+target (outcome.Undecodable f) = 0
+target outcome.TooLong = 0
+target (outcome.Stored p start n) = 0
 
 pub outcome-noted : (i k : ℕ) (o : Outcome) → k < 256 → target o < 65536 → reach o < 8192 → map recordOf (one (outcomeEvent i k o)) ≡ map (noted i k) (reported o)
 unfolding eventOf
 outcome-noted i k outcome.Misaligned u v r = refl
-outcome-noted i k outcome.Short u v r = single i 2 k (omega arith) (omega arith) u
-outcome-noted i k (outcome.Server x start n) u v r = hand-off i 6 k x start n (omega arith) (omega arith) u v r
-outcome-noted i k (outcome.Client x start n) u v r = hand-off i 7 k x start n (omega arith) (omega arith) u v r
+outcome-noted i k outcome.Short u v r = plain i 2 k (omega arith) (omega arith) u
+outcome-noted i k (outcome.Server x start n) u v r = handed-off i 6 k x start n (omega arith) (omega arith) u v r
+outcome-noted i k (outcome.Client x start n) u v r = handed-off i 7 k x start n (omega arith) (omega arith) u v r
 outcome-noted i k outcome.NoTarget u v r = refl
 outcome-noted i k outcome.Count u v r = refl
-outcome-noted i k outcome.CountRefused u v r = single i 8 k (omega arith) (omega arith) u
-outcome-noted i k (outcome.Undecodable fault.Value) u v r = single i 3 k (omega arith) (omega arith) u
-outcome-noted i k (outcome.Undecodable fault.Text) u v r = single i 4 k (omega arith) (omega arith) u
-outcome-noted i k (outcome.Undecodable fault.Odd) u v r = single i 5 k (omega arith) (omega arith) u
-outcome-noted i k outcome.TooLong u v r = single i 9 k (omega arith) (omega arith) u
+outcome-noted i k outcome.CountRefused u v r = plain i 8 k (omega arith) (omega arith) u
+outcome-noted i k (outcome.Undecodable fault.Value) u v r = plain i 3 k (omega arith) (omega arith) u
+outcome-noted i k (outcome.Undecodable fault.Text) u v r = plain i 4 k (omega arith) (omega arith) u
+outcome-noted i k (outcome.Undecodable fault.Odd) u v r = plain i 5 k (omega arith) (omega arith) u
+outcome-noted i k outcome.TooLong u v r = plain i 9 k (omega arith) (omega arith) u
 outcome-noted i k (outcome.Stored p start n) u v r = refl
 
 pub version-noted : (i : ℕ) → recordOf (mapVersion i) ≡ noted i 0 MapVersion

@@ -45,6 +45,7 @@ handed (Server x start n) = handOff x start n
 handed (Client x start n) = handOff x start n
 handed (WriteRefused u) = handOff 0 0 0
 
+-- "kind + 16 (element + 256 (index + 65,536 (start + 8,192 (length + 8,192 payload))))"
 abbrev pub numberOf : EventRecord → ℕ
 numberOf r = packed (r .payload) (kindOf (r .event)) (r .element) (handed (r .event) .index) (handed (r .event) .start) (handed (r .event) .len)
 
@@ -52,6 +53,7 @@ numberOf r = packed (r .payload) (kindOf (r .event)) (r .element) (handed (r .ev
 abbrev pub causeOf : ℕ → Cause
 causeOf kind = cond (eqb kind 2) Frame (cond (eqb kind 3) Value (cond (eqb kind 4) Text Odd))
 
+-- 0 and 10 to 15 are no event's kind, and are taken for the last cause
 unfoldable pub eventOf : ℕ → ℕ → ℕ → ℕ → Event
 eventOf kind x start n =
     cond (eqb kind 1) MapVersion
@@ -61,6 +63,7 @@ eventOf kind x start n =
     (cond (eqb kind 9) (WriteRefused TooLong)
     (PayloadShort (causeOf kind))))))
 
+-- kind in bits 0 to 3, element in 4 to 11, index in 12 to 27, start in 28 to 40, length in 41 to 53, the payload's number from 54 on
 unfoldable pub recordOf : ℕ → EventRecord
 recordOf e =
     record {
@@ -90,19 +93,6 @@ reported outcome.CountRefused = WriteRefused CountNotWritable ∷ []
 reported (outcome.Undecodable f) = PayloadShort (causedBy f) ∷ []
 reported outcome.TooLong = WriteRefused TooLong ∷ []
 reported (outcome.Stored p start n) = []
-
--- the index of a hand-off
-abbrev pub target : Outcome → ℕ
-target outcome.Misaligned = 0
-target outcome.Short = 0
-target (outcome.Server x start n) = x
-target (outcome.Client x start n) = x
-target outcome.NoTarget = 0
-target outcome.Count = 0
-target outcome.CountRefused = 0
-target (outcome.Undecodable f) = 0
-target outcome.TooLong = 0
-target (outcome.Stored p start n) = 0
 
 -- R11.9: "A record of the event list is an element number and an event"; R11.13: events "carry their payload's number"
 abbrev pub noted : ℕ → ℕ → Event → EventRecord

@@ -7,7 +7,7 @@ pub use receiving::consume_by_value;
 pub use receiving::consume_pdo_payload;
 pub use records::event_record;
 
-// Why a payload was too short, or its field could not be decoded.
+// The field ends past the payload, has fewer bytes than its type, is bad UTF-8, or is a UnicodeString of odd length.
 pub enum Cause {
     Frame,
     Value,
@@ -36,7 +36,7 @@ pub struct EventRecord {
     pub event: Event,
 }
 
-// An answer, and the event list behind it.
+// An answer, and the event list after it.
 pub struct Heard {
     pub answer: Consumed,
     pub events: [EventRecord; 254],
