@@ -4,6 +4,14 @@ mod dictionary;
 mod receiving;
 mod storing;
 
+pub use events::Cause;
+pub use events::Event;
+pub use events::EventRecord;
+pub use events::Heard;
+pub use events::Unwritten;
+pub use events::consume_by_value;
+pub use events::consume_pdo_payload;
+pub use events::event_record;
 pub use insertion::Head;
 pub use insertion::Inserted;
 pub use insertion::insert;

@@ -12,6 +12,10 @@ use Rattle.entry.specs.Table.{Dict}
 use Rattle.od.specs.New.{Made}
 use Rattle.od.specs.Nodes.{Given}
 use Rattle.od.specs.Counter.{Counted}
+use Rattle.entry.specs.Put.{Contents}
+use Rattle.events.specs.declared.EventRecord.{EventRecord}
+use Rattle.events.specs.Receive.{Received, received}
+use Rattle.pdo_handler.specs.declared.Consumed.{Consumed}
 use Rattle.pdo_cycle.specs.Cycle.{After as Cycling}
 use Rattle.pdo_handler.specs.Errors.{After as Marking}
 use Rattle.restoring.specs.Restore.{After as Restoring}
@@ -54,6 +58,8 @@ use Rattle.od.proofs.increment_counter.Reads as increment-counter
 use Rattle.od.proofs.increment_counter.Kinds as increment-counter-kinds
 use Rattle.pdo_validator.proofs.validate_pdo_mapping.Reads as validate-pdo-mapping
 use Rattle.pdo_validator.proofs.validate_pdo_mapping.Kinds as validate-pdo-mapping-kinds
+use Rattle.events.proofs.event_record.Reads as event-record
+use Rattle.events.proofs.event_record.Kinds as event-record-kinds
 use Rattle.pdo_cycle.proofs.consume_cycle.Reads as consume-cycle
 use Rattle.pdo_cycle.proofs.consume_cycle.Kinds as consume-cycle-kinds
 use Rattle.pdo_handler.proofs.update_pdo_error_object.Reads as update-pdo-error-object
@@ -142,3 +148,11 @@ consume-cycle-unique κs a z₁ z₂ w₁ w₂ p q = both (λ (x : Cycling). x .
 
 pub update-pdo-error-object-unique : Unique 4 update-pdo-error-object-kinds.ps update-pdo-error-object-kinds.r update-pdo-error-object.Post
 update-pdo-error-object-unique κs a z₁ z₂ w₁ w₂ p q = both (λ (x : Marking). x .answer) (λ x. (tt, (tt, (tt, (x .bytes, (tt, (tt, tt))))))) p q
+
+pub event-record-unique : Unique 0 event-record-kinds.ps event-record-kinds.r event-record.Post
+event-record-unique κs a z₁ z₂ w₁ w₂ p q = (p ∙ sym q, refl)
+
+-- `consume_pdo_payload` and `consume_by_value`: who lends a slice of records is proved by hand, so this is the equation that their contracts
+-- write, for any two outcomes
+pub consume-unique : (r : Received) {a b : Consumed} {c e : Contents} {l m : List EventRecord} → received a c l ≡ r → received b e m ≡ r → (a ≡ b) × (c ≡ e) × (l ≡ m)
+consume-unique r p q = (ap (λ (x : Received). x .answer) (p ∙ sym q), ap (λ (x : Received). x .contents) (p ∙ sym q), ap (λ (x : Received). x .events) (p ∙ sym q))
