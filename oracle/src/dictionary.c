@@ -8,21 +8,23 @@ int clock_gettime(int clock, void *time);
 // dictionary/link.rs has the same numbers.
 enum { BEGIN, LEND, PUT, FETCH, TIME };
 enum { NEW = 8, INSERT, READ, READ_U8, READ_U16, READ_U32, READ_U64, FIND, CNS, COUNTER };
-enum { WRITE = COUNTER + 1, VALIDATE, RESTORE };
+enum { WRITE = COUNTER + 1, VALIDATE, RESTORE, CONSUME, CYCLE, ERROR_BIT };
 
 // The dictionary's four slices, and the store.
 enum { SLICES = 5, LARGEST = 32768 };
 
-static struct lent slices[SLICES], name, vals, encodings, numbers, out;
+static struct lent slices[SLICES], name, vals, encodings, numbers, out, events;
 static int start_side;
 
 // The lengths are those that are lent; name, vals and encodings follow, each
 // filled up to whole words. A value to write is its type, as `kind`, and its
 // encoding; a count to check stands in the sub-index's place. A range to restore
-// is `index` and `kind`.
+// is `index` and `kind`. A payload is `encodings`, its sender and version stand in
+// the sub-index's and the kind's place, ready in the access's; the payloads of a cycle
+// are `vals`. A node whose bit is set stands in the sub-index's place.
 struct call {
     u64 op, index, sub_index, kind, access, has_default;
-    u64 name, vals, encodings, numbers, out;
+    u64 name, vals, encodings, numbers, out, events;
     u64 memory[];
 };
 
@@ -61,6 +63,14 @@ static u64 answer(const struct call *c) {
         return loomfinch_validate_pdo_mapping(DICTIONARY, index, sub_index);
     case RESTORE:
         return loomfinch_restore_power_on_values(DICTIONARY, STORE, index, (u16)c->kind);
+    case CONSUME:
+        return loomfinch_consume_pdo_payload(DICTIONARY, BYTES(encodings), sub_index, (u8)c->kind,
+                                             c->access, WORDS(events), number);
+    case CYCLE:
+        return loomfinch_consume_cycle(DICTIONARY, BYTES(encodings), WORDS(vals), WORDS(events),
+                                       number, number + 1);
+    case ERROR_BIT:
+        return loomfinch_update_pdo_error_object(DICTIONARY, index, sub_index);
     default:
         return loomfinch_increment_counter(DICTIONARY, index, sub_index);
     }
@@ -74,7 +84,7 @@ static u64 words(u64 bytes) {
 // reads, and the cells around everything.
 static u64 strays(void) {
     u64 found = (u64)(touched(&name) | touched(&vals) | touched(&encodings));
-    found |= (u64)(touched_around(&numbers) | touched_around(&out)) << 1;
+    found |= (u64)(touched_around(&numbers) | touched_around(&out) | touched_around(&events)) << 1;
     for (int k = 0; k < SLICES; k++) {
         found |= (u64)touched_around(&slices[k]) << (2 + k);
     }
@@ -90,6 +100,7 @@ static const u64 *lend_arguments(const struct call *c) {
     lend_given(&encodings, given_encodings, c->encodings, start_side);
     lend_filled(&numbers, c->numbers, start_side);
     lend_filled(&out, c->out, start_side);
+    lend_filled(&events, c->events, start_side);
     return given_encodings + words(c->encodings);
 }
 
@@ -101,6 +112,7 @@ static const u64 *make_call(const u64 *at) {
     reply(head, 16);
     reply(numbers.at, 8 * numbers.count);
     reply(out.at, out.count);
+    reply_changes(&events);
     for (int k = 0; k < SLICES; k++) {
         reply_changes(&slices[k]);
     }
@@ -177,6 +189,7 @@ static void make_all(void) {
     make_lent(&encodings, 1 << 19, 1);
     make_lent(&numbers, 4096, 8);
     make_lent(&out, 4096, 1);
+    make_lent(&events, 1 << 19, 8);
 }
 
 void dictionary_batch(const u64 *at, const u64 *end) {

@@ -5,6 +5,7 @@ use super::insertion::Insertion;
 use super::memory::Lent;
 use super::model::*;
 use super::objects::using;
+use super::payloads;
 use super::restores;
 use super::step::{Call, History, Step};
 use super::trial::Trial;
@@ -57,6 +58,7 @@ fn laid(random: &mut Random, used: Used, lengths: [usize; 4]) -> History {
     steps.extend(calls::each(random, &objects).into_iter().map(Step::Call));
     steps.extend(writes::each(random, &objects).map(Step::Call));
     steps.push(Step::Call(restores::any(random, &objects)));
+    steps.extend(payloads::each(random, &objects).map(Step::Call));
     steps.push(insert(&one_more(random, SMALLEST)));
     History { first: Lent { at_start: random.below(2) == 0, lengths, store: STORE }, steps }
 }

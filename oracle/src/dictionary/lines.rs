@@ -141,6 +141,8 @@ pub fn sayable(call: &Call) -> bool {
         // history.rt has no line for these.
         Call::Write(given) => given.data.len() <= MOST_BYTES_GIVEN,
         Call::ValidatePdoMapping { .. } | Call::RestorePowerOnValues { .. } => true,
+        Call::ConsumePdoPayload(_) | Call::ConsumeCycle(_) => false,
+        Call::UpdatePdoErrorObject { .. } => true,
     }
 }
 
@@ -168,6 +170,8 @@ fn given(call: &Call, store: usize) -> String {
         }
         Call::ValidatePdoMapping { index, count } => format!("V {index:X} {count:X}"),
         Call::RestorePowerOnValues { first, last } => format!("O {store:X} {first:X} {last:X}"),
+        Call::ConsumePdoPayload(_) | Call::ConsumeCycle(_) => String::new(),
+        Call::UpdatePdoErrorObject { index, node } => format!("B {index:X} {node:X}"),
     }
 }
 
@@ -177,7 +181,8 @@ fn found(call: &Call, outcome: &Outcome, memory: &Memory) -> String {
     match call {
         Call::New | Call::Insert(_) | Call::IncrementCounter { .. } => String::new(),
         Call::Write(_) | Call::ValidatePdoMapping { .. } => String::new(),
-        Call::RestorePowerOnValues { .. } => String::new(),
+        Call::RestorePowerOnValues { .. } | Call::UpdatePdoErrorObject { .. } => String::new(),
+        Call::ConsumePdoPayload(_) | Call::ConsumeCycle(_) => String::new(),
         Call::Read { .. } => {
             let (kind, word, start) = (numbers[0], numbers[1], numbers[2] as usize);
             // World has held the string in memory against the Rust's.

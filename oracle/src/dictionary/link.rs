@@ -3,7 +3,8 @@
 use super::insertion::Insertion;
 use super::memory::{BYTES, Lent, Memory, SLICES, STORE};
 use super::model::{self, Object, Used};
-use super::step::{Call, History, Outcome, Step, Width, Write};
+use super::step::{Call, Cycle, History, Outcome, Received, Step, Width, Write};
+use crate::call::number_fill;
 use crate::port::{Batch, Port, whole_words};
 use std::io::Result;
 
@@ -23,6 +24,9 @@ const COUNTER: u64 = 17;
 const WRITE: u64 = 18;
 const VALIDATE: u64 = 19;
 const RESTORE: u64 = 20;
+const CONSUME: u64 = 21;
+const CYCLE: u64 = 22;
+const ERROR_BIT: u64 = 23;
 
 /// Cells of one slice that a call changed, from the first one on.
 pub struct Change {
@@ -109,6 +113,9 @@ fn place(call: &Call) -> (u64, u64, u64) {
         Call::Write(given) => at(WRITE, &given.index, &given.sub_index),
         Call::ValidatePdoMapping { index, count } => at(VALIDATE, index, count),
         Call::RestorePowerOnValues { first, .. } => at(RESTORE, first, &0),
+        Call::ConsumePdoPayload(given) => (CONSUME, 0, given.sender.into()),
+        Call::ConsumeCycle(_) => (CYCLE, 0, 0),
+        Call::UpdatePdoErrorObject { index, node } => at(ERROR_BIT, index, node),
     }
 }
 
@@ -122,6 +129,15 @@ fn calling(call: &Call) -> Vec<u64> {
         Call::RestorePowerOnValues { last, .. } => {
             Insertion { shape: u64::from(*last), ..Insertion::default() }
         }
+        Call::ConsumePdoPayload(Received { payload, version, ready, .. }) => Insertion {
+            shape: u64::from(*version),
+            access: *ready,
+            encodings: payload.clone(),
+            ..Insertion::default()
+        },
+        Call::ConsumeCycle(Cycle { data, payloads, .. }) => {
+            Insertion { numbers: payloads.clone(), encodings: data.clone(), ..Insertion::default() }
+        }
         _ => Insertion::default(),
     };
     let (command, index, sub_index) = place(call);
@@ -130,6 +146,7 @@ fn calling(call: &Call) -> Vec<u64> {
     let mut words = vec![command, index, sub_index, shape, access, has_default];
     let lengths = [given.name.len(), given.numbers.len(), given.encodings.len(), numbers, out];
     words.extend(lengths.map(|length| length as u64));
+    words.push(call.event_room() as u64);
     words.extend(whole_words(given.name));
     words.extend(given.numbers);
     words.extend(whole_words(given.encodings));
@@ -140,17 +157,32 @@ pub fn given(port: &mut Port, call: &Call) -> Result<Given> {
     let (numbers, out) = call.results();
     let head = port.words(2)?;
     let numbers = port.words(numbers)?;
-    let outcome = Outcome { answer: head[0], numbers, out: port.bytes(out)? };
+    let out = port.bytes(out)?;
+    let events = events(port, call.event_room())?;
+    let outcome = Outcome { answer: head[0], numbers, out, events };
     let mut changes = Vec::new();
     for slice in 0..SLICES.len() {
-        let range = port.words(2)?;
-        let (first, count) = (range[0] as usize, range[1] as usize);
+        let (first, count) = changed_range(port)?;
         let cells = cells(port, slice, count)?;
         if count > 0 {
             changes.push(Change { slice, first, cells });
         }
     }
     Ok(Given { outcome, strays: head[1], changes })
+}
+
+/// The whole event list: most of it is as it was lent, and is not sent.
+fn events(port: &mut Port, room: usize) -> Result<Vec<u64>> {
+    let mut events: Vec<u64> = (0..room).map(number_fill).collect();
+    let (first, count) = changed_range(port)?;
+    events[first..first + count].copy_from_slice(&port.words(count)?);
+    Ok(events)
+}
+
+/// The first and the count of the cells that changed.
+fn changed_range(port: &mut Port) -> Result<(usize, usize)> {
+    let range = port.words(2)?;
+    Ok((range[0] as usize, range[1] as usize))
 }
 
 fn cells(port: &mut Port, slice: usize, count: usize) -> Result<Vec<u64>> {

@@ -3,10 +3,12 @@
 
 use super::breakage;
 use super::calls;
+use super::channels;
 use super::insertion::Insertion;
 use super::memory::{BYTES, Lent, Memory};
 use super::model::{self, *};
 use super::objects::{self, Pool, Sizes, using};
+use super::payloads;
 use super::restores;
 use super::step::{Call, History, Step};
 use super::trial::Trial;
@@ -19,14 +21,19 @@ pub fn compare(trial: &mut Trial, random: &mut Random) {
         every_cell(trial, random, &objects);
         every_length(trial, random, &objects);
     }
+    for _ in 0..4 {
+        let objects = channels::dictionary(random, 3);
+        every_cell(trial, random, &objects);
+        every_length(trial, random, &objects);
+    }
     for _ in 0..10_000 {
-        let objects = good(random);
+        let objects = any_good(random);
         let cells = cells(&objects);
         let edits = (0..2 + random.below(3)).map(|_| any_edit(random, &cells)).collect();
         trial.compare(history(random, &objects, edits));
     }
     for _ in 0..20_000 {
-        let mut objects = good(random);
+        let mut objects = any_good(random);
         breakage::any(random, &mut objects);
         trial.compare(history(random, &objects, Vec::new()));
     }
@@ -48,6 +55,14 @@ pub fn good(random: &mut Random) -> Vec<Object> {
         value.room[used..].fill_with(|| random.pick(&[0x80, 0xFF, 0x00, 0xC3]));
     }
     objects
+}
+
+/// Also one that consumes.
+fn any_good(random: &mut Random) -> Vec<Object> {
+    match random.below(4) {
+        0 => channels::dictionary(random, 3),
+        _ => good(random),
+    }
 }
 
 /// Every cell that a dictionary uses, with what it holds.
@@ -137,6 +152,7 @@ fn history(random: &mut Random, objects: &[Object], edits: Vec<Step>) -> History
     steps.extend(calls::each(random, objects).into_iter().map(Step::Call));
     steps.extend(writes::each(random, objects).map(Step::Call));
     steps.push(Step::Call(restores::any(random, objects)));
+    steps.extend(payloads::each(random, objects).map(Step::Call));
     steps.push(Step::Call(Call::Insert(insertion(random, objects))));
     if random.below(8) == 0 {
         steps.push(Step::Call(Call::New));
@@ -179,6 +195,7 @@ fn large(trial: &mut Trial, random: &mut Random) {
         steps.push(Step::Call(calls::any(random, &objects)));
         steps.push(Step::Call(writes::any(random, &objects)));
         steps.push(Step::Call(restores::any(random, &objects)));
+        steps.extend(payloads::each(random, &objects).map(Step::Call));
         steps.push(Step::Put { slice, at, cell: old });
     }
     steps.push(Step::Call(Call::Insert(insertion(random, &objects))));

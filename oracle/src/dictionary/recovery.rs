@@ -38,7 +38,7 @@ pub fn all(lines: &mut Lines, random: &mut Random) {
         assert!(lines.tally.reached(CALL, answer, cause), "a restore gives {answer}, {cause:?}");
     }
     for note in RULES.iter().chain(&NOTES) {
-        assert!(lines.tally.noted(CALL, note), "a restore finds {note}");
+        assert!(lines.tally.noted(CALL, note) > 0, "a restore finds {note}");
     }
 }
 

@@ -3,13 +3,17 @@
 use super::backend::{self, Kept, Table};
 use super::image::Record;
 use super::model::{ARRAY, Object, VARIABLE, Value};
+use super::node::Node;
+use super::running::Told;
 use super::step::{Width, Write};
+use super::writing::element;
 use crate::original;
-use powerlink_rs::PowerlinkError;
+use powerlink_rs::node::PdoHandler;
 use powerlink_rs::od::{
     AccessType, Category, Object as Shape, ObjectDictionary, ObjectEntry, ObjectValue,
 };
-use powerlink_rs::reach;
+use powerlink_rs::pdo::PDOVersion;
+use powerlink_rs::{NodeId, PowerlinkError, reach};
 use std::borrow::Cow;
 use std::cell::RefCell;
 use std::rc::Rc;
@@ -29,7 +33,7 @@ const ACCESSES: [AccessType; 7] = [
 ];
 
 pub struct Rust {
-    od: ObjectDictionary<'static>,
+    pub node: Node,
     kept: Rc<RefCell<Kept>>,
 }
 
@@ -60,7 +64,7 @@ impl Rust {
             }
             false => (None, Rc::default()),
         };
-        let mut rust = Self { od: ObjectDictionary::new(storage), kept };
+        let mut rust = Self { node: Node::around(ObjectDictionary::new(storage)), kept };
         objects.iter().for_each(|object| rust.insert(object));
         rust
     }
@@ -70,7 +74,7 @@ impl Rust {
     }
 
     pub fn insert_entry(&mut self, index: u16, entry: ObjectEntry) {
-        self.od.insert(index, entry);
+        self.node.core.od.insert(index, entry);
     }
 
     pub fn entry(object: &Object) -> ObjectEntry {
@@ -95,18 +99,18 @@ impl Rust {
 
     /// Just the Rust's own write, for timing.
     pub fn poke(&mut self, index: u16, sub_index: u8, value: ObjectValue) {
-        self.od.write(index, sub_index, value).expect("it is a right one");
+        self.node.core.od.write(index, sub_index, value).expect("it is a right one");
     }
 
     /// Just the Rust's own read, for timing.
     pub fn peek(&self, index: u16, sub_index: u8) -> Option<Cow<'_, ObjectValue>> {
-        self.od.read(index, sub_index)
+        self.node.core.od.read(index, sub_index)
     }
 
     /// Its None is told apart by whether there is such an object.
     pub fn read(&self, index: u16, sub_index: u8) -> Result<Found, u64> {
-        let Some(value) = self.od.read(index, sub_index) else {
-            let present = self.od.read_object(index).is_some();
+        let Some(value) = self.node.core.od.read(index, sub_index) else {
+            let present = self.node.core.od.read_object(index).is_some();
             return Err(if present { SUB_OBJECT_NOT_FOUND } else { OBJECT_NOT_FOUND });
         };
         let kind = kind(&value);
@@ -117,37 +121,37 @@ impl Rust {
 
     pub fn read_number(&self, width: Width, index: u16, sub_index: u8) -> Result<u64, u64> {
         let number = match width {
-            Width::U8 => self.od.read_u8(index, sub_index).map(u64::from),
-            Width::U16 => self.od.read_u16(index, sub_index).map(u64::from),
-            Width::U32 => self.od.read_u32(index, sub_index).map(u64::from),
-            Width::U64 => self.od.read_u64(index, sub_index),
+            Width::U8 => self.node.core.od.read_u8(index, sub_index).map(u64::from),
+            Width::U16 => self.node.core.od.read_u16(index, sub_index).map(u64::from),
+            Width::U32 => self.node.core.od.read_u32(index, sub_index).map(u64::from),
+            Width::U64 => self.node.core.od.read_u64(index, sub_index),
         };
         number.ok_or_else(|| self.read(index, sub_index).err().unwrap_or(TYPE_MISMATCH))
     }
 
     pub fn find_by_name(&self, name: &str) -> Result<u64, u64> {
-        let (index, sub_index) = self.od.find_by_name(name).ok_or(OBJECT_NOT_FOUND)?;
+        let (index, sub_index) = self.node.core.od.find_by_name(name).ok_or(OBJECT_NOT_FOUND)?;
         assert_eq!(sub_index, 0, "a name is its object's, so it names sub-index 0");
         Ok(index.into())
     }
 
     pub fn get_configured_cns(&self) -> Vec<u8> {
-        self.od.get_configured_cns().into_iter().map(|node| node.0).collect()
+        self.node.core.od.get_configured_cns().into_iter().map(|node| node.0).collect()
     }
 
     pub fn increment_counter(&mut self, index: u16, sub_index: u8) {
-        reach::increment_counter(&mut self.od, index, sub_index);
+        reach::increment_counter(&mut self.node.core.od, index, sub_index);
     }
 
     pub fn validate_pdo_mapping(&self, index: u16, count: u8) -> Result<(), u64> {
-        reach::validate_pdo_mapping(&self.od, index, count).map_err(refusal)
+        reach::validate_pdo_mapping(&self.node.core.od, index, count).map_err(refusal)
     }
 
     /// Of a value that keeps R3.4: the Rust has no other.
     pub fn write(&mut self, given: &Write) -> Result<Written, u64> {
         self.kept.borrow_mut().saved = false;
         let value = original::decode(given.kind, &given.data).expect("a right value decodes");
-        self.od.write(given.index, given.sub_index, value).map_err(refusal)?;
+        self.node.core.od.write(given.index, given.sub_index, value).map_err(refusal)?;
         let kept = &mut *self.kept.borrow_mut();
         if std::mem::take(&mut kept.restore_requested) {
             return Ok(Written::RestoreRequested);
@@ -176,12 +180,39 @@ impl Rust {
     }
 
     pub fn restore_power_on_values(&mut self, first: u16, last: u16) {
-        self.od.restore_power_on_values(first, last);
+        self.node.core.od.restore_power_on_values(first, last);
+    }
+
+    /// A payload that is ready. What no room of these objects holds is not kept.
+    pub fn consume(
+        &mut self,
+        sender: u8,
+        payload: &[u8],
+        version: u8,
+        objects: &[Object],
+    ) -> Vec<Told> {
+        let room = |index: u16, sub_index: u8| {
+            let row = objects.binary_search_by_key(&u64::from(index), |object| object.index);
+            let object = &objects[row.expect("the Rust has just these objects")];
+            let place = element(object, sub_index).expect("a string is no count");
+            object.values[place].room.len()
+        };
+        self.node.watched(sender, payload, version, &room)
+    }
+
+    /// A payload that is not ready.
+    pub fn ignore(&mut self, sender: u8, payload: &[u8], version: u8) {
+        self.node.consume_pdo_payload(NodeId(sender), payload, PDOVersion(version), false);
+    }
+
+    pub fn update_pdo_error_object(&mut self, index: u16, node: u8) {
+        self.node.update_pdo_error_object(index, NodeId(node));
     }
 
     /// Puts a value that was there before, whatever the access.
     pub fn put_back(&mut self, index: u16, sub_index: u8, old: &Value) {
-        let put = reach::write_internal(&mut self.od, index, sub_index, value(old), false);
+        let put =
+            reach::write_internal(&mut self.node.core.od, index, sub_index, value(old), false);
         put.expect("a value of its type was there");
     }
 }

@@ -4,9 +4,10 @@ use super::insertion::Insertion;
 use super::link::Given;
 use super::memory::{Lent, Memory, SLICES};
 use super::model::{Object, Value, is_string};
-use super::step::{Call, History, Outcome, Step, Write};
+use super::step::{Call, Cycle, History, Outcome, Received, Step, Write};
 use super::tally::answer_name;
 use super::trial::Difference;
+use crate::call::number_fill;
 
 /// Cells, or objects, of one kind that are printed.
 const MOST_CELLS: usize = 24;
@@ -90,7 +91,24 @@ fn call(call: &Call) -> String {
         }
         Call::ValidatePdoMapping { index, count } => format!("{name} {index:04X}h, {count}"),
         Call::RestorePowerOnValues { first, last } => format!("{name} {first:04X}h..{last:04X}h"),
+        Call::ConsumePdoPayload(given) => received(name, given),
+        Call::ConsumeCycle(given) => cycle(name, given),
+        Call::UpdatePdoErrorObject { index, node } => format!("{name} {index:04X}h, node {node}"),
     }
+}
+
+fn received(name: &str, given: &Received) -> String {
+    let Received { payload, sender, version, ready, room } = given;
+    let bytes = text(payload);
+    format!(
+        "{name} {bytes} sender {sender} version {version:X} ready {ready:X}, {room} events lent"
+    )
+}
+
+fn cycle(name: &str, given: &Cycle) -> String {
+    let Cycle { data, payloads, room } = given;
+    let numbers = payloads.chunks(5).map(|payload| format!("{payload:X?}")).collect();
+    format!("{name} data {} payloads (hex) [{}], {room} events lent", text(data), few(numbers))
 }
 
 fn insertion(given: &Insertion) -> String {
@@ -106,13 +124,19 @@ fn insertion(given: &Insertion) -> String {
 }
 
 fn outcome(outcome: &Outcome) -> String {
-    let Outcome { answer, numbers, out } = outcome;
+    let Outcome { answer, numbers, out, events } = outcome;
     let mut line = format!("{answer} {}", answer_name(*answer));
     if !numbers.is_empty() {
         line += &format!(", numbers {numbers:X?}");
     }
     if !out.is_empty() {
         line += &format!(", output {}", text(out));
+    }
+    let written = events.iter().enumerate().filter(|(place, event)| **event != number_fill(*place));
+    let written: Vec<String> =
+        written.map(|(place, event)| format!("{place}: {event:X}")).collect();
+    if !written.is_empty() {
+        line += &format!(", events {}", few(written));
     }
     line
 }

@@ -1,7 +1,7 @@
 //! From a history that differs to a smaller one that still does.
 
 use super::insertion::Insertion;
-use super::step::{Call, History, Step};
+use super::step::{Call, Cycle, History, Step};
 use std::time::{Duration, Instant};
 
 struct Shrink<'a, F: FnMut(&History) -> Option<usize>> {
@@ -130,9 +130,32 @@ fn simpler(step: &Step, part: usize) -> Option<Step> {
             1 => drop(given.data.pop()),
             _ => return None,
         },
+        Step::Call(Call::ConsumePdoPayload(given)) => match part {
+            0 => given.payload.truncate(given.payload.len() / 2),
+            1 => drop(given.payload.pop()),
+            2 => given.payload.fill(0),
+            _ => return None,
+        },
+        Step::Call(Call::ConsumeCycle(given)) => simpler_cycle(given, part)?,
         _ => return None,
     }
     Some(step)
+}
+
+/// Fewer payloads: the first or the last half, or all but one.
+fn simpler_cycle(given: &mut Cycle, part: usize) -> Option<()> {
+    let Cycle { data, payloads, .. } = given;
+    let count = payloads.len() / 5;
+    match part {
+        0 => payloads.truncate(5 * (count / 2)),
+        1 => drop(payloads.drain(..5 * (count / 2))),
+        2..=41 => {
+            drop(payloads.drain((5 * (part - 2)).min(5 * count)..(5 * (part - 1)).min(5 * count)))
+        }
+        42 => data.fill(0),
+        _ => return None,
+    }
+    Some(())
 }
 
 fn simpler_insertion(given: &mut Insertion, part: usize) -> Option<()> {

@@ -35,6 +35,12 @@ pub enum Call {
         first: u16,
         last: u16,
     },
+    ConsumePdoPayload(Received),
+    ConsumeCycle(Cycle),
+    UpdatePdoErrorObject {
+        index: u16,
+        node: u8,
+    },
 }
 
 /// A place, and the value for it as its type and its encoding.
@@ -44,6 +50,25 @@ pub struct Write {
     pub sub_index: u8,
     pub kind: u64,
     pub data: Vec<u8>,
+}
+
+/// A payload, and how many numbers the event list has. Every `ready` but 0 means ready.
+#[derive(Clone, PartialEq, Eq)]
+pub struct Received {
+    pub payload: Vec<u8>,
+    pub sender: u8,
+    pub version: u8,
+    pub ready: u64,
+    pub room: usize,
+}
+
+/// What a cycle delivered: five numbers a payload say where it lies in the data, how long it is,
+/// its sender, version and ready. `room` is that of the event list.
+#[derive(Clone, PartialEq, Eq)]
+pub struct Cycle {
+    pub data: Vec<u8>,
+    pub payloads: Vec<u64>,
+    pub room: usize,
 }
 
 #[derive(Clone, Copy, PartialEq, Eq)]
@@ -97,6 +122,7 @@ pub struct Outcome {
     pub answer: u64,
     pub numbers: Vec<u64>,
     pub out: Vec<u8>,
+    pub events: Vec<u64>,
 }
 
 impl Step {
@@ -130,6 +156,9 @@ impl Call {
             Self::Write(_) => "write",
             Self::ValidatePdoMapping { .. } => "validate_pdo_mapping",
             Self::RestorePowerOnValues { .. } => "restore_power_on_values",
+            Self::ConsumePdoPayload(_) => "consume_pdo_payload",
+            Self::ConsumeCycle(_) => "consume_cycle",
+            Self::UpdatePdoErrorObject { .. } => "update_pdo_error_object",
         }
     }
 
@@ -141,7 +170,18 @@ impl Call {
             Self::GetConfiguredCns(out) => (1, *out),
             Self::New | Self::Insert(_) | Self::IncrementCounter { .. } => (0, 0),
             Self::Write(_) | Self::ValidatePdoMapping { .. } => (0, 0),
-            Self::RestorePowerOnValues { .. } => (0, 0),
+            Self::RestorePowerOnValues { .. } | Self::UpdatePdoErrorObject { .. } => (0, 0),
+            Self::ConsumePdoPayload(_) => (1, 0),
+            Self::ConsumeCycle(_) => (2, 0),
+        }
+    }
+
+    /// How many numbers the lent event list has.
+    pub fn event_room(&self) -> usize {
+        match self {
+            Self::ConsumePdoPayload(given) => given.room,
+            Self::ConsumeCycle(given) => given.room,
+            _ => 0,
         }
     }
 
@@ -149,7 +189,8 @@ impl Call {
     pub fn writes(&self) -> bool {
         match self {
             Self::New | Self::Insert(_) | Self::IncrementCounter { .. } | Self::Write(_) => true,
-            Self::RestorePowerOnValues { .. } => true,
+            Self::RestorePowerOnValues { .. } | Self::UpdatePdoErrorObject { .. } => true,
+            Self::ConsumePdoPayload(_) | Self::ConsumeCycle(_) => true,
             Self::Read { .. } | Self::ReadNumber { .. } | Self::FindByName(_) => false,
             Self::GetConfiguredCns(_) | Self::ValidatePdoMapping { .. } => false,
         }

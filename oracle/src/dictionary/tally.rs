@@ -26,6 +26,8 @@ pub fn answer_name(answer: u64) -> &'static str {
         11 => "PdoMapOverrun",
         12 => "BufferTooShort",
         13 => "TooLong",
+        14 => "PayloadTooLong",
+        15 => "NoEventRoom",
         16 => "Occupied",
         17 => "Full",
         18 => "StoreFull",
@@ -58,15 +60,15 @@ impl Tally {
         }
     }
 
-    /// Whether a call found this besides.
-    pub fn noted(&self, call: &str, note: &str) -> bool {
-        self.notes.get(call).is_some_and(|notes| notes.contains_key(note))
+    /// How often a call found this besides.
+    pub fn noted(&self, call: &str, note: &str) -> u64 {
+        self.notes.get(call).and_then(|notes| notes.get(note)).copied().unwrap_or(0)
     }
 
     pub fn print(&self) {
         for (call, answers) in &self.answers {
             let counts = answers.iter().map(|(answer, count)| (answer_name(*answer), count));
-            println!("    {call:20} {}", line(counts));
+            println!("    {call:23} {}", line(counts));
         }
         for ((call, answer), causes) in &self.causes {
             let counts = causes.iter().map(|(cause, count)| (*cause, count));

@@ -27,9 +27,13 @@ pub struct Trial<'a> {
     /// How often the port's program was stopped.
     stops: usize,
     tally: Tally,
+    demands: Vec<Demand>,
     /// By the call and its wanted answer; with the words of its commands.
     found: BTreeMap<(&'static str, u64), (usize, History)>,
 }
+
+/// What a whole run must reach: it says what was not reached.
+pub type Demand = fn(&Tally) -> Vec<String>;
 
 /// Where a history first differs. Without `given` the port gave no answer: it
 /// was stopped by a fault, or by the clock.
@@ -52,8 +56,14 @@ impl<'a> Trial<'a> {
             differing: 0,
             stops: 0,
             tally: Tally::default(),
+            demands: Vec::new(),
             found: BTreeMap::new(),
         }
+    }
+
+    /// Is held against the run at its end.
+    pub fn demand(&mut self, demand: Demand) {
+        self.demands.push(demand);
     }
 
     pub fn compare(&mut self, history: History) {
@@ -127,6 +137,11 @@ impl<'a> Trial<'a> {
         }
         println!("the dictionary's answers:");
         self.tally.print();
+        // A run that leaves something out must not pass for one that compared it.
+        for lack in self.demands.iter().flat_map(|demand| demand(&self.tally)) {
+            println!("    lacking: {lack}");
+            self.differing += 1;
+        }
         (self.compared, self.differing)
     }
 }

@@ -40,7 +40,7 @@ pub struct World {
 pub struct Wanted {
     pub outcome: Outcome,
     pub cause: Option<&'static str>,
-    /// What else a restore found, for the tally.
+    /// What else a restore or a payload came upon, for the tally.
     pub notes: Vec<&'static str>,
 }
 
@@ -52,6 +52,7 @@ pub type Refused = (u64, Option<&'static str>);
 pub struct Done {
     pub numbers: Vec<u64>,
     pub out: Vec<u8>,
+    pub events: Vec<u64>,
     pub cause: Option<&'static str>,
 }
 
@@ -86,12 +87,14 @@ impl World {
             answer: 0,
             numbers: (0..numbers).map(number_fill).collect(),
             out: (0..out).map(byte_fill).collect(),
+            events: (0..call.event_room()).map(number_fill).collect(),
         };
         let mut notes = Vec::new();
         let cause = match self.done(call, &mut notes) {
             Ok(done) => {
                 outcome.numbers[..done.numbers.len()].copy_from_slice(&done.numbers);
                 outcome.out[..done.out.len()].copy_from_slice(&done.out);
+                outcome.events[..done.events.len()].copy_from_slice(&done.events);
                 done.cause
             }
             Err((answer, cause)) => {
@@ -129,6 +132,11 @@ impl World {
             }
             Call::RestorePowerOnValues { first, last } => {
                 dictionary.restore_power_on_values(*first..=*last, memory, notes)
+            }
+            Call::ConsumePdoPayload(given) => dictionary.consume_pdo_payload(given, memory, notes),
+            Call::ConsumeCycle(given) => dictionary.consume_cycle(given, memory, notes),
+            Call::UpdatePdoErrorObject { index, node } => {
+                Ok(dictionary.update_pdo_error_object(*index, *node, memory))
             }
         }
     }
@@ -265,7 +273,7 @@ impl Dictionary {
             return Err(refused(BUFFER_TOO_SHORT));
         }
         let cause = Some(if nodes.is_empty() { "no node" } else { "nodes" });
-        Ok(Done { numbers: vec![nodes.len() as u64], out: nodes, cause })
+        Ok(Done { numbers: vec![nodes.len() as u64], out: nodes, cause, ..Done::default() })
     }
 
     /// What the Rust makes of the value is put where the layout has it.
