@@ -121,11 +121,14 @@ fn record(random: &mut Random, channel: u16) -> Object {
     bare(RECORDS + channel, shape, values)
 }
 
-/// Words for what is there, in order; also another value between them, or no list.
+/// Words for what is there, in order; also another value between them, or no list but a number or a word.
 fn list(random: &mut Random, channel: u16, objects: &[Object], most: usize, right: bool) -> Object {
-    if random.below(24) == 0 {
-        let number = Value::new(UNSIGNED8, 0, &[random.pick(&[0, 1, 3])]);
-        return bare(LISTS + channel, VARIABLE, vec![number]);
+    if random.below(16) == 0 {
+        let value = match random.below(2) {
+            0 => Value::new(UNSIGNED8, 0, &[random.pick(&[0, 1, 3])]),
+            _ => Value::new(UNSIGNED64, 0, &word(random, objects, &mut 0).to_le_bytes()),
+        };
+        return bare(LISTS + channel, VARIABLE, vec![value]);
     }
     let count = match random.below(6) {
         0 => most,

@@ -132,7 +132,7 @@ pub fn any(random: &mut Random, objects: &[Object]) -> Call {
     let Arrival { payload, sender, version, ready } = arrival(random, objects);
     let room = match random.below(48) {
         0 => random.pick(&[0, 1, 253]),
-        1 => random.pick(&[255, 256, 300]),
+        1 => random.pick(&[255, 256, 300, 1000]),
         _ => LEAST_ROOM,
     };
     Call::ConsumePdoPayload(Received { payload, sender, version, ready, room })
