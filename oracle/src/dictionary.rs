@@ -23,6 +23,7 @@ mod model;
 mod node;
 mod objects;
 mod payloads;
+mod received;
 mod recovery;
 mod restored;
 mod restores;
@@ -38,6 +39,7 @@ mod step;
 mod stored;
 mod stores;
 mod tally;
+mod traps;
 mod trial;
 mod world;
 mod writes;
@@ -70,6 +72,11 @@ pub fn print_stored() {
 /// Prints those of them that have a store.
 pub fn print_stores() {
     stores::print();
+}
+
+/// Prints those that consume payloads.
+pub fn print_payloads() {
+    received::print();
 }
 
 /// Prints how long calls take, in the port and in the Rust.

@@ -1,7 +1,7 @@
 //! Compares the port with the unchanged Rust. Arguments: the seed, the port's
 //! program and, where only one part is to be run, that part: codec, dictionary
-//! or bench, which times calls and compares nothing. Without the port: the
-//! arguments --histories and --stores print histories with the answers that they must give.
+//! or bench, which times calls and compares nothing. Without the port: the arguments
+//! --histories, --stores and --payloads print histories with the answers that they must give.
 
 mod call;
 mod dictionary;
@@ -23,12 +23,9 @@ use std::process::ExitCode;
 fn main() -> ExitCode {
     let mut arguments = std::env::args().skip(1);
     let first = arguments.next();
-    if first.as_deref() == Some("--histories") {
-        dictionary::print_stored();
-        return ExitCode::SUCCESS;
-    }
-    if first.as_deref() == Some("--stores") {
-        dictionary::print_stores();
+    let printed = PRINTED.iter().find(|(argument, _)| first.as_deref() == Some(argument));
+    if let Some((_, print)) = printed {
+        print();
         return ExitCode::SUCCESS;
     }
     let Some(seed) = first.and_then(|seed| seed.parse().ok()) else {
@@ -62,6 +59,12 @@ fn main() -> ExitCode {
     println!("oracle: {} comparisons, {} differences (seed {seed})", totals.0, totals.1);
     ExitCode::from(u8::from(totals.1 > 0))
 }
+
+const PRINTED: [(&str, fn()); 3] = [
+    ("--histories", dictionary::print_stored),
+    ("--stores", dictionary::print_stores),
+    ("--payloads", dictionary::print_payloads),
+];
 
 type Part = (&'static str, fn(&mut Port, &mut Random) -> (u64, u64));
 

@@ -87,7 +87,7 @@ const ANSWERS: [(&str, u64, Option<&str>); 14] = [
 
 /// What payloads must come upon, in both calls: what happens before the first word, and each outcome
 /// of R11.5.
-const NOTES: [&str; 19] = [
+pub const NOTES: [&str; 19] = [
     "not ready",
     "no channel",
     "wrong version",

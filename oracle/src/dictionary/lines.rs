@@ -4,7 +4,7 @@
 use super::insertion::Insertion;
 use super::memory::{Lent, Memory};
 use super::model::{self, Object, is_string};
-use super::step::{Call, Outcome, Step, Write};
+use super::step::{Call, Cycle, Outcome, Received, Step, Write};
 use super::tally::Tally;
 use super::world::World;
 use crate::hex::hex;
@@ -18,7 +18,8 @@ pub const STORE_BYTES: usize = 1000;
 /// The longest file that is stored. The program that replays it reads 65,536 bytes at most.
 const LONGEST: usize = 60_000;
 
-/// The most bytes of a name or of encodings, and the most numbers, that history.rt takes from a line.
+/// The most bytes of a name, of encodings or of a payload, and the most numbers or events, that are
+/// taken from a line.
 const MOST_BYTES_GIVEN: usize = 4096;
 const MOST_NUMBERS_GIVEN: usize = 1024;
 
@@ -125,8 +126,8 @@ impl Lines {
     }
 }
 
-/// Whether a line can say the call: it has 16 bits for a number of a value, and
-/// no count of the numbers that a read has room for.
+/// Whether a line can say the call: it has 16 bits for a number of a value, no count of the numbers
+/// that a read has room for, and a ready that is a truth value.
 pub fn sayable(call: &Call) -> bool {
     match call {
         Call::Insert(given) => {
@@ -138,10 +139,17 @@ pub fn sayable(call: &Call) -> bool {
         Call::FindByName(name) => name.len() <= MOST_BYTES_GIVEN,
         Call::GetConfiguredCns(out) => *out <= 0xFF,
         Call::New | Call::ReadNumber { .. } | Call::IncrementCounter { .. } => true,
-        // history.rt has no line for these.
         Call::Write(given) => given.data.len() <= MOST_BYTES_GIVEN,
         Call::ValidatePdoMapping { .. } | Call::RestorePowerOnValues { .. } => true,
-        Call::ConsumePdoPayload(_) | Call::ConsumeCycle(_) => false,
+        Call::ConsumePdoPayload(given) => {
+            given.payload.len() <= MOST_BYTES_GIVEN
+                && given.room <= MOST_NUMBERS_GIVEN
+                && given.ready <= 1
+        }
+        Call::ConsumeCycle(given) => {
+            given.data.len() <= MOST_BYTES_GIVEN
+                && given.payloads.len().max(given.room) <= MOST_NUMBERS_GIVEN
+        }
         Call::UpdatePdoErrorObject { .. } => true,
     }
 }
@@ -170,19 +178,35 @@ fn given(call: &Call, store: usize) -> String {
         }
         Call::ValidatePdoMapping { index, count } => format!("V {index:X} {count:X}"),
         Call::RestorePowerOnValues { first, last } => format!("O {store:X} {first:X} {last:X}"),
-        Call::ConsumePdoPayload(_) | Call::ConsumeCycle(_) => String::new(),
+        Call::ConsumePdoPayload(Received { payload, sender, version, ready, room }) => {
+            format!("A {room:X} {sender:X} {version:X} {ready:X} {}", hex(payload))
+        }
+        Call::ConsumeCycle(Cycle { data, payloads, room }) => {
+            format!("Y {room:X} {} {:X}{}", hex(data), payloads.len(), listed(payloads))
+        }
         Call::UpdatePdoErrorObject { index, node } => format!("B {index:X} {node:X}"),
     }
 }
 
+/// Numbers, each behind a space.
+fn listed(numbers: &[u64]) -> String {
+    numbers.iter().map(|number| format!(" {number:X}")).collect()
+}
+
 /// What a call that is done answers besides.
 fn found(call: &Call, outcome: &Outcome, memory: &Memory) -> String {
-    let Outcome { numbers, out, .. } = outcome;
+    let Outcome { numbers, out, events, .. } = outcome;
     match call {
         Call::New | Call::Insert(_) | Call::IncrementCounter { .. } => String::new(),
         Call::Write(_) | Call::ValidatePdoMapping { .. } => String::new(),
         Call::RestorePowerOnValues { .. } | Call::UpdatePdoErrorObject { .. } => String::new(),
-        Call::ConsumePdoPayload(_) | Call::ConsumeCycle(_) => String::new(),
+        Call::ConsumePdoPayload(_) => {
+            format!(" {:X}{}", numbers[0], listed(&events[..numbers[0] as usize]))
+        }
+        Call::ConsumeCycle(_) => {
+            let [consumed, count] = [numbers[0], numbers[1]];
+            format!(" {consumed:X} {count:X}{}", listed(&events[..count as usize]))
+        }
         Call::Read { .. } => {
             let (kind, word, start) = (numbers[0], numbers[1], numbers[2] as usize);
             // World has held the string in memory against the Rust's.
