@@ -22,6 +22,7 @@ mod memory;
 mod model;
 mod node;
 mod objects;
+mod payload_times;
 mod payloads;
 mod received;
 mod recovery;

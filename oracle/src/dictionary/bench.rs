@@ -1,15 +1,17 @@
 //! Times calls of the port and of the Rust on the same dictionaries.
 
+use super::consuming::A_PAYLOAD;
 use super::image::{self, Record};
 use super::insertion::Insertion;
 use super::link;
 use super::memory::{Lent, ROW, SLOT};
 use super::model::{Object, Used};
 use super::objects::using;
+use super::payload_times;
 use super::restores;
 use super::rooms::table;
 use super::rust::Rust;
-use super::step::{Call, History, Step, Write};
+use super::step::{Call, Cycle, History, Received, Step, Write};
 use super::writes;
 use crate::original;
 use crate::port::Port;
@@ -33,9 +35,9 @@ const READ_WRITE_STORE: u64 = 4;
 const STORE: usize = 32_770;
 
 /// A dictionary, and the table that its store has the image of.
-struct Setting {
-    objects: Vec<Object>,
-    records: Vec<Record>,
+pub struct Setting {
+    pub objects: Vec<Object>,
+    pub records: Vec<Record>,
 }
 
 pub fn print(port: &mut Port, random: &mut Random) {
@@ -53,6 +55,7 @@ pub fn print(port: &mut Port, random: &mut Random) {
         row(port, &setting, &name, &restores::everything());
     }
     judging(port, random);
+    payload_times::print(port, random);
 }
 
 fn row(port: &mut Port, setting: &Setting, name: &str, call: &Call) {
@@ -115,7 +118,7 @@ fn judging(port: &mut Port, random: &mut Random) {
 }
 
 /// The shortest of several times, which other work on the machine disturbed least.
-fn least(time: impl FnMut(usize) -> f64) -> f64 {
+pub fn least(time: impl FnMut(usize) -> f64) -> f64 {
     (0..RUNS).map(time).fold(f64::INFINITY, f64::min)
 }
 
@@ -125,7 +128,7 @@ fn repeats(time: f64) -> f64 {
 }
 
 /// Nanoseconds a call: first a few, to see how often it can be repeated.
-fn port_time(port: &mut Port, setting: &Setting, call: &Call) -> f64 {
+pub fn port_time(port: &mut Port, setting: &Setting, call: &Call) -> f64 {
     let few = port_repeats(port, setting, call, 3);
     let repeats = repeats(few) as u64;
     least(|_| port_repeats(port, setting, call, repeats))
@@ -146,12 +149,12 @@ fn port_repeats(port: &mut Port, setting: &Setting, call: &Call, repeats: u64) -
     time as f64 / repeats as f64
 }
 
-fn missing() -> Call {
+pub fn missing() -> Call {
     Call::Read { index: MISSING, sub_index: 1, numbers: 3 }
 }
 
 /// The same for the Rust, whose storage copies each table that it takes or gives.
-fn rust_time(setting: &Setting, call: &Call) -> f64 {
+pub fn rust_time(setting: &Setting, call: &Call) -> f64 {
     if let Call::Insert(given) = call {
         return rust_insert_time(&setting.objects, given);
     }
@@ -199,6 +202,15 @@ fn make(rust: &mut Rust, call: &Call) {
             rust.poke(*index, *sub_index, value);
         }
         Call::RestorePowerOnValues { first, last } => rust.restore_power_on_values(*first, *last),
+        Call::ConsumePdoPayload(Received { payload, sender, version, .. }) => {
+            rust.receive(*sender, payload, *version, true);
+        }
+        Call::ConsumeCycle(Cycle { data, payloads, .. }) => {
+            for payload in payloads.chunks(A_PAYLOAD) {
+                let bytes = &data[payload[0] as usize..][..payload[1] as usize];
+                rust.receive(payload[2] as u8, bytes, payload[3] as u8, true);
+            }
+        }
         _ => unreachable!("it is not timed"),
     }
 }

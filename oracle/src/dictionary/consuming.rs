@@ -79,7 +79,7 @@ impl Dictionary {
     ) -> Vec<u64> {
         notes.push("payloads");
         if !payload.ready {
-            self.rust.ignore(payload.sender, payload.bytes, payload.version);
+            self.rust.receive(payload.sender, payload.bytes, payload.version, false);
             notes.push("not ready");
             return Vec::new();
         }

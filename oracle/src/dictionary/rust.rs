@@ -33,7 +33,7 @@ const ACCESSES: [AccessType; 7] = [
 ];
 
 pub struct Rust {
-    pub node: Node,
+    node: Node,
     kept: Rc<RefCell<Kept>>,
 }
 
@@ -200,9 +200,9 @@ impl Rust {
         self.node.watched(sender, payload, version, &room)
     }
 
-    /// A payload that is not ready.
-    pub fn ignore(&mut self, sender: u8, payload: &[u8], version: u8) {
-        self.node.consume_pdo_payload(NodeId(sender), payload, PDOVersion(version), false);
+    /// Just the Rust's own run, for what is not ready and for timing.
+    pub fn receive(&mut self, sender: u8, payload: &[u8], version: u8, ready: bool) {
+        self.node.consume_pdo_payload(NodeId(sender), payload, PDOVersion(version), ready);
     }
 
     pub fn update_pdo_error_object(&mut self, index: u16, node: u8) {
