@@ -10,9 +10,18 @@
 //   W SIZE INDEX SUB TYPE DATA ANSWER                      writing, with the store's first SIZE bytes; DATA is the encoding
 //   V INDEX COUNT ANSWER                                   the check of a mapping's count
 //   O SIZE FIRST LAST ANSWER                               restoring power-on values, from the store's first SIZE bytes
+//   A ROOM SENDER VERSION READY PAYLOAD ANSWER [COUNT EVENTS]
+//                                                          consuming a payload, with an event list of ROOM numbers; the events,
+//                                                          COUNT of them, are numbers with spaces between them
+//   Y ROOM DATA COUNT NUMBERS ANSWER [CONSUMED COUNT EVENTS]
+//                                                          consuming a cycle; COUNT numbers say its payloads, five each
+//   B INDEX NODE ANSWER                                    setting a node's bit in the error object at an index
 //   D SLICE PLACE VALUE                                    damage: sets an element of slice 0 to 3, or of the store, 4
 //   S SUM                                                  the sum over the dictionary
 //   T SUM                                                  the sum over the dictionary and the store
+use crate::consuming::bit_line;
+use crate::consuming::consume_line;
+use crate::consuming::cycle_line;
 use crate::hex::bytes;
 use crate::hex::next;
 use crate::hex::number;
@@ -302,6 +311,9 @@ pub fn holds(
         b'W' => write_line(s, first, objects, slots, words, arena, store),
         b'V' => check_line(s, first, objects, slots, words, arena),
         b'O' => restore_line(s, first, objects, slots, words, arena, store),
+        b'A' => consume_line(s, first, objects, slots, words, arena),
+        b'Y' => cycle_line(s, first, objects, slots, words, arena),
+        b'B' => bit_line(s, first, objects, slots, words, arena),
         b'D' => damage_line(s, first, objects, slots, words, arena, store),
         b'S' => sum(objects, slots, words, arena) == number(s, first),
         b'T' => sum_of_bytes(store, sum(objects, slots, words, arena)) == number(s, first),

@@ -1,7 +1,8 @@
 // Runs every table and writes how many lines were run, a space, how many differ, and a newline.
-// The tables are lines (see `lines` and `history`): our own, and those with the Rust's answers in three files, which the oracle made:
+// The tables are lines (see `lines` and `history`): our own, and those with the Rust's answers in four files, which the oracle made:
 // rust.txt is what oracle/run --sample prints, histories.txt what oracle/run --histories prints, stores.txt what oracle/run --stores
-// prints.
+// prints, payloads.txt what oracle/run --payloads prints.
+mod consuming;
 mod hex;
 mod histories;
 mod history;
@@ -43,7 +44,8 @@ fn main() {
     let damaged = histories::damaged(counted);
     let sampled = stored(b"rust.txt", false, damaged);
     let told = stored(b"histories.txt", true, sampled);
-    let all = stored(b"stores.txt", true, told);
+    let kept = stored(b"stores.txt", true, told);
+    let all = stored(b"payloads.txt", true, kept);
     io::print_decimal(1, all.run);
     io::write_all(1, b" ");
     io::print_decimal(1, all.differ);
