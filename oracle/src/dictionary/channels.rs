@@ -223,7 +223,8 @@ fn present(random: &mut Random, objects: &[Object]) -> (u16, u8, usize) {
     let object = &objects[random.below(objects.len())];
     let index = object.index as u16;
     let count = object.values.len();
-    if object.shape != VARIABLE && (count == 0 || random.below(6) == 0) {
+    // Objects that break a rule may have none in a Variable too.
+    if count == 0 || object.shape != VARIABLE && random.below(6) == 0 {
         return (index, 0, random.pick(&[1, 1, 1, 2, 0]));
     }
     let element = random.below(count);
@@ -245,7 +246,7 @@ fn fitting(random: &mut Random, value: &Value) -> usize {
         0 => room + 1,
         1 => room + 2,
         2 => 0,
-        3 => value.word as usize,
+        3 => (value.word as usize).min(LONGEST),
         4 | 5 => random.below(room + 1),
         _ => room,
     };
