@@ -5,6 +5,7 @@ use super::channels;
 use super::consuming::{LEAST_ROOM, MOST_PAYLOADS};
 use super::memory::Lent;
 use super::model::*;
+use super::objects;
 use super::payloads::{self, Arrival};
 use super::restores;
 use super::step::{Call, Cycle, History, Step};
@@ -56,8 +57,19 @@ const LEAST_PAYLOADS: u64 = 1_000_000;
 
 /// What a run did not reach of all that it must.
 fn lacking(tally: &Tally) -> Vec<String> {
+    let mut lacking = not_reached(tally);
     let payloads = tally.noted(CONSUME, "payloads") + tally.noted(CYCLE, "payloads");
-    let few = (payloads < LEAST_PAYLOADS).then(|| format!("{payloads} payloads are too few"));
+    if payloads < LEAST_PAYLOADS {
+        lacking.push(format!("{payloads} payloads are too few"));
+    }
+    if !tally.reached(CYCLE, 2, Some("too many payloads")) {
+        lacking.push("a cycle of over 1,024 payloads".to_string());
+    }
+    lacking
+}
+
+/// What of consuming was not reached; the stored histories are held against it too.
+pub fn not_reached(tally: &Tally) -> Vec<String> {
     let notes = [CONSUME, CYCLE].into_iter().flat_map(|call| {
         let missed = NOTES.iter().filter(move |note| tally.noted(call, note) == 0);
         missed.map(move |note| format!("{call}, {note}"))
@@ -65,10 +77,12 @@ fn lacking(tally: &Tally) -> Vec<String> {
     let answers =
         ANSWERS.iter().filter(|(call, answer, cause)| !tally.reached(call, *answer, *cause));
     let answers = answers.map(|(call, answer, cause)| format!("{call} gives {answer}, {cause:?}"));
-    few.into_iter().chain(notes).chain(answers).collect()
+    notes.chain(answers).collect()
 }
 
-const ANSWERS: [(&str, u64, Option<&str>); 14] = [
+const BIT: &str = "update_pdo_error_object";
+
+const ANSWERS: [(&str, u64, Option<&str>); 16] = [
     (CONSUME, 1, None),
     (CONSUME, 14, None),
     (CONSUME, 15, None),
@@ -77,17 +91,19 @@ const ANSWERS: [(&str, u64, Option<&str>); 14] = [
     (CYCLE, 0, Some("ended for event room")),
     (CYCLE, 1, None),
     (CYCLE, 2, Some("numbers not by five")),
-    (CYCLE, 2, Some("too many payloads")),
     (CYCLE, 2, Some("a payload ends past 64 bits")),
     (CYCLE, 2, Some("a payload not within the data")),
     (CYCLE, 2, Some("sender")),
     (CYCLE, 2, Some("version")),
     (CYCLE, 14, None),
+    (BIT, 0, Some("a bit set")),
+    (BIT, 0, Some("nothing")),
+    (BIT, 1, None),
 ];
 
 /// What payloads must come upon, in both calls: what happens before the first word, and each outcome
 /// of R11.5.
-pub const NOTES: [&str; 19] = [
+const NOTES: [&str; 19] = [
     "not ready",
     "no channel",
     "wrong version",
@@ -214,7 +230,7 @@ fn error_objects(random: &mut Random) -> Vec<Object> {
     all.extend((0..=LAST_KIND).map(|kind| {
         variable(Value {
             room: vec![0x41; 34],
-            ..Value::new(kind, 34, &super::objects::encoding(random, kind, 32))
+            ..Value::new(kind, 34, &objects::encoding(random, kind, 32))
         })
     }));
     all.push(list(0x1C81, vec![bytes(32, 32)]));
@@ -229,8 +245,9 @@ fn every_node(object: Object) -> History {
     let lengths = object.used().lengths();
     let mut steps = vec![Step::Lay(vec![object])];
     for node in 0..=u8::MAX {
-        let index = if node % 16 == 3 { 0x1C82 } else { 0x1C81 };
-        steps.push(Step::Call(Call::UpdatePdoErrorObject { index, node }));
+        for index in [0x1C81, 0x1C82] {
+            steps.push(Step::Call(Call::UpdatePdoErrorObject { index, node }));
+        }
     }
     History { first: Lent { at_start: false, lengths, store: 0 }, steps }
 }

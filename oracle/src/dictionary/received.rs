@@ -1,6 +1,7 @@
 //! The stored histories of payloads, cycles and error bits; like those of stores.rs.
 
 use super::channels;
+use super::consumed::not_reached;
 use super::consuming::{LEAST_ROOM, LONGEST_PAYLOAD};
 use super::lines::{LENT, Lines, sayable};
 use super::model::*;
@@ -16,9 +17,6 @@ const SEED: u64 = 304;
 
 /// Longer payloads would make a line long and say nothing more, but for those about the longest.
 const LONGEST: usize = 40;
-
-const CONSUME: &str = "consume_pdo_payload";
-const CYCLE: &str = "consume_cycle";
 
 pub fn print() {
     let random = &mut Random::new(SEED);
@@ -37,42 +35,10 @@ pub fn print() {
         mixture(&mut lines, random);
     }
     damage(&mut lines, random);
-    lacking(&lines).iter().for_each(|lack| panic!("the lines lack {lack}"));
+    let lacking = not_reached(&lines.tally);
+    assert!(lacking.is_empty(), "the lines lack {lacking:?}");
     print!("{}", lines.finish());
 }
-
-/// What the lines must reach and do not.
-fn lacking(lines: &Lines) -> Vec<String> {
-    let notes = super::consumed::NOTES.iter().flat_map(|note| {
-        let calls = [CONSUME, CYCLE].into_iter();
-        calls.filter(|call| lines.tally.noted(call, note) == 0).map(move |call| (call, *note))
-    });
-    let notes = notes.map(|(call, note)| format!("{call}, {note}"));
-    let answers =
-        ANSWERS.iter().filter(|(call, answer, cause)| !lines.tally.reached(call, *answer, *cause));
-    notes.chain(answers.map(|(call, answer, cause)| format!("{call} {answer} {cause:?}"))).collect()
-}
-
-const BIT: &str = "update_pdo_error_object";
-
-const ANSWERS: [(&str, u64, Option<&str>); 16] = [
-    (CONSUME, 1, None),
-    (CONSUME, 14, None),
-    (CONSUME, 15, None),
-    (CYCLE, 0, Some("no payload")),
-    (CYCLE, 0, Some("all payloads")),
-    (CYCLE, 0, Some("ended for event room")),
-    (CYCLE, 1, None),
-    (CYCLE, 2, Some("numbers not by five")),
-    (CYCLE, 2, Some("a payload ends past 64 bits")),
-    (CYCLE, 2, Some("a payload not within the data")),
-    (CYCLE, 2, Some("sender")),
-    (CYCLE, 2, Some("version")),
-    (CYCLE, 14, None),
-    (BIT, 0, Some("a bit set")),
-    (BIT, 0, Some("nothing")),
-    (BIT, 1, None),
-];
 
 fn payload(bytes: &[u8], sender: u8, version: u8, ready: u64, room: usize) -> Call {
     Call::ConsumePdoPayload(Received { payload: bytes.to_vec(), sender, version, ready, room })
