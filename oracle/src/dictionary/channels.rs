@@ -42,8 +42,12 @@ pub fn dictionary(random: &mut Random, most_words: usize) -> Vec<Object> {
     let channels: Vec<u16> = (0..1 + random.below(3)).map(|_| channel(random)).collect();
     all.extend(channels.iter().map(|channel| record(random, *channel)));
     let all = rising(all);
-    let lists: Vec<Object> =
-        channels.iter().map(|channel| list(random, *channel, &all, most_words, right)).collect();
+    // A channel without a list still takes its sender's payloads.
+    let lists = channels.iter().filter_map(|channel| {
+        let has_list = random.below(12) > 0;
+        has_list.then(|| list(random, *channel, &all, most_words, right))
+    });
+    let lists: Vec<Object> = lists.collect();
     rising([all, lists].concat())
 }
 

@@ -172,7 +172,8 @@ pub fn cycle(random: &mut Random, objects: &[Object], most: usize) -> Call {
     };
     let mut cycle = cycle_of(random, &arrivals, room);
     if random.below(12) == 0 {
-        spoil(random, &mut cycle);
+        // Of several rules the order decides.
+        (0..random.pick(&[1, 1, 2, 3])).for_each(|_| spoil(random, &mut cycle));
     }
     Call::ConsumeCycle(cycle)
 }
@@ -181,7 +182,7 @@ pub fn cycle(random: &mut Random, objects: &[Object], most: usize) -> Call {
 fn spoil(random: &mut Random, cycle: &mut Cycle) {
     let length = cycle.data.len() as u64;
     let numbers = &mut cycle.payloads;
-    if random.below(6) == 0 || numbers.is_empty() {
+    if random.below(6) == 0 || numbers.len() < A_PAYLOAD {
         numbers.resize((numbers.len() + random.below(7)).saturating_sub(3), 0);
         return;
     }

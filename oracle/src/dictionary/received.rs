@@ -31,7 +31,7 @@ pub fn print() {
     bounds(&mut lines, random);
     most_events(&mut lines);
     cycles(&mut lines);
-    for _ in 0..9 {
+    for _ in 0..8 {
         mixture(&mut lines, random);
     }
     damage(&mut lines, random);

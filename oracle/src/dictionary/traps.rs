@@ -170,7 +170,8 @@ fn strings() -> Vec<Trap> {
     ]
 }
 
-/// Senders 0, 240 and 241, versions, and a second channel of the same sender.
+/// Senders 0, 240 and 241, versions, and a second channel of the same sender, also where only that has a
+/// list.
 fn senders() -> Vec<Trap> {
     let with = |node: u8, expected: u8, sender: u8| {
         let channel = bare(0x1400, RECORD, u8s([node, expected]));
@@ -179,6 +180,7 @@ fn senders() -> Vec<Trap> {
     };
     let first = bare(0x1400, RECORD, u8s([5, 0x10]));
     let second = [bare(0x1401, RECORD, u8s([5, 0])), bare(0x1601, ARRAY, vec![good()])];
+    let listed_later = bare(0x1601, ARRAY, vec![good()]);
     let wide = bare(0x1400, RECORD, [u8s([5]), u16s([0x10])].concat());
     let no_list = bare(0x1400, VARIABLE, u8s([5]));
     vec![
@@ -189,6 +191,7 @@ fn senders() -> Vec<Trap> {
         with(241, 0, 241),
         with(255, 0, 255),
         trap(words([good()]), [vec![first, target()], second.to_vec()].concat(), &[7]),
+        trap(listed_later, vec![bare(0x1401, RECORD, u8s([5, 0])), target()], &[7]),
         trap(words([good()]), vec![wide, target()], &[7]),
         trap(words([good()]), vec![no_list, target()], &[7]),
         Trap { version: 0x12, ..with(5, 0x10, 5) },
