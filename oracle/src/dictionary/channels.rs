@@ -1,5 +1,5 @@
-//! Random dictionaries that consume: records of channels, their mapping lists, what the words of these
-//! point at, and the two error objects. Most are nearly right.
+//! Random dictionaries that consume: records of channels, their mapping lists, what the words of
+//! these point at, and the two error objects. Most are nearly right.
 
 use super::model::*;
 use super::objects;
@@ -91,7 +91,8 @@ fn value(random: &mut Random) -> Value {
     value
 }
 
-/// Most times 32 bytes as DS 301 has them; also shorter, in a larger room, of another type, or a list.
+/// Most times 32 bytes as DS 301 has them; also shorter, in a larger room, of another type, or a
+/// list.
 fn error_object(random: &mut Random, index: u16) -> Object {
     let length = random.pick(&[32, 32, 32, 32, 30, 29, 1, 0]);
     let room = length + random.pick(&[0, 0, 0, 2]);
@@ -125,7 +126,8 @@ fn record(random: &mut Random, channel: u16) -> Object {
     bare(RECORDS + channel, shape, values)
 }
 
-/// Words for what is there, in order; also another value between them, or no list but a number or a word.
+/// Words for what is there, in order; also another value between them, or no list but a number or a
+/// word.
 fn list(random: &mut Random, channel: u16, objects: &[Object], most: usize, right: bool) -> Object {
     if random.below(16) == 0 {
         let value = match random.below(2) {

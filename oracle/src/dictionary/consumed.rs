@@ -101,8 +101,8 @@ const ANSWERS: [(&str, u64, Option<&str>); 16] = [
     (BIT, 1, None),
 ];
 
-/// What payloads must come upon, in both calls: what happens before the first word, and each outcome
-/// of R11.5.
+/// What payloads must come upon, in both calls: what happens before the first word, and each
+/// outcome of R11.5.
 const NOTES: [&str; 19] = [
     "not ready",
     "no channel",

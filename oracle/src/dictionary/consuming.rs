@@ -1,6 +1,6 @@
-//! What consuming must give: RULES.md 11 read a second time, on the plain objects. All that the Rust
-//! tells must be what is told here, and all its values those of the objects. What it cannot say is
-//! document 01's: the element of an event, TooLong, the refusals, and where bytes lie.
+//! What consuming must give: RULES.md 11 read a second time, on the plain objects. All that the
+//! Rust tells must be what is told here, and all its values those of the objects. What it cannot
+//! say is document 01's: the element of an event, TooLong, the refusals, and where bytes lie.
 
 use super::memory::Memory;
 use super::running::{MAP_VERSION, Payload, Run, Told, Word, set_bit};
@@ -19,7 +19,8 @@ pub const MOST_PAYLOADS: usize = 1024;
 pub const A_PAYLOAD: usize = 5;
 
 impl Dictionary {
-    /// Neither refusal has a counterpart in the Rust, which takes any payload and has no event list.
+    /// Neither refusal has a counterpart in the Rust, which takes any payload and has no event
+    /// list.
     pub fn consume_pdo_payload(
         &mut self,
         given: &Received,

@@ -1,5 +1,6 @@
-//! The node that the Rust's dictionary stands in, and what consuming is seen to do there. The Rust's
-//! own run is made, step by step its own too; between two steps is looked at what the last one did.
+//! The node that the Rust's dictionary stands in, and what consuming is seen to do there. The
+//! Rust's own run is made, step by step its own too; between two steps is looked at what the last
+//! one did.
 
 use super::running::{
     CLIENT, COUNT_REFUSED, FRAME, MAP_VERSION, ODD, SERVER, TEXT, TOO_LONG, Told, VALUE,
@@ -40,8 +41,9 @@ impl Node {
         Self { core, errors: DllErrorManager::default(), states: CnNmtStateMachine }
     }
 
-    /// The Rust's own run and all that it reports and hands off, in order. It has no rooms: a string
-    /// that it puts beyond one is taken out again (R2.5), so that the run goes on as the port's does.
+    /// The Rust's own run and all that it reports and hands off, in order. It has no rooms: a
+    /// string that it puts beyond one is taken out again (R2.5), so that the run goes on as the
+    /// port's does.
     pub fn watched(
         &mut self,
         sender: u8,
@@ -138,7 +140,7 @@ impl PdoHandler<'static> for Watch<'_> {
             assert_eq!(error, DllError::PdoPayloadShort { node_id: sender });
             self.tell(cause(entry, payload, there.as_ref()), None);
         }
-        if !self.handed() && ended.is_ok() {
+        if !self.tell_handed() && ended.is_ok() {
             if let (Some(there), Some(field)) = (there, field(entry, payload)) {
                 self.look_at_write(entry, &there, field);
             }
@@ -153,8 +155,8 @@ impl Watch<'_> {
         self.told.push(Told { step: self.steps, kind, handed });
     }
 
-    /// Whether the step handed its field to the server or the client.
-    fn handed(&mut self) -> bool {
+    /// Whether the step handed its field to the server or the client, which is then told.
+    fn tell_handed(&mut self) -> bool {
         let core = &mut self.node.core;
         let requests = take(&mut core.embedded_sdo_server.requests);
         let responses = take(&mut core.embedded_sdo_client.responses);

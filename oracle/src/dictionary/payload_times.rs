@@ -1,5 +1,5 @@
-//! Times consuming, by the port and by the Rust: a payload of eight numbers, and a cycle of such payloads,
-//! with the channel first and last, alone and among records for all channels.
+//! Times consuming, by the port and by the Rust: a payload of eight numbers, and a cycle of such
+//! payloads, with the channel first and last, alone and among records for all channels.
 
 use super::bench::{self, Setting};
 use super::consuming::LEAST_ROOM;
@@ -44,7 +44,8 @@ fn rows(port: &mut Port, random: &mut Random, setting: &Setting, records: u64, c
         let rust_time = bench::least(|_| bench::rust_time(setting, &call));
         let ratio = port_time / rust_time;
         println!(
-            "{objects:7} {records:7} {channel:7}  {name:15} {port_time:11.0} {rust_time:11.0} {ratio:7.2} {judging:11.0}"
+            "{objects:7} {records:7} {channel:7}  {name:15} {port_time:11.0} {rust_time:11.0} \
+             {ratio:7.2} {judging:11.0}"
         );
     }
 }
@@ -53,8 +54,8 @@ fn list(index: u64, values: Vec<Value>) -> Object {
     Object { index, shape: LAST_SHAPE, access: NO_ACCESS, name: vec![], values, default: None }
 }
 
-/// So many objects of four numbers each around the channel; records beyond the first come on top, as far
-/// as a dictionary goes.
+/// So many objects of four numbers each around the channel; records beyond the first come on top,
+/// as far as a dictionary goes.
 fn setting(objects: usize, records: u64, channel: u64) -> Setting {
     let number = |byte: u8| Value::new(UNSIGNED8, 0, &[byte]);
     let zero = || Value::new(UNSIGNED32, 0, &[0; 4]);

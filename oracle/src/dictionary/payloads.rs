@@ -78,8 +78,8 @@ fn aligned(list: &Object) -> impl Iterator<Item = (u16, u8, usize, usize)> {
     })
 }
 
-/// As long as the list's largest end, one byte less or more, or any; the bytes are most times such as
-/// the targets take.
+/// As long as the list's largest end, one byte less or more, or any; the bytes are most times such
+/// as the targets take.
 fn mapped(random: &mut Random, list: &Object, objects: &[Object]) -> Vec<u8> {
     let ends = aligned(list).map(|(_, _, start, length)| start + length);
     let near = ends.filter(|end| *end <= LONGEST_PAYLOAD).max().unwrap_or(0);
@@ -105,7 +105,8 @@ fn mapped(random: &mut Random, list: &Object, objects: &[Object]) -> Vec<u8> {
     payload
 }
 
-/// A text for a text, damaged now and then; a word that is nearly right for a mapping; a node for a record.
+/// A text for a text, damaged now and then; a word that is nearly right for a mapping; a node for a
+/// record.
 fn suit(random: &mut Random, objects: &[Object], index: u16, sub_index: u8, field: &mut [u8]) {
     let object = objects.iter().find(|object| object.index == index.into());
     let there = object.and_then(|object| Some(&object.values[element(object, sub_index)?]));

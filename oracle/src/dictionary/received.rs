@@ -93,8 +93,8 @@ fn versions(lines: &mut Lines) {
     }
 }
 
-/// Bits of nodes at the ends of bytes and of what has a bit, case 7 among them; then in an object that
-/// is shorter, is no OctetString, is a list, or is not there.
+/// Bits of nodes at the ends of bytes and of what has a bit, case 7 among them; then in an object
+/// that is shorter, is no OctetString, is a list, or is not there.
 fn bits(lines: &mut Lines) {
     lines.begin();
     let octets = |length: usize| Value::new(12, 32, &vec![0; length]);
@@ -141,7 +141,8 @@ fn most_events(lines: &mut Lines) {
     lines.call(payload(&[], 5, 0, 1, LEAST_ROOM));
 }
 
-/// Two events a payload: as many payloads as find 254 free numbers, and none that is not ready without.
+/// Two events a payload: as many payloads as find 254 free numbers, and none that is not ready
+/// without.
 fn cycles(lines: &mut Lines) {
     lines.begin();
     lines.insert(&bare(0x1400, RECORD, u8s([5, 0])));

@@ -1,4 +1,5 @@
-//! A run over one payload: RULES.md R11.2 to R11.10 on the plain objects, written from the rules alone.
+//! A run over one payload: RULES.md R11.2 to R11.10 on the plain objects, written from the rules
+//! alone.
 
 use super::memory::Memory;
 use super::model::{self, Object, VARIABLE, is_string, is_text};

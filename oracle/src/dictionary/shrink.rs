@@ -1,5 +1,6 @@
 //! From a history that differs to a smaller one that still does.
 
+use super::consuming::A_PAYLOAD;
 use super::insertion::Insertion;
 use super::step::{Call, Cycle, History, Step};
 use std::time::{Duration, Instant};
@@ -142,18 +143,19 @@ fn simpler(step: &Step, part: usize) -> Option<Step> {
     Some(step)
 }
 
-/// Fewer payloads: the first or the last half, or all but one.
+/// Fewer payloads: the first or the last half, simpler data, then all but one.
 fn simpler_cycle(given: &mut Cycle, part: usize) -> Option<()> {
     let Cycle { data, payloads, .. } = given;
-    let count = payloads.len() / 5;
+    let half = A_PAYLOAD * (payloads.len() / A_PAYLOAD / 2);
     match part {
-        0 => payloads.truncate(5 * (count / 2)),
-        1 => drop(payloads.drain(..5 * (count / 2))),
-        2..=41 => {
-            drop(payloads.drain((5 * (part - 2)).min(5 * count)..(5 * (part - 1)).min(5 * count)))
+        0 => payloads.truncate(half),
+        1 => drop(payloads.drain(..half)),
+        2 => data.fill(0),
+        _ => {
+            let first = A_PAYLOAD * (part - 3);
+            payloads.get(first..first + A_PAYLOAD)?;
+            payloads.drain(first..first + A_PAYLOAD);
         }
-        42 => data.fill(0),
-        _ => return None,
     }
     Some(())
 }

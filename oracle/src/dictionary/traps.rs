@@ -1,5 +1,5 @@
-//! Dictionaries and payloads in which a consumer errs easily, each with what it is about, and document
-//! 01's cases 5 to 11.
+//! Dictionaries and payloads in which a consumer errs easily, each with what it is about, and
+//! document 01's cases 5 to 11.
 
 use super::model::*;
 use super::stored::bare;
@@ -87,7 +87,8 @@ fn lists() -> Vec<Trap> {
     ]
 }
 
-/// A list's sub-index 0 as target: too few bytes for it stop, a byte is refused, at a mapping silently.
+/// A list's sub-index 0 as target: too few bytes for it stop, a byte is refused, at a mapping
+/// silently.
 fn counts() -> Vec<Trap> {
     let list = || bare(0x6002, ARRAY, u8s([1, 2]));
     let empty = || bare(0x6002, RECORD, vec![]);
@@ -170,8 +171,8 @@ fn strings() -> Vec<Trap> {
     ]
 }
 
-/// Senders 0, 240 and 241, versions, and a second channel of the same sender, also where only that has a
-/// list.
+/// Senders 0, 240 and 241, versions, and a second channel of the same sender, also where only that
+/// has a list.
 fn senders() -> Vec<Trap> {
     let with = |node: u8, expected: u8, sender: u8| {
         let channel = bare(0x1400, RECORD, u8s([node, expected]));
