@@ -7,8 +7,8 @@ use crate::history::answer_is;
 use crate::history::index_at;
 use crate::history::sub_at;
 use crate::memory::numbers;
-use pdo_handler::Consumed;
-use pdo_cycle::Cycle;
+use loomfinch::Consumed;
+use loomfinch::Cycle;
 
 // Are the first n numbers of the log those that start at `at`, and all behind them 0?
 fn events_are(s: &[u8], at: usize, log: &[u64], n: usize) -> bool {
@@ -121,7 +121,7 @@ fn cycle_is(
     log: &mut [u64],
 ) -> bool {
     let expected = number(s, at);
-    match pdo_cycle::consume_cycle(objects, slots, words, arena, data, payloads, log) {
+    match loomfinch::consume_cycle(objects, slots, words, arena, data, payloads, log) {
         Cycle::Done { consumed, events } => {
             let consumed_at = next(s, at);
             let events_at = next(s, consumed_at);
@@ -183,7 +183,7 @@ pub fn bit_line(
     let answer = number(s, next(s, node));
     let node = sub_at(s, node);
     answer_is(
-        pdo_handler::update_pdo_error_object(objects, slots, words, arena, index, node),
+        loomfinch::update_pdo_error_object(objects, slots, words, arena, index, node),
         answer,
     )
 }
