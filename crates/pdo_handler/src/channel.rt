@@ -35,7 +35,7 @@ fn row_near(objects: &[u64], r: usize, index: u16) -> Found
 }
 
 // The U8 at a sub-index above 0 of the object in row i.
-fn u8_in(
+pub fn u8_in(
     objects: &[u64],
     slots: &[u64],
     words: &[u64],

@@ -7,6 +7,7 @@ mod running;
 use answers::Refusal;
 pub use channel::first_match;
 pub use channel::right_version;
+pub use channel::u8_in;
 pub use channel::version_of;
 pub use consuming::consume_logged;
 pub use consuming::receive;

@@ -51,7 +51,7 @@ fn limit(objects: &[u64], slots: &[u64], words: &[u64], bytes: &[u8], index: u16
 }
 
 // The largest end of n mapping words, of which the first lies at slot `first`.
-fn ends(slots: &[u64], words: &[u64], n: usize, first: usize) -> Mapped
+pub fn ends(slots: &[u64], words: &[u64], n: usize, first: usize) -> Mapped
     requires { ⌜ Elements (now slots) (now words) n first ⌝ }
     ensures { λ r. ⌜ r ≡ endsFrom (now (slots .entry)) (now (words .entry)) n first 0 ⌝ }
 {
