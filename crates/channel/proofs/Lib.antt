@@ -1,1 +1,4 @@
 pub mod CheckLaws
+pub mod CleanLaws
+pub mod PassLaws
+pub mod DemandLaws

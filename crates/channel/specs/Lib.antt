@@ -1,2 +1,3 @@
 pub mod Elements
 pub mod Check
+pub mod Demand

@@ -30,7 +30,7 @@ marked-sane : (f : Frame) (c : Contents) (x : ℕ) → Sane f c → Sane f (mark
 marked-sane f c x s = record { well = mark-keeps (held f c) (s .well) (s .bytes) x (f .sender); bytes = mark-bytes (held f c) (s .well) (s .bytes) x (f .sender) }
 
 module _ (f : Frame) (b : Bytes (f .payload)) where
-  act-sane : (c : Contents) (w : ℕ) → Sane f c → Sane f (actOf f c (decided f w))
+  pub act-sane : (c : Contents) (w : ℕ) → Sane f c → Sane f (actOf f c (decided f w))
   unfolding actOf
   act-sane c w s = go (isShort (decided f w))
     where

@@ -1,0 +1,75 @@
+-- Demand 3: which payloads a channel admits, and what it means that they are written whole. RULES.md R12.4 to R12.6. Assumes nothing.
+use Prim.Native.Nat.{ℕ, _+_, _≤_, _<_}
+use mathlib.Core.Path.{_≡_}
+use mathlib.Core.Bool.{Bool, true, false}
+use mathlib.Core.List.{List, [], _∷_}
+use lib.ListN.{length}
+use Rattle.text.specs.declared.Text.the-variants.{Good}
+use Rattle.text.specs.Machine.{judge}
+use Rattle.mapping.specs.Word.{entryOf, fieldOf, endOf}
+use Rattle.mapping.specs.declared.Field.{Field}
+use Rattle.mapping.specs.declared.Field.the-variants as field
+use Rattle.entry.specs.Table.{Dict, kindAt, countAt, firstAt, typeAt}
+use Rattle.entry.specs.Find.{findRow, placeOf}
+use Rattle.entry.specs.Put.{Contents, contents, putIn}
+use Rattle.entry.specs.Encode.{encodingIn}
+use Rattle.entry.specs.declared.Found.the-variants.{At}
+use Rattle.entry.specs.declared.Place.{Place}
+use Rattle.entry.specs.declared.Place.the-variants.{NoObject, NoSub, Count, Value}
+use Rattle.pdo_step.specs.declared.Outcome.the-variants.{Stored}
+use Rattle.pdo_step.specs.Outcomes.{part, within}
+use Rattle.pdo_handler.specs.Channel.{firstMatch, expectedOf, rightVersion}
+use Rattle.pdo_handler.specs.Run.{Frame, decided, actOf, listIn}
+
+-- R12.4: "its length is from the largest end of the list's U64 elements": each of them ends within the payload. The list's first slot is p,
+-- and j of its words lie before.
+abbrev pub Long : List ℕ → List ℕ → ℕ → List ℕ → ℕ → Type 0
+Long slots payload p [] j = Unit {0}
+Long slots payload p (w ∷ ws) j = (typeAt slots (p + j) ≡ 8 → endOf (entryOf w) ≤ length payload) × Long slots payload p ws (j + 1)
+
+-- "every VisibleString field (aligned, target outside 1200h..12FFh) is UTF-8"
+pub record TextAt (objects slots payload : List ℕ) (w : ℕ) : Type 0 where
+  pub good : (p start n : ℕ) → fieldOf (entryOf w) ≡ field.Whole start n → within 0x1200 0x12FF (entryOf w .index) ≡ false
+      → placeOf objects (entryOf w .index) (entryOf w .«sub_index») ≡ Value p → typeAt slots p ≡ 11 → judge (part payload start n) ≡ Good
+
+abbrev pub Texts : List ℕ → List ℕ → List ℕ → ℕ → List ℕ → ℕ → Type 0
+Texts objects slots payload p [] j = Unit {0}
+Texts objects slots payload p (w ∷ ws) j = (typeAt slots (p + j) ≡ 8 → TextAt objects slots payload w) × Texts objects slots payload p ws (j + 1)
+
+-- "it is ready; i is the first match of the sender; the version is right; its length is .. to 1,490 bytes"; the channel's list is in row r
+pub record Admitted (d : Dict) (i r : ℕ) (payload : List ℕ) (sender version : ℕ) (ready : Bool) : Type 0 where
+  pub is-ready : ready ≡ true
+  pub first : firstMatch d sender ≡ At i
+  pub right : rightVersion (expectedOf d i) version ≡ true
+  pub long : Long (d .slots) payload (firstAt (d .objects) r) (listIn (d .objects) (d .words) r) 0
+  pub short : length payload ≤ 1490
+  pub texts : Texts (d .objects) (d .slots) payload (firstAt (d .objects) r) (listIn (d .objects) (d .words) r) 0
+
+-- R12.5: "its step .. stores a value whose encoding is the field"
+pub record Whole (f : Frame) (c : Contents) (w : ℕ) : Type 0 where
+  pub target : ℕ
+  pub start : ℕ
+  pub len : ℕ
+  pub field : fieldOf (entryOf w) ≡ field.Whole start len
+  pub stores : decided f w ≡ Stored target start len
+  pub encodes : encodingIn (f .slots) (actOf f c (decided f w) .words) (actOf f c (decided f w) .bytes) target ≡ part (f .payload) start len
+
+-- R12.6: "putting (R5.7) each field at its target, in list order"
+abbrev pub putField : Frame → Contents → Field → Place → Contents
+putField f c field.Misaligned q = c
+putField f c (field.Whole start n) NoObject = c
+putField f c (field.Whole start n) NoSub = c
+putField f c (field.Whole start n) (Count k) = c
+putField f c (field.Whole start n) (Value p) = putIn (f .slots) c p (part (f .payload) start n)
+
+abbrev pub putWord : Frame → Contents → ℕ → Contents
+putWord f c w = putField f c (fieldOf (entryOf w)) (placeOf (f .objects) (entryOf w .index) (entryOf w .«sub_index»))
+
+unfoldable pub putAll : Frame → List ℕ → Contents → Contents
+putAll f [] c = c
+putAll f (w ∷ ws) c = putAll f ws (putWord f c w)
+
+-- "every element whole"; an element that is not U64 has no step
+abbrev pub AllWhole : Frame → ℕ → List ℕ → ℕ → Contents → Type 0
+AllWhole f p [] j c = Unit {0}
+AllWhole f p (w ∷ ws) j c = (typeAt (f .slots) (p + j) ≡ 8) × Whole f c w × AllWhole f p ws (j + 1) (putWord f c w)
