@@ -1,22 +1,19 @@
 -- A clean word stores its field, whole, of every payload that is long enough and has good text there. Assumes nothing.
-use mathlib.Core.Path.{_≡_, refl, sym, ap, _∙_, subst}
+use mathlib.Core.Path.{_≡_, refl}
 use mathlib.Core.Bool.{Bool, true, false, cond, not, _&&_}
 use mathlib.Core.List.{List}
 use mathlib.Core.Logic.{_⊎_, inl, inr, ⊎-elim}
 use Prim.Native.Nat.{ℕ, _+_, _%_, _<_, _≤_}
 use native.Mathlib.Decide.{decLt}
 use native.Mathlib.Omega.{arith}
-use borrow.Author.Tests.{eqb-true, leb-true, le-ltb, lt-leb, le-leb, ne-eqb}
+use borrow.Author.Tests.{eqb-true, leb-true, le-ltb, le-leb}
 use lib.Dec.{eqb, leb, ltb}
 use lib.ListN.{length}
 use Rattle.lists.proofs.NumberLaws.{part-length}
 use Rattle.text.specs.declared.Text.the-variants.{Good}
 use Rattle.text.specs.Machine.{judge}
-use Rattle.value.specs.Codec.{isText, sizeOf, textIs, textWord, wordAt}
-use Rattle.value.specs.declared.Word.{Word}
-use Rattle.value.specs.declared.Word.the-variants.{Takes}
+use Rattle.value.specs.Codec.{isText, sizeOf, textWord, wordAt}
 use Rattle.mapping.specs.Word.{entryOf, fieldOf}
-use Rattle.mapping.specs.declared.PdoMappingEntry.{PdoMappingEntry}
 use Rattle.mapping.specs.declared.Field.{Field}
 use Rattle.mapping.specs.declared.Field.the-variants as field
 use Rattle.entry.specs.Table.{typeAt, roomAt}
@@ -27,7 +24,6 @@ use Rattle.entry.proofs.JudgeLaws.{and-true}
 use Rattle.pdo_step.specs.declared.Outcome.the-variants.{Stored}
 use Rattle.pdo_step.specs.Outcomes.{part, within, onValue, onIndex, outcomeOf}
 use Rattle.pdo_step.proofs.CaseLaws.{within-low, within-high}
-use Rattle.channel.specs.declared.Verdict.{Verdict}
 use Rattle.channel.specs.declared.Verdict.the-variants.{Clean, Faulty}
 use Rattle.channel.specs.declared.Fault.the-variants as fault
 use Rattle.channel.specs.Elements.{lengthFits, onTarget, onField, wordVerdict}
@@ -85,6 +81,13 @@ no-server x e = ⊎-elim (λ a. within-low 0x1200 0x127F x a) (λ a. within-high
 
 pub no-client : (x : ℕ) → within 0x1200 0x12FF x ≡ false → within 0x1280 0x12FF x ≡ false
 no-client x e = ⊎-elim (λ a. within-low 0x1280 0x12FF x (omega (arith, a))) (λ a. within-high 0x1280 0x12FF x a) (range-false 0x1200 0x12FF x e)
+
+pub joined-range : (x : ℕ) → within 0x1200 0x127F x ≡ false → within 0x1280 0x12FF x ≡ false → within 0x1200 0x12FF x ≡ false
+joined-range x e f =
+    ⊎-elim
+    (λ a. within-low 0x1200 0x12FF x a)
+    (λ a. ⊎-elim (λ b. absurd (omega (arith, a, b))) (λ b. within-high 0x1200 0x12FF x b) (range-false 0x1280 0x12FF x f))
+    (range-false 0x1200 0x127F x e)
 
 -- ---- a length that fits is decoded, and has room
 pub taken : (slots payload : List ℕ) (p start n : ℕ) → start + n ≤ length payload → lengthFits (typeAt slots p) (roomAt slots p) n ≡ true → (typeAt slots p ≡ 11 → judge (part payload start n) ≡ Good)

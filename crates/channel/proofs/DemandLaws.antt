@@ -1,31 +1,30 @@
 -- A channel that passes: every admitted payload is written whole. Assumes nothing.
-use mathlib.Core.Path.{_≡_, refl, sym, ap, _∙_}
+use mathlib.Core.Path.{_≡_, refl, ap, _∙_}
 use mathlib.Core.Bool.{Bool, true, false, cond, _||_}
 use mathlib.Core.List.{List, [], _∷_}
 use Prim.Native.Nat.{ℕ, _+_}
 use native.Mathlib.Omega.{arith}
-use borrow.Author.Tests.{eqb-true, eqb-false}
+use borrow.Author.Tests.{eqb-true}
 use lib.Dec.{eqb}
 use Rattle.lists.specs.Numbers.{Bytes}
 use Rattle.answers.specs.declared.Refusal.the-variants.{Malformed}
 use Rattle.entry.specs.Table.{Dict, kindAt, countAt, firstAt, typeAt}
 use Rattle.entry.specs.Find.{findRow}
 use Rattle.entry.specs.Judge.{wellFormed}
-use Rattle.entry.specs.Put.{Contents, contents}
+use Rattle.entry.specs.Put.{contents}
 use Rattle.entry.specs.declared.Found.{Found}
 use Rattle.entry.specs.declared.Found.the-variants.{At, Nothing}
 use Rattle.pdo_validator.specs.Counting.{endsFrom}
 use Rattle.pdo_handler.specs.Channel.{u8At, commIndex, firstMatch}
-use Rattle.pdo_handler.specs.Run.{Frame, frame, Ran, ran, listIn}
-use Rattle.pdo_handler.specs.Consume.{consumedBy, receivedBy}
-use Rattle.pdo_handler.proofs.ConsumeLaws.{Sane}
+use Rattle.pdo_handler.specs.Run.{frame, listIn}
+use Rattle.pdo_handler.specs.Consume.{consumedBy}
 use Rattle.channel.specs.declared.Verdict.{Verdict}
 use Rattle.channel.specs.declared.Verdict.the-variants.{Clean, Faulty}
 use Rattle.channel.specs.declared.Checked.{Checked}
 use Rattle.channel.specs.declared.Checked.the-variants.{Pass, NoSender, NoList, TooFar, Refused}
 use Rattle.channel.specs.Elements.{verdictOf}
 use Rattle.channel.specs.Check.{onVerdict, faultFrom, isFar, lastOf, onElements, onList, senderFor, isAt, hasSender, checkOf}
-use Rattle.channel.specs.Demand.{Admitted, putAll, AllWhole}
+use Rattle.channel.specs.Demand.{Admitted, Written}
 use Rattle.channel.proofs.PassLaws.{AllClean, clean-run}
 
 -- ---- what a pass says
@@ -96,11 +95,7 @@ passed d i e = well (wellFormed d) refl e
     well true w e = sender w (u8At d (commIndex i) 1) refl e
     well false w e = let z : _≡_ {A = ℕ} 0 1 = cc in absurd (omega arith)
 
--- ---- demand 3, from the check to the payloads: no event, every element whole, in mapping order, and nothing else changed
-pub record Written (f : Frame) (c : Contents) (version : ℕ) (ready : Bool) (p : ℕ) (ws : List ℕ) : Type 0 where
-  pub silent : receivedBy f c version ready ≡ ran (putAll f ws c) []
-  pub whole : AllWhole f p ws 0 c
-
+-- ---- demand 3, from the check to the payloads
 pub pass-writes : (d : Dict) (i : ℕ) (e : checkOf d i ≡ Pass) → Bytes (d .bytes) → (payload : List ℕ) → Bytes payload → (sender version : ℕ) (ready : Bool) (k : ℕ)
     → Admitted d i (passed d i e .row) payload sender version ready
     → Written (frame (d .objects) (d .slots) payload sender k) (contents (d .words) (d .bytes)) version ready (firstAt (d .objects) (passed d i e .row)) (listIn (d .objects) (d .words) (passed d i e .row))

@@ -1,4 +1,7 @@
 pub mod CheckLaws
 pub mod CleanLaws
 pub mod PassLaws
+pub mod WholeLaws
 pub mod DemandLaws
+pub mod ExistLaws
+pub mod ExactLaws

@@ -1,22 +1,21 @@
 -- What passes is written whole: each element of a clean list stores its field, in order, with no event. Assumes nothing.
-use mathlib.Core.Path.{_≡_, refl, sym, ap, _∙_, subst}
+use mathlib.Core.Path.{_≡_, refl, ap, _∙_, subst}
 use mathlib.Core.Bool.{Bool, true, false, cond}
 use mathlib.Core.List.{List, [], _∷_}
 use Prim.Native.Nat.{ℕ, _+_, _≤_}
 use native.Mathlib.Omega.{arith}
 use borrow.Author.Tests.{eq-eqb, eqb-true}
 use lib.Dec.{eqb}
-use lib.ListN.{length, take, drop, getD}
+use lib.ListN.{length, take}
 use lib.Seq.{getD-set-same, take-all}
-use Rattle.lists.specs.Numbers.{Bytes, number, bytesOf}
+use Rattle.lists.specs.Numbers.{Bytes, number}
 use Rattle.lists.proofs.ListLaws.{over-read}
 use Rattle.lists.proofs.NumberLaws.{bytesOf-number, bytes-take, bytes-drop, part-length}
-use Rattle.value.specs.Codec.{isText, sizeOf, encoding}
+use Rattle.value.specs.Codec.{isText, sizeOf}
 use Rattle.value.proofs.CodecLaws.{encoding-text, encoding-fixed}
 use Rattle.mapping.specs.Word.{entryOf, endOf}
 use Rattle.mapping.proofs.WordLaws.{whole-field, entry-in-range}
-use Rattle.entry.specs.Table.{Dict, typeAt, startAt, roomAt}
-use Rattle.entry.specs.Judge.{wellFormed}
+use Rattle.entry.specs.Table.{Dict, typeAt, startAt}
 use Rattle.entry.specs.Encode.{encodingIn}
 use Rattle.entry.specs.Put.{Contents, contents, putIn}
 use Rattle.entry.proofs.ValueLaws.{ValueFacts, element-of, element-facts}

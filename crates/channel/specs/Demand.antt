@@ -3,7 +3,9 @@ use Prim.Native.Nat.{ℕ, _+_, _≤_, _<_}
 use mathlib.Core.Path.{_≡_}
 use mathlib.Core.Bool.{Bool, true, false}
 use mathlib.Core.List.{List, [], _∷_}
+use lib.Dec.{eqb}
 use lib.ListN.{length}
+use Rattle.lists.specs.Numbers.{Bytes}
 use Rattle.text.specs.declared.Text.the-variants.{Good}
 use Rattle.text.specs.Machine.{judge}
 use Rattle.mapping.specs.Word.{entryOf, fieldOf, endOf}
@@ -19,7 +21,8 @@ use Rattle.entry.specs.declared.Place.the-variants.{NoObject, NoSub, Count, Val
 use Rattle.pdo_step.specs.declared.Outcome.the-variants.{Stored}
 use Rattle.pdo_step.specs.Outcomes.{part, within}
 use Rattle.pdo_handler.specs.Channel.{firstMatch, expectedOf, rightVersion}
-use Rattle.pdo_handler.specs.Run.{Frame, decided, actOf, listIn}
+use Rattle.pdo_handler.specs.Run.{Frame, frame, decided, actOf, ran, listIn}
+use Rattle.pdo_handler.specs.Consume.{receivedBy}
 
 -- R12.4: "its length is from the largest end of the list's U64 elements": each of them ends within the payload. The list's first slot is p,
 -- and j of its words lie before.
@@ -73,3 +76,28 @@ putAll f (w ∷ ws) c = putAll f ws (putWord f c w)
 abbrev pub AllWhole : Frame → ℕ → List ℕ → ℕ → Contents → Type 0
 AllWhole f p [] j c = Unit {0}
 AllWhole f p (w ∷ ws) j c = (typeAt (f .slots) (p + j) ≡ 8) × Whole f c w × AllWhole f p ws (j + 1) (putWord f c w)
+
+-- "writes every element whole, gives no event and changes nothing else"
+pub record Written (f : Frame) (c : Contents) (version : ℕ) (ready : Bool) (p : ℕ) (ws : List ℕ) : Type 0 where
+  pub silent : receivedBy f c version ready ≡ ran (putAll f ws c) []
+  pub whole : AllWhole f p ws 0 c
+
+-- "an admitted payload exists"
+pub record Admits (d : Dict) (i r : ℕ) : Type 0 where
+  pub payload : List ℕ
+  pub bytes : Bytes payload
+  pub sender : ℕ
+  pub a-sender : sender < 256
+  pub version : ℕ
+  pub a-version : version < 256
+  pub admitted : Admitted d i r payload sender version true
+
+-- "the list has an element, an admitted payload exists, and every admitted payload writes every element whole .."
+pub record Demand (d : Dict) (i : ℕ) : Type 0 where
+  pub row : ℕ
+  pub found : findRow (d .objects) (0x1600 + i) ≡ At row
+  pub list : eqb (kindAt (d .objects) row) 0 ≡ false
+  pub some : eqb (countAt (d .objects) row) 0 ≡ false
+  pub exists : Admits d i row
+  pub all : (payload : List ℕ) → Bytes payload → (sender version : ℕ) (ready : Bool) (k : ℕ) → Admitted d i row payload sender version ready
+      → Written (frame (d .objects) (d .slots) payload sender k) (contents (d .words) (d .bytes)) version ready (firstAt (d .objects) row) (listIn (d .objects) (d .words) row)

@@ -1,7 +1,7 @@
 -- What is wrong with an element of a channel's list: RULES.md 12, the table of R12.2. Assumes nothing.
-use Prim.Native.Nat.{ℕ, _+_, _%_}
+use Prim.Native.Nat.{ℕ, _%_}
 use mathlib.Core.Bool.{Bool, cond, not, _&&_}
-use mathlib.Core.List.{List, [], _∷_}
+use mathlib.Core.List.{List}
 use lib.Dec.{eqb, leb}
 use Rattle.value.specs.Codec.{isText, sizeOf}
 use Rattle.mapping.specs.Word.{entryOf, fieldOf}

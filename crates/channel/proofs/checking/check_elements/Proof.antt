@@ -1,7 +1,6 @@
 -- `channel::checking::check_elements` meets its contract: how far the elements reach comes last. Assumes nothing.
 use mathlib.Core.Path.{_≡_, sym, ap, ap₂, _∙_}
 use mathlib.Core.Bool.{Bool, cond}
-use Prim.Native.Nat.{ℕ}
 use denote.Ref.{now}
 use lib.ListN.{take, drop}
 use Rattle.entry.specs.Table.{Dict, dict, firstAt, countAt}
@@ -11,7 +10,6 @@ use Rattle.pdo_validator.specs.Counting.{endsFrom}
 use Rattle.pdo_validator.proofs.CountLaws.{elements-lie}
 use Rattle.pdo_handler.specs.Run.{listIn}
 use Rattle.pdo_step.proofs.OutcomeLaws.{shape-of}
-use Rattle.channel.specs.declared.Checked.{Checked}
 use Rattle.channel.specs.declared.Checked.the-variants.{Pass, TooFar}
 use Rattle.channel.specs.Check.{faultFrom, isFar, onElements}
 use native.Mathlib.Omega.{arith}

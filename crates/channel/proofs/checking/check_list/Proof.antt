@@ -1,7 +1,6 @@
 -- `channel::checking::check_list` meets its contract: a list with an element is judged by its elements. Assumes nothing.
 use mathlib.Core.Path.{_≡_, sym, ap, ap₂, _∙_}
 use mathlib.Core.Bool.{_||_}
-use Prim.Native.Nat.{ℕ}
 use denote.Ref.{now}
 use lib.Dec.{eqb}
 use Rattle.entry.specs.Table.{Dict, dict, kindAt, countAt}
