@@ -5,3 +5,4 @@ pub mod WholeLaws
 pub mod DemandLaws
 pub mod ExistLaws
 pub mod ExactLaws
+pub mod NamedLaws
