@@ -6,3 +6,4 @@ pub mod DemandLaws
 pub mod ExistLaws
 pub mod ExactLaws
 pub mod NamedLaws
+pub mod LastLaws
