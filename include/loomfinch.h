@@ -219,6 +219,27 @@ uint64_t loomfinch_update_pdo_error_object(const uint64_t *objects, size_t objec
                                            const uint64_t *words, size_t words_len, uint8_t *bytes, size_t bytes_len,
                                            uint16_t index, uint8_t node);
 
+/* Answers of loomfinch_check beside 0, pass, and 1. */
+enum {
+    LOOMFINCH_NO_SENDER = 31,    /* no sender has this channel */
+    LOOMFINCH_NO_LIST = 32,      /* its mapping 1600h+channel is no list of at least one element */
+    LOOMFINCH_NOT_MAPPING = 33,  /* the element is no Unsigned64 */
+    LOOMFINCH_MISALIGNED = 34,   /* its offset or length is not whole bytes */
+    LOOMFINCH_HAND_OFF = 35,     /* its target is 1200h..12FFh */
+    LOOMFINCH_NO_TARGET = 36,    /* its target is missing */
+    LOOMFINCH_COUNT_TARGET = 37, /* its target is a list's count */
+    LOOMFINCH_WRONG_LENGTH = 38, /* not the size of the target's type; of a string: over its room, or odd for a UnicodeString */
+    LOOMFINCH_TOO_FAR = 39       /* the elements reach past 1,490 bytes */
+};
+
+/* Checks a channel, and changes nothing in the dictionary. Passes exactly when the channel maps at least one field, some payload can
+ * fill it, and every ready payload that it accepts, long enough and with well-formed text, has each mapped field written whole, in
+ * mapping order, with no event and nothing else changed; a pass holds until a restore, or until 1400h+channel or 1600h+channel
+ * change. Answers 1; else 0 for a pass or the first fault, and *element is the place of the element that it names, or 0. */
+uint64_t loomfinch_check(const uint64_t *objects, size_t objects_len, const uint64_t *slots, size_t slots_len,
+                         const uint64_t *words, size_t words_len, const uint8_t *bytes, size_t bytes_len, uint8_t channel,
+                         uint64_t *element);
+
 #ifdef __cplusplus
 }
 #endif

@@ -1,3 +1,4 @@
 pub mod Elements
 pub mod Check
 pub mod Demand
+pub mod Cases

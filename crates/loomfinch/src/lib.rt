@@ -1,9 +1,13 @@
 // The public calls. None has a `requires`: each judges its own input and refuses what breaks a rule.
 mod c;
+mod checking;
 mod dictionary;
 mod receiving;
 mod storing;
 
+pub use channel::Checked;
+pub use channel::Fault;
+pub use channel::check;
 pub use events::Cause;
 pub use events::Event;
 pub use events::EventRecord;
@@ -51,6 +55,7 @@ pub use c::loomfinch_decode;
 pub use c::loomfinch_encode;
 pub use c::loomfinch_from_u64;
 pub use c::loomfinch_to_u64;
+pub use checking::loomfinch_check;
 pub use dictionary::loomfinch_find_by_name;
 pub use dictionary::loomfinch_get_configured_cns;
 pub use dictionary::loomfinch_increment_counter;

@@ -39,7 +39,7 @@ object x kind vs = record { index = x; kind = kind; access = 0; default = 0; nam
 abbrev zeros : List ℕ
 zeros = 0 ∷ 0 ∷ 0 ∷ 0 ∷ 0 ∷ 0 ∷ 0 ∷ 0 ∷ 0 ∷ 0 ∷ 0 ∷ 0 ∷ 0 ∷ 0 ∷ 0 ∷ 0 ∷ 0 ∷ 0 ∷ 0 ∷ 0 ∷ 0 ∷ 0 ∷ 0 ∷ 0 ∷ 0 ∷ 0 ∷ 0 ∷ 0 ∷ 0 ∷ 0 ∷ 0 ∷ 0 ∷ []
 
-abbrev setUp : ℕ → List Obj
+abbrev pub setUp : ℕ → List Obj
 setUp w =
     object 0x1400 2 (value 5 5 ∷ value 5 0x10 ∷ [])
     ∷ object 0x1600 1 (value 8 w ∷ value 8 0x0020001000036200 ∷ [])

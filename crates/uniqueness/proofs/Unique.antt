@@ -58,6 +58,8 @@ use Rattle.od.proofs.increment_counter.Reads as increment-counter
 use Rattle.od.proofs.increment_counter.Kinds as increment-counter-kinds
 use Rattle.pdo_validator.proofs.validate_pdo_mapping.Reads as validate-pdo-mapping
 use Rattle.pdo_validator.proofs.validate_pdo_mapping.Kinds as validate-pdo-mapping-kinds
+use Rattle.channel.proofs.check.Reads as check
+use Rattle.channel.proofs.check.Kinds as check-kinds
 use Rattle.events.proofs.event_record.Reads as event-record
 use Rattle.events.proofs.event_record.Kinds as event-record-kinds
 use Rattle.pdo_cycle.proofs.consume_cycle.Reads as consume-cycle
@@ -151,6 +153,9 @@ update-pdo-error-object-unique κs a z₁ z₂ w₁ w₂ p q = both (λ (x : Mar
 
 pub event-record-unique : Unique 0 event-record-kinds.ps event-record-kinds.r event-record.Post
 event-record-unique κs a z₁ z₂ w₁ w₂ p q = (p ∙ sym q, refl)
+
+pub check-unique : Unique 4 check-kinds.ps check-kinds.r check.Post
+check-unique κs a z₁ z₂ w₁ w₂ p q = (p ∙ sym q, refl)
 
 -- `consume_pdo_payload` and `consume_by_value`: who lends a slice of records is proved by hand, so this is the equation that their contracts
 -- write, for any two outcomes

@@ -39,6 +39,8 @@ use Rattle.loomfinch.proofs.loomfinch_write.Reads as c-write
 use Rattle.loomfinch.proofs.loomfinch_write.Kinds as c-write-kinds
 use Rattle.loomfinch.proofs.loomfinch_validate_pdo_mapping.Reads as c-validate-pdo-mapping
 use Rattle.loomfinch.proofs.loomfinch_validate_pdo_mapping.Kinds as c-validate-pdo-mapping-kinds
+use Rattle.loomfinch.proofs.loomfinch_check.Reads as c-check
+use Rattle.loomfinch.proofs.loomfinch_check.Kinds as c-check-kinds
 use Rattle.loomfinch.proofs.loomfinch_consume_pdo_payload.Reads as c-consume
 use Rattle.loomfinch.proofs.loomfinch_consume_pdo_payload.Kinds as c-consume-kinds
 use Rattle.loomfinch.proofs.loomfinch_consume_cycle.Reads as c-consume-cycle
@@ -111,3 +113,6 @@ c-consume-cycle-unique κs a z₁ z₂ w₁ w₂ p q =
 
 pub c-update-unique : Unique 4 c-update-kinds.ps c-update-kinds.r c-update.Post
 c-update-unique κs a z₁ z₂ w₁ w₂ p q = (p .0 ∙ sym (q .0), ap (λ x. (tt, (tt, (tt, (x, (tt, (tt, tt))))))) (p .1 ∙ sym (q .1)))
+
+pub c-check-unique : Unique 5 c-check-kinds.ps c-check-kinds.r c-check.Post
+c-check-unique κs a z₁ z₂ w₁ w₂ p q = both (λ (x : Told). x .answer) (λ x. (tt, (tt, (tt, (tt, (tt, (x .number, tt))))))) p q
