@@ -37,7 +37,12 @@ enum {
 };
 
 /* How many numbers a call needs room for. */
-enum { LOOMFINCH_DECODE_NUMBERS = 7, LOOMFINCH_FROM_U64_NUMBERS = 9, LOOMFINCH_READ_NUMBERS = 3 };
+enum {
+    LOOMFINCH_DECODE_NUMBERS = 7,
+    LOOMFINCH_FROM_U64_NUMBERS = 9,
+    LOOMFINCH_READ_NUMBERS = 3,
+    LOOMFINCH_CHECK_ALL_NUMBERS = 768
+};
 
 /* What a dictionary of n objects with v values and defaults and b bytes of names, rooms and defaults takes. */
 #define LOOMFINCH_OBJECTS_WORDS(n) (12 * (n) + 12)
@@ -239,6 +244,13 @@ enum {
 uint64_t loomfinch_check(const uint64_t *objects, size_t objects_len, const uint64_t *slots, size_t slots_len,
                          const uint64_t *words, size_t words_len, const uint8_t *bytes, size_t bytes_len, uint8_t channel,
                          uint64_t *element);
+
+/* Checks every channel that has an object 1400h+channel, after one judgement of the dictionary. Answers 1; 12 for fewer than 768
+ * numbers; in this order. Done: three numbers for each such channel, rising: the channel, what loomfinch_check answers for it, and the
+ * element; *count is the number of all these numbers, and those behind stay. */
+uint64_t loomfinch_check_all(const uint64_t *objects, size_t objects_len, const uint64_t *slots, size_t slots_len,
+                             const uint64_t *words, size_t words_len, const uint8_t *bytes, size_t bytes_len,
+                             uint64_t *numbers, size_t numbers_len, uint64_t *count);
 
 #ifdef __cplusplus
 }

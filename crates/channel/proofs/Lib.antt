@@ -7,3 +7,4 @@ pub mod ExistLaws
 pub mod ExactLaws
 pub mod NamedLaws
 pub mod LastLaws
+pub mod AllLaws

@@ -1,4 +1,6 @@
 pub mod Elements
 pub mod Check
+pub mod Numbers
+pub mod All
 pub mod Demand
 pub mod Cases

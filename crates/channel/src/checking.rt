@@ -116,6 +116,23 @@ fn has_sender(objects: &[u64], slots: &[u64], words: &[u64], bytes: &[u8], i: u8
     j == i as usize
 }
 
+// A channel of a dictionary that was judged.
+pub fn check_judged(
+    objects: &[u64],
+    slots: &[u64],
+    words: &[u64],
+    bytes: &[u8],
+    channel: u8,
+) -> Checked
+    requires { ⌜ wellFormed (dict (now objects) (now slots) (now words) (now bytes)) ≡ true ⌝ }
+    ensures { λ r. ⌜ r ≡ checkOf (dict (now (objects .entry)) (now (slots .entry)) (now (words .entry)) (now (bytes .entry))) channel ⌝ }
+{
+    if !has_sender(objects, slots, words, bytes, channel) {
+        return Checked::NoSender;
+    }
+    check_list(objects, slots, words, bytes, 0x1600 + channel as u16)
+}
+
 // Checks a channel: would every payload that it admits be written whole? Nothing is changed.
 pub fn check(objects: &[u64], slots: &[u64], words: &[u64], bytes: &[u8], channel: u8) -> Checked
     ensures { λ r. ⌜ r ≡ checkOf (dict (now (objects .entry)) (now (slots .entry)) (now (words .entry)) (now (bytes .entry))) channel ⌝ }
@@ -123,8 +140,5 @@ pub fn check(objects: &[u64], slots: &[u64], words: &[u64], bytes: &[u8], channe
     if !entry::well_formed(objects, slots, words, bytes) {
         return Checked::Refused(Refusal::Malformed);
     }
-    if !has_sender(objects, slots, words, bytes, channel) {
-        return Checked::NoSender;
-    }
-    check_list(objects, slots, words, bytes, 0x1600 + channel as u16)
+    check_judged(objects, slots, words, bytes, channel)
 }

@@ -1,9 +1,14 @@
 // The channel check: which element of a channel would not be written whole, and why.
 mod checking;
 mod elements;
+mod every;
+mod numbers;
 
 use answers::Refusal;
 pub use checking::check;
+pub use every::check_all;
+pub use numbers::named;
+pub use numbers::number;
 
 // What is wrong with an element.
 pub enum Fault {
@@ -27,5 +32,11 @@ pub enum Checked {
     NoList,
     Element { element: usize, fault: Fault },
     TooFar,
+    Refused(Refusal),
+}
+
+// How many numbers were laid, or why none.
+pub enum CheckedAll {
+    Done(usize),
     Refused(Refusal),
 }

@@ -1,26 +1,32 @@
--- What the channel check answers for C: RULES.md R12.12. Assumes nothing.
+-- What the channel check answers for C: RULES.md R12.12 and R12.13. Assumes nothing.
 use Prim.Native.Nat.{ℕ}
+use mathlib.Core.List.{List}
 use Rattle.answers.specs.Numbers.{numberOf}
-use Rattle.channel.specs.declared.Fault.{Fault}
-use Rattle.channel.specs.declared.Fault.the-variants as fault
 use Rattle.channel.specs.declared.Checked.{Checked}
 use Rattle.channel.specs.declared.Checked.the-variants as checked
+use Rattle.channel.specs.declared.CheckedAll.{CheckedAll}
+use Rattle.channel.specs.declared.CheckedAll.the-variants as all
+use Rattle.channel.specs.Numbers.{answerNumber, elementOf}
+use Rattle.channel.specs.All.{After}
+use Rattle.loomfinch.specs.C.{Written, wrote}
 use Rattle.loomfinch.specs.Dictionary.{Told, told}
 
--- "the faults are 31 to 39, in the order of R12.2"
-abbrev pub faultNumber : Fault → ℕ
-faultNumber fault.NotMapping = 33
-faultNumber fault.Misaligned = 34
-faultNumber fault.HandOff = 35
-faultNumber fault.NoTarget = 36
-faultNumber fault.CountTarget = 37
-faultNumber fault.WrongLength = 38
+-- R12.12: "The element goes into a lent number, which Malformed leaves."
+abbrev pub checkedElement : Checked → ℕ → ℕ
+checkedElement checked.Pass m = elementOf checked.Pass
+checkedElement checked.NoSender m = elementOf checked.NoSender
+checkedElement checked.NoList m = elementOf checked.NoList
+checkedElement (checked.Element k f) m = elementOf (checked.Element k f)
+checkedElement checked.TooFar m = elementOf checked.TooFar
+checkedElement (checked.Refused r) m = m
 
--- the answer, and the element
 abbrev pub checkedTold : Checked → ℕ → Told
-checkedTold checked.Pass m = told 0 0
-checkedTold checked.NoSender m = told 31 0
-checkedTold checked.NoList m = told 32 0
-checkedTold (checked.Element k f) m = told (faultNumber f) k
-checkedTold checked.TooFar m = told 39 0
-checkedTold (checked.Refused r) m = told (numberOf r) m
+checkedTold a m = told (answerNumber a) (checkedElement a m)
+
+-- the answer, the lent numbers, and how many were laid
+abbrev pub allNumbers : CheckedAll → List ℕ → ℕ → Written
+allNumbers (all.Done n) out m = wrote 0 out n
+allNumbers (all.Refused r) out m = wrote (numberOf r) out m
+
+unfoldable pub checkAllNumbers : After → ℕ → Written
+checkAllNumbers a m = allNumbers (a .answer) (a .out) m

@@ -1,46 +1,28 @@
 // The channel check, for C.
 ghost use mathlib.Core.Path.{_≡_};
 ghost use Rattle.entry.specs.Table.{dict};
+ghost use Rattle.channel.specs.All.{checkAllOf};
 ghost use Rattle.channel.specs.Check.{checkOf};
+ghost use Rattle.loomfinch.specs.C.{wrote};
 ghost use Rattle.loomfinch.specs.Dictionary.{told};
-ghost use Rattle.loomfinch.specs.Checking.{faultNumber, checkedTold};
+ghost use Rattle.loomfinch.specs.Checking.{checkedElement, checkedTold, checkAllNumbers};
 use channel::Checked;
-use channel::Fault;
+use channel::CheckedAll;
 
-fn fault_number(f: Fault) -> u64
-    ensures { λ r. ⌜ r ≡ faultNumber f ⌝ }
-{
-    match f {
-        Fault::NotMapping => 33,
-        Fault::Misaligned => 34,
-        Fault::HandOff => 35,
-        Fault::NoTarget => 36,
-        Fault::CountTarget => 37,
-        Fault::WrongLength => 38,
-    }
-}
-
-// The number of a channel's own answer, of which no element is named.
-fn whole(n: u64, element: &mut u64) -> u64
-    ensures { λ r. ⌜ told r (now (element .exit)) ≡ told n 0 ⌝ }
-{
-    *element = 0;
-    n
-}
-
-fn checked(a: Checked, element: &mut u64) -> u64
-    ensures { λ r. ⌜ told r (now (element .exit)) ≡ checkedTold a (now (element .entry)) ⌝ }
+// The element that an answer names; a refusal leaves what was lent.
+fn element_of(a: Checked, lent: u64) -> u64
+    ensures { λ r. ⌜ r ≡ checkedElement a lent ⌝ }
 {
     match a {
-        Checked::Pass => whole(0, element),
-        Checked::NoSender => whole(31, element),
-        Checked::NoList => whole(32, element),
-        Checked::Element { element: k, fault } => {
-            *element = k as u64;
-            fault_number(fault)
-        }
-        Checked::TooFar => whole(39, element),
-        Checked::Refused(r) => answers::number(r),
+        Checked::Pass => channel::named(a),
+        Checked::NoSender => channel::named(a),
+        Checked::NoList => channel::named(a),
+        Checked::Element {
+            element: _,
+            fault: _,
+        } => channel::named(a),
+        Checked::TooFar => channel::named(a),
+        Checked::Refused(_) => lent,
     }
 }
 
@@ -55,8 +37,27 @@ pub extern "C" fn loomfinch_check(
 ) -> u64
     ensures { λ r. ⌜ told r (now (element .exit)) ≡ checkedTold (checkOf (dict (now (objects .entry)) (now (slots .entry)) (now (words .entry)) (now (bytes .entry))) channel) (now (element .entry)) ⌝ }
 {
-    checked(
-        channel::check(objects, slots, words, bytes, channel),
-        element,
-    )
+    let a = channel::check(objects, slots, words, bytes, channel);
+    *element = element_of(a, *element);
+    channel::number(a)
+}
+
+#[no_mangle]
+pub extern "C" fn loomfinch_check_all(
+    objects: &[u64],
+    slots: &[u64],
+    words: &[u64],
+    bytes: &[u8],
+    numbers: &mut [u64],
+    count: &mut u64,
+) -> u64
+    ensures { λ r. ⌜ wrote r (now (numbers .exit)) (now (count .exit)) ≡ checkAllNumbers (checkAllOf (dict (now (objects .entry)) (now (slots .entry)) (now (words .entry)) (now (bytes .entry))) (now (numbers .entry))) (now (count .entry)) ⌝ }
+{
+    match channel::check_all(objects, slots, words, bytes, numbers) {
+        CheckedAll::Done(n) => {
+            *count = n as u64;
+            0
+        }
+        CheckedAll::Refused(r) => answers::number(r),
+    }
 }

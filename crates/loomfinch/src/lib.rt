@@ -6,8 +6,10 @@ mod receiving;
 mod storing;
 
 pub use channel::Checked;
+pub use channel::CheckedAll;
 pub use channel::Fault;
 pub use channel::check;
+pub use channel::check_all;
 pub use events::Cause;
 pub use events::Event;
 pub use events::EventRecord;
@@ -56,6 +58,7 @@ pub use c::loomfinch_encode;
 pub use c::loomfinch_from_u64;
 pub use c::loomfinch_to_u64;
 pub use checking::loomfinch_check;
+pub use checking::loomfinch_check_all;
 pub use dictionary::loomfinch_find_by_name;
 pub use dictionary::loomfinch_get_configured_cns;
 pub use dictionary::loomfinch_increment_counter;

@@ -58,8 +58,11 @@ use Rattle.od.proofs.increment_counter.Reads as increment-counter
 use Rattle.od.proofs.increment_counter.Kinds as increment-counter-kinds
 use Rattle.pdo_validator.proofs.validate_pdo_mapping.Reads as validate-pdo-mapping
 use Rattle.pdo_validator.proofs.validate_pdo_mapping.Kinds as validate-pdo-mapping-kinds
+use Rattle.channel.specs.All.{After as Checking}
 use Rattle.channel.proofs.check.Reads as check
 use Rattle.channel.proofs.check.Kinds as check-kinds
+use Rattle.channel.proofs.check_all.Reads as check-all
+use Rattle.channel.proofs.check_all.Kinds as check-all-kinds
 use Rattle.events.proofs.event_record.Reads as event-record
 use Rattle.events.proofs.event_record.Kinds as event-record-kinds
 use Rattle.pdo_cycle.proofs.consume_cycle.Reads as consume-cycle
@@ -156,6 +159,9 @@ event-record-unique κs a z₁ z₂ w₁ w₂ p q = (p ∙ sym q, refl)
 
 pub check-unique : Unique 4 check-kinds.ps check-kinds.r check.Post
 check-unique κs a z₁ z₂ w₁ w₂ p q = (p ∙ sym q, refl)
+
+pub check-all-unique : Unique 5 check-all-kinds.ps check-all-kinds.r check-all.Post
+check-all-unique κs a z₁ z₂ w₁ w₂ p q = both (λ (x : Checking). x .answer) (λ x. (tt, (tt, (tt, (tt, (x .out, tt)))))) p q
 
 -- `consume_pdo_payload` and `consume_by_value`: who lends a slice of records is proved by hand, so this is the equation that their contracts
 -- write, for any two outcomes

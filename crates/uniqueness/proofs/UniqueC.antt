@@ -41,6 +41,8 @@ use Rattle.loomfinch.proofs.loomfinch_validate_pdo_mapping.Reads as c-validate-
 use Rattle.loomfinch.proofs.loomfinch_validate_pdo_mapping.Kinds as c-validate-pdo-mapping-kinds
 use Rattle.loomfinch.proofs.loomfinch_check.Reads as c-check
 use Rattle.loomfinch.proofs.loomfinch_check.Kinds as c-check-kinds
+use Rattle.loomfinch.proofs.loomfinch_check_all.Reads as c-check-all
+use Rattle.loomfinch.proofs.loomfinch_check_all.Kinds as c-check-all-kinds
 use Rattle.loomfinch.proofs.loomfinch_consume_pdo_payload.Reads as c-consume
 use Rattle.loomfinch.proofs.loomfinch_consume_pdo_payload.Kinds as c-consume-kinds
 use Rattle.loomfinch.proofs.loomfinch_consume_cycle.Reads as c-consume-cycle
@@ -116,3 +118,6 @@ c-update-unique κs a z₁ z₂ w₁ w₂ p q = (p .0 ∙ sym (q .0), ap (λ x. 
 
 pub c-check-unique : Unique 5 c-check-kinds.ps c-check-kinds.r c-check.Post
 c-check-unique κs a z₁ z₂ w₁ w₂ p q = both (λ (x : Told). x .answer) (λ x. (tt, (tt, (tt, (tt, (tt, (x .number, tt))))))) p q
+
+pub c-check-all-unique : Unique 6 c-check-all-kinds.ps c-check-all-kinds.r c-check-all.Post
+c-check-all-unique κs a z₁ z₂ w₁ w₂ p q = both (λ (x : Written). x .answer) (λ x. (tt, (tt, (tt, (tt, (x .out, (x .written, tt))))))) p q

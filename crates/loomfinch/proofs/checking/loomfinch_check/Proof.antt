@@ -1,6 +1,7 @@
 -- `loomfinch::checking::loomfinch_check` meets its contract. Assumes nothing.
-use mathlib.Core.Path.{ap, _∙_}
+use mathlib.Core.Path.{ap, ap₂, _∙_}
 use denote.Ref.{now}
+use Rattle.loomfinch.specs.Dictionary.{told}
 use Rattle.loomfinch.specs.Checking.{checkedTold}
 use borrow.Author.Needs.{needs}
 use Rattle.loomfinch.proofs.checking.loomfinch_check.Statement.{statement}
@@ -9,14 +10,19 @@ use Rattle.loomfinch.proofs.checking.loomfinch_check.Tie as tie
 check-requires : tie.Need-check-requires
 check-requires c κs = search needs
 
-checked-requires : tie.Need-checked-requires
-checked-requires c κs = search needs
+element-of-requires : tie.Need-element-of-requires
+element-of-requires c κs = search needs
+
+number-requires : tie.Need-number-requires
+number-requires c κs = search needs
 
 returns : tie.Need-returns
 returns c =
-    let k = c .before .before in
+    let e = c .before in
+    let k = e .before .before in
     let s = k .before .before .before .before .before in
-    c .checked .ensures ∙ ap (λ a. checkedTold a (now (s .args .element))) (k .check .ensures)
+    ap₂ told (c .number .ensures) (e .element-of .ensures) ∙ ap (λ a. checkedTold a (now (s .args .element))) (k .check .ensures)
 
 pub loomfinch-check-spec : {M : Type 1} → statement M
-loomfinch-check-spec = tie.close (tie.spec check-requires checked-requires returns)
+loomfinch-check-spec =
+    tie.close (tie.spec check-requires element-of-requires number-requires returns)
