@@ -14,6 +14,8 @@ use Rattle.pdo_step.specs.declared.Outcome.the-variants as outcome
 use Rattle.pdo_step.specs.Outcomes.{reach}
 use Rattle.pdo_handler.specs.Run.{packed, one, eventOf as outcomeEvent}
 use Rattle.pdo_handler.specs.Consume.{mapVersion}
+use Rattle.pdo_handler.proofs.EventLaws.{map-append}
+use Rattle.pdo_handler.proofs.RunLaws.{one-packed}
 use Rattle.events.specs.declared.Cause.the-variants.{Frame, Value, Text, Odd}
 use Rattle.events.specs.declared.Unwritten.the-variants.{CountNotWritable, TooLong}
 use Rattle.events.specs.declared.Event.{Event}
@@ -80,11 +82,8 @@ record-number r s =
     ∙ ap (noted (r .payload) (r .element)) (event-kind (r .event))
 
 -- ---- the number that an outcome gives says its event, and none where it gives none
-something : (i kind k x start n : ℕ) → 0 < kind → one (packed i kind k x start n) ≡ packed i kind k x start n ∷ []
-something i kind k x start n h = simp (ne-eqb (packed i kind k x start n) 0 (λ e. omega arith))
-
 handed-off : (i kind k x start n : ℕ) → 0 < kind → kind < 16 → k < 256 → x < 65536 → start + n < 8192 → map recordOf (one (packed i kind k x start n)) ≡ noted i k (eventOf kind x start n) ∷ []
-handed-off i kind k x start n h l u v r = ap (map recordOf) (something i kind k x start n h) ∙ ap (λ (z : EventRecord). z ∷ []) (packed-record i kind k x start n l u v (omega arith) (omega arith))
+handed-off i kind k x start n h l u v r = ap (map recordOf) (one-packed i kind k x start n h) ∙ ap (λ (z : EventRecord). z ∷ []) (packed-record i kind k x start n l u v (omega arith) (omega arith))
 
 plain : (i kind k : ℕ) → 0 < kind → kind < 16 → k < 256 → map recordOf (one (packed i kind k 0 0 0)) ≡ noted i k (eventOf kind 0 0 0) ∷ []
 plain i kind k h l u = handed-off i kind k 0 0 0 h l u (omega arith) (omega arith)
@@ -134,12 +133,8 @@ length-stored log ys (suc i) = length-set (stored log ys i) i (recordOf (getD lo
 length-records : (log : List ℕ) (i : ℕ) → i ≤ length log → length (recordsOf i log) ≡ i
 length-records log i h = length-map (take i log) recordOf ∙ length-take-le i log h
 
-map-append : (xs ys : List ℕ) → map recordOf (xs ++ ys) ≡ map recordOf xs ++ map recordOf ys
-map-append [] ys = refl
-map-append (x ∷ xs) ys = ap (λ (zs : List EventRecord). recordOf x ∷ zs) (map-append xs ys)
-
 records-more : (log : List ℕ) (i : ℕ) → i < length log → recordsOf (suc i) log ≡ recordsOf i log ++ (recordOf (getD log i 0) ∷ [])
-records-more log i h = ap (map recordOf) (take-suc log i 0 h) ∙ map-append (take i log) (getD log i 0 ∷ [])
+records-more log i h = ap (map recordOf) (take-suc log i 0 h) ∙ map-append recordOf (take i log) (getD log i 0 ∷ [])
 
 pub stored-is : (log : List ℕ) (ys : List EventRecord) (i : ℕ) → i ≤ length ys → i ≤ length log → stored log ys i ≡ recordsOf i log ++ drop i ys
 unfolding stored

@@ -4,7 +4,6 @@ use mathlib.Core.Bool.{Bool, true, false, cond}
 use mathlib.Core.List.{List, [], _∷_, _++_, map}
 use Prim.Native.Nat.{ℕ, suc, _+_, _*_, _<_, _≤_}
 use native.Mathlib.Omega.{arith}
-use borrow.Author.Tests.{ne-eqb}
 use lib.Dec.{eqb}
 use lib.ListN.{length, length-append, length-take, drop}
 use Rattle.value.specs.declared.Fault.the-variants as fault
@@ -20,7 +19,7 @@ use Rattle.pdo_step.specs.declared.Outcome.the-variants as outcome
 use Rattle.pdo_handler.specs.Channel.{firstMatch, expectedOf, rightVersion}
 use Rattle.pdo_handler.specs.Run.{packed, Frame, frame, held, marked, decided, stopsOf, eventOf, actOf, Ran, ran, one, behind, runFrom, listIn, runOn}
 use Rattle.pdo_handler.specs.Consume.{mapVersion, onChannel, consumedBy, receivedBy}
-use Rattle.pdo_handler.proofs.RunLaws.{version-one}
+use Rattle.pdo_handler.proofs.RunLaws.{one-packed}
 
 one-few : (e : ℕ) → length (one e) ≤ 1
 one-few e = go (eqb e 0)
@@ -78,16 +77,16 @@ numbered i e = e + 18014398509481984 * i
 abbrev pub relabelled : ℕ → Ran → Ran
 relabelled i r = ran (r .contents) (map (numbered i) (r .events))
 
-map-append : (i : ℕ) (xs ys : List ℕ) → map (numbered i) (xs ++ ys) ≡ map (numbered i) xs ++ map (numbered i) ys
-map-append i [] ys = refl
-map-append i (x ∷ xs) ys = ap (λ (zs : List ℕ). numbered i x ∷ zs) (map-append i xs ys)
+pub map-append : {A : Type 0} (f : ℕ → A) (xs ys : List ℕ) → map f (xs ++ ys) ≡ map f xs ++ map f ys
+map-append f [] ys = refl
+map-append {A} f (x ∷ xs) ys = ap (λ (zs : List A). f x ∷ zs) (map-append f xs ys)
 
 -- an event of a payload
 one-event : (i kind k x start n : ℕ) → 0 < kind → one (packed i kind k x start n) ≡ map (numbered i) (one (packed 0 kind k x start n))
 unfolding numbered
 one-event i kind k x start n h =
     let z : packed i kind k x start n ≡ packed 0 kind k x start n + 18014398509481984 * i = omega arith in
-    rw (ne-eqb (packed i kind k x start n) 0 (λ e. absurd (omega (arith, e, h))), ne-eqb (packed 0 kind k x start n) 0 (λ e. absurd (omega (arith, e, h)))) (ap (λ (e : ℕ). e ∷ []) z)
+    one-packed i kind k x start n h ∙ ap (λ (e : ℕ). e ∷ []) z ∙ ap (map (numbered i)) (sym (one-packed 0 kind k x start n h))
 
 one-outcome : (i k : ℕ) (o : Outcome) → one (eventOf i k o) ≡ map (numbered i) (one (eventOf 0 k o))
 one-outcome i k outcome.Misaligned = refl
@@ -121,7 +120,7 @@ module _ (objects slots payload : List ℕ) (sender i : ℕ) where
       go true true u v = ap (ran (actOf (f 0) c o)) (one-outcome i (j + 1) o)
       go true false u v =
           ap₂ behind (one-outcome i (j + 1) o) v
-          ∙ ap (ran (runFrom (f 0) p ws (j + 1) (actOf (f 0) c o) .contents)) (sym (map-append i (one (eventOf 0 (j + 1) o)) (runFrom (f 0) p ws (j + 1) (actOf (f 0) c o) .events)))
+          ∙ ap (ran (runFrom (f 0) p ws (j + 1) (actOf (f 0) c o) .contents)) (sym (map-append (numbered i) (one (eventOf 0 (j + 1) o)) (runFrom (f 0) p ws (j + 1) (actOf (f 0) c o) .events)))
       go false y u v = u
 
   -- payload number i does what payload number 0 does, and its events have its number
@@ -140,7 +139,7 @@ module _ (objects slots payload : List ℕ) (sender i : ℕ) where
 
       version-of : (k : ℕ) (b : Bool) → cond b (runOn (f i) c (findRow objects (0x1600 + k))) (ran (marked (f 0) c 0x1C80) (mapVersion i ∷ [])) ≡ relabelled i (cond b (runOn (f 0) c (findRow objects (0x1600 + k))) (ran (marked (f 0) c 0x1C80) (mapVersion 0 ∷ [])))
       version-of k true = row (findRow objects (0x1600 + k))
-      version-of k false = ap (ran (marked (f 0) c 0x1C80)) (sym (version-one i) ∙ one-event i 1 0 0 0 0 (omega arith) ∙ ap (map (numbered i)) (version-one 0))
+      version-of k false = ap (ran (marked (f 0) c 0x1C80)) (sym (one-packed i 1 0 0 0 0 (omega arith)) ∙ one-event i 1 0 0 0 0 (omega arith) ∙ ap (map (numbered i)) (one-packed 0 1 0 0 0 0 (omega arith)))
 
       channel : (g : Found) → onChannel (f i) c version g ≡ relabelled i (onChannel (f 0) c version g)
       channel Nothing = refl

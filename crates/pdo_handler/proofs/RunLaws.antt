@@ -3,7 +3,7 @@ use mathlib.Core.Path.{_≡_, refl, sym, subst}
 use mathlib.Core.Bool.{Bool, true, false, cond}
 use mathlib.Core.List.{List, [], _∷_}
 use mathlib.Core.Logic.{⊎-elim, _≢_}
-use Prim.Native.Nat.{ℕ, suc, _+_, _-_, _<_, _≤_}
+use Prim.Native.Nat.{ℕ, suc, _+_, _<_, _≤_}
 use native.Mathlib.Omega.{arith}
 use native.Mathlib.Numerals.{add-one}
 use borrow.Author.Tests.{eq-eqb, ne-eqb}
@@ -25,8 +25,7 @@ use Rattle.pdo_step.specs.Outcomes.{outcomeOf}
 use Rattle.pdo_step.specs.Steps.{applied}
 use Rattle.pdo_step.proofs.OutcomeLaws.{step-keeps}
 use Rattle.pdo_step.proofs.Outcome.{the-type as outcome-type}
-use Rattle.pdo_handler.specs.Consume.{mapVersion}
-use Rattle.pdo_handler.specs.Run.{causeOf, eventOf, stopsOf, isShort, Frame, frame, decided, marked, actOf, Ran, ran, one, behind, runFrom, logged, finished, notedLog, notedCount}
+use Rattle.pdo_handler.specs.Run.{packed, causeOf, eventOf, stopsOf, isShort, Frame, frame, decided, marked, actOf, Ran, ran, one, behind, runFrom, logged, finished, notedLog, notedCount}
 
 pub cause-small : (f : Fault) → causeOf f < 16
 cause-small fault.Value = omega arith
@@ -118,9 +117,9 @@ module _ (l : List ℕ) (n : ℕ) where
           let y : suc n ≡ n + 1 = omega arith in
           rw (over-first l n e (r .events) h, z, y)
 
--- a wrong version is an event
-pub version-one : (i : ℕ) → one (mapVersion i) ≡ (mapVersion i ∷ [])
-version-one i = rw (ne-eqb (mapVersion i) 0 (λ e. absurd (omega (arith, e))))
+-- a number with a kind is an event
+pub one-packed : (i kind k x start n : ℕ) → 0 < kind → one (packed i kind k x start n) ≡ packed i kind k x start n ∷ []
+one-packed i kind k x start n h = rw (ne-eqb (packed i kind k x start n) 0 (λ e. absurd (omega (arith, e, h))))
 
 pub noted-few : (n e : ℕ) → notedCount n e ≤ n + 1
 noted-few n e = go (eqb e 0)

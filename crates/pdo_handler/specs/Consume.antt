@@ -48,8 +48,8 @@ after a c l = record { answer = a; contents = c; log = l }
 abbrev pub done : Logged → After
 done l = after (Done (l .count)) (l .contents) (l .log)
 
--- R11.1: "Malformed (1); an event list under 254 records: NoEventRoom (15); payload over 1,490 bytes: PayloadTooLong (14)." The event
--- list has room for so many records, and its first numbers are the log.
+-- R11.1: "Malformed (1); an event list under 254 records: NoEventRoom (15); payload over 1,490 bytes: PayloadTooLong (14)." `room` is
+-- how many records the event list has, and the events go into `log`, from its first number on.
 unfoldable pub consumeOf : Dict → List ℕ → ℕ → ℕ → Bool → ℕ → List ℕ → After
 consumeOf d payload sender version ready room log =
     let c = contents (d .words) (d .bytes) in

@@ -13,7 +13,7 @@ use Rattle.pdo_handler.specs.Channel.{rightVersion}
 use Rattle.pdo_handler.specs.Run.{Frame, frame, marked, ran, runOn, logged, finished, notedLog, notedCount}
 use Rattle.pdo_handler.specs.Consume.{mapVersion, onChannel, consumedBy}
 use Rattle.pdo_handler.proofs.ChannelLaws.{channel-below}
-use Rattle.pdo_handler.proofs.RunLaws.{finished-none, finished-one, version-one}
+use Rattle.pdo_handler.proofs.RunLaws.{finished-none, finished-one, one-packed}
 use native.Mathlib.Omega.{arith}
 use borrow.Author.Needs.{needs}
 use Rattle.pdo_handler.proofs.consuming.consume_ready.Statement.{statement}
@@ -137,7 +137,7 @@ returns-3 c =
     ap (λ x. logged (contents (now (a .words)) x) (n .note .last .0) (n .note .result)) (b .set-bit .ensures)
     ∙ ap₂ (λ x y. logged (marked (F s) (C s) 0x1C80) x y) (n .note .ensures .1 ∙ ap (notedLog (now (a .log)) (a .begun)) (p .packed .ensures)) (n .note .ensures .0 ∙ ap (notedCount (a .begun)) (p .packed .ensures))
     ∙ sym (finished-one (now (a .log)) (a .begun) (mapVersion (a .number)) (marked (F s) (C s) 0x1C80) (omega (arith, s .pre .1 .2)))
-    ∙ ap (λ (es : List ℕ). finished (ran (marked (F s) (C s) 0x1C80) es) (now (a .log)) (a .begun)) (version-one (a .number))
+    ∙ ap (λ (es : List ℕ). finished (ran (marked (F s) (C s) 0x1C80) es) (now (a .log)) (a .begun)) (one-packed (a .number) 1 0 0 0 0 (omega arith))
     ∙ sym (chosen (e .before) _ (e .if1 .left)) ∙ channelled m _ (i .i .given .1)
 
 pub consume-ready-spec : {M : Type 1} → statement M
