@@ -2,10 +2,11 @@
 use mathlib.Core.Path.{_≡_, refl, ap, _∙_}
 use mathlib.Core.Bool.{Bool, true, false, cond, _||_}
 use mathlib.Core.List.{List, [], _∷_}
-use Prim.Native.Nat.{ℕ, _+_}
+use Prim.Native.Nat.{ℕ, _+_, _≤_}
 use native.Mathlib.Omega.{arith}
-use borrow.Author.Tests.{eqb-true}
+use borrow.Author.Tests.{eqb-true, le-ltb}
 use lib.Dec.{eqb}
+use lib.ListN.{length}
 use Rattle.lists.specs.Numbers.{Bytes}
 use Rattle.answers.specs.declared.Refusal.the-variants.{Malformed}
 use Rattle.entry.specs.Table.{Dict, kindAt, countAt, firstAt, typeAt}
@@ -17,14 +18,16 @@ use Rattle.entry.specs.declared.Found.the-variants.{At, Nothing}
 use Rattle.pdo_validator.specs.Counting.{endsFrom}
 use Rattle.pdo_handler.specs.Channel.{u8At, commIndex, firstMatch}
 use Rattle.pdo_handler.specs.Run.{frame, listIn}
-use Rattle.pdo_handler.specs.Consume.{consumedBy}
+use Rattle.pdo_handler.specs.declared.Consumed.the-variants.{Done}
+use Rattle.pdo_handler.specs.Consume.{consumedBy, after, done, consumeOf}
+use Rattle.pdo_handler.proofs.RunLaws.{finished-none}
 use Rattle.channel.specs.declared.Verdict.{Verdict}
 use Rattle.channel.specs.declared.Verdict.the-variants.{Clean, Faulty}
 use Rattle.channel.specs.declared.Checked.{Checked}
 use Rattle.channel.specs.declared.Checked.the-variants.{Pass, NoSender, NoList, TooFar, Refused}
 use Rattle.channel.specs.Elements.{verdictOf}
 use Rattle.channel.specs.Check.{onVerdict, faultFrom, isFar, lastOf, onElements, onList, senderFor, isAt, hasSender, checkOf}
-use Rattle.channel.specs.Demand.{Admitted, Written}
+use Rattle.channel.specs.Demand.{Admitted, Written, putAll}
 use Rattle.channel.proofs.PassLaws.{AllClean, clean-run}
 
 -- ---- what a pass says
@@ -106,3 +109,12 @@ pass-writes d i e b payload bp sender version ready k a =
     let c = contents (d .words) (d .bytes) in
     let r = clean-run f bp (firstAt (d .objects) (s .row)) (listIn (d .objects) (d .words) (s .row)) 0 c (record { well = s .well; bytes = b }) (s .clean) (a .long) (a .texts) in
     record { silent = rw (a .is-ready, a .first, a .right, s .found, s .list) (r .ran); whole = r .whole }
+
+-- the call itself: it tells that no event is there, and leaves the log
+pub written-consumed : (d : Dict) (payload : List ℕ) (sender version : ℕ) (ready : Bool) (room : ℕ) (log : List ℕ) (p : ℕ) (ws : List ℕ)
+    → wellFormed d ≡ true → 254 ≤ room → length payload ≤ 1490
+    → Written (frame (d .objects) (d .slots) payload sender 0) (contents (d .words) (d .bytes)) version ready p ws
+    → consumeOf d payload sender version ready room log ≡ after (Done 0) (putAll (frame (d .objects) (d .slots) payload sender 0) ws (contents (d .words) (d .bytes))) log
+unfolding consumeOf
+written-consumed d payload sender version ready room log p ws w r l o =
+    rw (w, le-ltb room 254 r, le-ltb 1490 (length payload) l, o .silent) (ap done (finished-none log 0 (putAll (frame (d .objects) (d .slots) payload sender 0) ws (contents (d .words) (d .bytes)))))

@@ -115,7 +115,7 @@ pub record SameList (d d′ : Dict) (i r : ℕ) : Type 0 where
   pub found : findRow (d′ .objects) (0x1600 + i) ≡ At row
   pub list : eqb (kindAt (d′ .objects) row) 0 ≡ eqb (kindAt (d .objects) r) 0
   pub words : listIn (d′ .objects) (d′ .words) row ≡ listIn (d .objects) (d .words) r
-  pub types : (k : ℕ) → typeAt (d′ .slots) (firstAt (d′ .objects) row + k) ≡ typeAt (d .slots) (firstAt (d .objects) r + k)
+  pub types : (k : ℕ) → k < length (listIn (d .objects) (d .words) r) → typeAt (d′ .slots) (firstAt (d′ .objects) row + k) ≡ typeAt (d .slots) (firstAt (d .objects) r + k)
 
 pub record Keeps (d d′ : Dict) (i : ℕ) : Type 0 where
   pub lists : (r : ℕ) → findRow (d .objects) (0x1600 + i) ≡ At r → SameList d d′ i r
