@@ -27,7 +27,7 @@ pub record Heard : Type 0 where
 abbrev pub heard : ℕ → Contents → List ℕ → ℕ → ℕ → Heard
 heard a c es i n = record { answer = a; contents = c; events = es; consumed = i; count = n }
 
--- one payload: it is no count that is given
+-- of one payload there is no count of payloads: it is 0 on both sides
 unfoldable pub consumeNumbers : After → ℕ → Heard
 consumeNumbers a m = let t = consumedTold (a .answer) m in heard (t .answer) (a .contents) (a .log) 0 (t .number)
 
