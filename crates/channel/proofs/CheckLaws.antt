@@ -1,4 +1,4 @@
--- One element's turn, what names no value, and the sender of a channel. Assumes nothing.
+-- One element's turn, what is no element, and the sender of a channel. Assumes nothing.
 use mathlib.Core.Path.{_≡_, refl, sym, ap, _∙_}
 use mathlib.Core.Bool.{Bool, true, false, cond}
 use mathlib.Core.List.{List, [], _∷_}
@@ -12,6 +12,7 @@ use lib.ListN.{length, drop, getD, drop-of-length-le}
 use lib.Seq.{drop-cons}
 use types.Run.{OneOf}
 use denote.Enum.Declared.{tagOf}
+use Rattle.answers.specs.declared.Refusal.the-variants.{SubObjectNotFound}
 use Rattle.value.specs.Codec.{isText, sizeOf, fitsType}
 use Rattle.entry.specs.Table.{Dict, typeAt}
 use Rattle.entry.specs.Find.{placeOf}
@@ -22,18 +23,18 @@ use Rattle.entry.specs.declared.Place.the-variants.{NoObject, NoSub, Count, Val
 use Rattle.entry.proofs.Place.{the-type as place-type}
 use Rattle.entry.proofs.ValueLaws.{element-of, element-facts}
 use Rattle.pdo_handler.specs.Channel.{u8In, u8At}
-use Rattle.channel.specs.declared.Fault.the-variants as fault
-use Rattle.channel.specs.declared.Verdict.the-variants.{Faulty}
+use Rattle.channel.specs.declared.Explained.the-variants.{Refused}
 use Rattle.channel.specs.declared.Checked.{Checked}
-use Rattle.channel.specs.Elements.{onTarget, verdictOf}
+use Rattle.channel.specs.Explain.{ofPlace}
+use Rattle.channel.specs.Elements.{verdictOf}
 use Rattle.channel.specs.Check.{onVerdict, faultFrom}
 
--- where nothing is named
-pub no-target : (slots : List ℕ) (n : ℕ) (f : Place) → OneOf (0 ∷ 1 ∷ 2 ∷ []) (tagOf place-type f) → OneOf (0 ∷ 1 ∷ 3 ∷ []) (tagOf place-type f) → Faulty fault.NoTarget ≡ onTarget slots n f
-no-target slots n NoObject a b = refl
-no-target slots n NoSub a b = refl
-no-target slots n (Count c) a b = absurd (⊎-elim (λ e. omega arith) (⊎-elim (λ e. omega arith) (λ e. omega arith)) b)
-no-target slots n (Value p) a b = absurd (⊎-elim (λ e. omega arith) (⊎-elim (λ e. omega arith) (λ e. omega arith)) a)
+-- a place that is no value's is no element's
+pub no-element : (d : Dict) (f : Place) → OneOf (0 ∷ 1 ∷ 2 ∷ []) (tagOf place-type f) → Refused SubObjectNotFound ≡ ofPlace d f
+no-element d NoObject o = refl
+no-element d NoSub o = refl
+no-element d (Count c) o = refl
+no-element d (Value p) o = absurd (⊎-elim (λ e. omega arith) (⊎-elim (λ e. omega arith) (λ e. omega arith)) o)
 
 -- ---- the elements, one at a time
 module _ (objects slots : List ℕ) (p : ℕ) (list : List ℕ) (j : ℕ) (last : Checked) where

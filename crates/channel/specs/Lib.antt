@@ -1,3 +1,4 @@
+pub mod Explain
 pub mod Elements
 pub mod Check
 pub mod Numbers

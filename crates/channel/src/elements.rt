@@ -1,50 +1,64 @@
-// What is wrong with an element of a channel's list.
+// What is wrong with an element of a channel's list, by what it maps.
 ghost use mathlib.Core.Path.{_≡_};
-ghost use Prim.Native.Nat.{_<_, _≤_};
-ghost use lib.ListN.{length};
-ghost use Rattle.entry.specs.Table.{slotEnd};
-ghost use Rattle.entry.specs.Find.{placeOf};
-ghost use Rattle.entry.specs.declared.Place.the-variants.{Value};
 ghost use Rattle.pdo_step.specs.Outcomes.{Shape};
-ghost use Rattle.channel.specs.Elements.{lengthFits, onTarget, wordVerdict};
+ghost use Rattle.channel.specs.Elements.{fitsIn, ontoTarget, saidOf, wordVerdict};
+use crate::Explained;
 use crate::Fault;
+use crate::Target;
 use crate::Verdict;
-use entry::Place;
-use mapping::Field;
-use mapping::PdoMappingEntry;
+use crate::explaining::of_word;
 
-// Is a field of n bytes a value of the type, and within its room?
-fn length_fits(t: u64, room: u64, n: usize) -> bool
-    ensures { λ r. ⌜ r ≡ lengthFits t room n ⌝ }
+// Is a field of n bytes a value of the type that takes, or has room for, so many?
+fn fits_in(t: u64, most: u64, n: usize) -> bool
+    ensures { λ r. ⌜ r ≡ fitsIn t most n ⌝ }
 {
     if value::is_text(t) {
-        return (n as u64 <= room) & !((t == 13) & (n % 2 == 1));
+        return (n as u64 <= most) & !((t == 13) & (n % 2 == 1));
     }
-    n == value::size_of(t)
+    n as u64 == most
 }
 
-fn at_value(slots: &[u64], p: usize, n: usize) -> Verdict
-    requires { ⌜ (p < 6144) × (slotEnd p ≤ length (now slots)) ⌝ }
-    ensures { λ r. ⌜ r ≡ onTarget (now (slots .entry)) n (Value p) ⌝ }
+fn onto_target(n: usize, target: Target) -> Verdict
+    ensures { λ r. ⌜ r ≡ ontoTarget n target ⌝ }
 {
-    if length_fits(entry::type_at(slots, p), entry::room_at(slots, p), n) {
-        return Verdict::Clean;
+    match target {
+        Target::NoObject => Verdict::Faulty(Fault::NoTarget),
+        Target::NoSub => Verdict::Faulty(Fault::NoTarget),
+        Target::Count => Verdict::Faulty(Fault::CountTarget),
+        Target::Value { value_type, holds } => {
+            if fits_in(value_type, holds, n) {
+                Verdict::Clean
+            } else {
+                Verdict::Faulty(Fault::WrongLength)
+            }
+        }
     }
-    Verdict::Faulty(Fault::WrongLength)
 }
 
-fn at_target(objects: &[u64], slots: &[u64], index: u16, sub: u8, n: usize) -> Verdict
-    requires { ⌜ Shape (now objects) (now slots) ⌝ }
-    ensures { λ r. ⌜ r ≡ onTarget (now (slots .entry)) n (placeOf (now (objects .entry)) index sub) ⌝ }
+// What the check says of an element by itself, from its explanation alone; a refusal explains none.
+pub fn said(e: Explained) -> Verdict
+    ensures { λ r. ⌜ r ≡ saidOf e ⌝ }
 {
-    let found = entry::locate(objects, index, sub);
-    if let Place::Count(_) = found {
-        return Verdict::Faulty(Fault::CountTarget);
+    match e {
+        Explained::Other(_) => Verdict::Faulty(Fault::NotMapping),
+        Explained::Misaligned {
+            index: _,
+            sub_index: _,
+            offset_bits: _,
+            length_bits: _,
+        } => Verdict::Faulty(Fault::Misaligned),
+        Explained::Field {
+            index,
+            sub_index: _,
+            start: _,
+            length,
+            target,
+        } => match index {
+            0x1200..=0x12FF => Verdict::Faulty(Fault::HandOff),
+            _ => onto_target(length, target),
+        },
+        Explained::Refused(_) => Verdict::Clean,
     }
-    let Place::Value(p) = found else {
-        return Verdict::Faulty(Fault::NoTarget);
-    };
-    at_value(slots, p, n)
 }
 
 // Of a mapping word.
@@ -52,14 +66,5 @@ pub fn verdict(objects: &[u64], slots: &[u64], word: u64) -> Verdict
     requires { ⌜ Shape (now objects) (now slots) ⌝ }
     ensures { λ r. ⌜ r ≡ wordVerdict (now (objects .entry)) (now (slots .entry)) word ⌝ }
 {
-    let e = PdoMappingEntry::from_u64(word);
-    let Field::Whole { start: _, length } = e.field() else {
-        return Verdict::Faulty(Fault::Misaligned);
-    };
-    let index = e.index;
-    let sub = e.sub_index;
-    match index {
-        0x1200..=0x12FF => Verdict::Faulty(Fault::HandOff),
-        _ => at_target(objects, slots, index, sub, length),
-    }
+    said(of_word(objects, slots, word))
 }

@@ -2,11 +2,14 @@
 mod checking;
 mod elements;
 mod every;
+mod explaining;
 mod numbers;
 
 use answers::Refusal;
 pub use checking::check;
+pub use elements::said;
 pub use every::check_all;
+pub use explaining::explain;
 pub use numbers::named;
 pub use numbers::number;
 
@@ -38,5 +41,35 @@ pub enum Checked {
 // How many numbers were laid, or why none.
 pub enum CheckedAll {
     Done(usize),
+    Refused(Refusal),
+}
+
+// What there is at an index and a sub-index; a value holds so many bytes: its type's size, or its room.
+pub enum Target {
+    NoObject,
+    NoSub,
+    Count,
+    Value { value_type: u64, holds: u64 },
+}
+
+// What an element maps, and onto what.
+pub enum Explained {
+    // Of this type, so no mapping word.
+    Other(u64),
+    // In bits, since one of them is not whole bytes.
+    Misaligned {
+        index: u16,
+        sub_index: u8,
+        offset_bits: u16,
+        length_bits: u16,
+    },
+    // In bytes.
+    Field {
+        index: u16,
+        sub_index: u8,
+        start: usize,
+        length: usize,
+        target: Target,
+    },
     Refused(Refusal),
 }

@@ -1,8 +1,8 @@
--- `channel::elements::length_fits` meets its contract: a string by its room, another type by its size. Assumes nothing.
+-- `channel::explaining::holds` meets its contract. Assumes nothing.
 use mathlib.Core.Path.{sym, _∙_}
 use borrow.Author.Needs.{needs}
-use Rattle.channel.proofs.elements.length_fits.Statement.{statement}
-use Rattle.channel.proofs.elements.length_fits.Tie as tie
+use Rattle.channel.proofs.explaining.holds.Statement.{statement}
+use Rattle.channel.proofs.explaining.holds.Tie as tie
 
 is-text-requires : tie.Need-is-text-requires
 is-text-requires c κs = search needs
@@ -16,5 +16,5 @@ size-of-requires c κs = search needs
 returns-2 : tie.Need-returns-2
 returns-2 c = let e = c .before in sym (rw (sym (e .before .is-text .ensures) ∙ e .if1 .left, c .size-of .ensures))
 
-pub length-fits-spec : {M : Type 1} → statement M
-length-fits-spec = tie.close (tie.spec is-text-requires returns size-of-requires returns-2)
+pub holds-spec : {M : Type 1} → statement M
+holds-spec = tie.close (tie.spec is-text-requires returns size-of-requires returns-2)

@@ -1,0 +1,52 @@
+-- `channel::explaining::of_word` meets its contract: whole bytes or not. Assumes nothing.
+use mathlib.Core.Path.{_≡_, sym, ap, _∙_}
+use denote.Ref.{now}
+use Rattle.mapping.specs.Word.{entryOf, fieldOf}
+use Rattle.mapping.specs.declared.Field.{Field}
+use Rattle.mapping.specs.declared.PdoMappingEntry.{PdoMappingEntry}
+use Rattle.channel.specs.Explain.{ofField, ofWord}
+use borrow.Author.Needs.{needs}
+use Rattle.channel.proofs.explaining.of_word.Statement.{statement}
+use Rattle.channel.proofs.explaining.of_word.Tie as tie
+
+abbrev start : tie.After-field → tie.Start
+start c = c .before .before .before .before
+
+-- what was taken apart, with the field that was found
+fielded : (c : tie.After-field) (f : Field) → c .field .result ≡ f → let a = start c .args in ofField (now (a .objects)) (now (a .slots)) (c .before .from-u64 .result) f ≡ ofWord (now (a .objects)) (now (a .slots)) (a .word)
+fielded c f e =
+    let a = start c .args in
+    ap (ofField (now (a .objects)) (now (a .slots)) (c .before .from-u64 .result)) (sym e ∙ c .field .ensures) ∙ ap (λ (z : PdoMappingEntry). ofField (now (a .objects)) (now (a .slots)) z (fieldOf z)) (c .before .from-u64 .ensures)
+
+from-u64-requires : tie.Need-from-u64-requires
+from-u64-requires c κs = search needs
+
+field-requires : tie.Need-field-requires
+field-requires c κs = search needs
+
+enum-known-start : tie.Need-enum-known-start
+enum-known-start c = search needs
+
+enum-told : tie.Need-enum-told
+enum-told c = search needs
+
+returns : tie.Need-returns
+returns c = fielded (c .before .before) _ (c .enum-told .given .1)
+
+target-at-requires : tie.Need-target-at-requires
+target-at-requires c κs = start (c .before .before .before) .pre
+
+returns-2 : tie.Need-returns-2
+returns-2 c = let f = c .before .before .before .before in rw (c .target-at .ensures) (fielded f _ (c .before .before .start .given .1))
+
+pub of-word-spec : {M : Type 1} → statement M
+of-word-spec =
+    tie.close
+    (tie.spec
+    from-u64-requires
+    field-requires
+    enum-known-start
+    enum-told
+    returns
+    target-at-requires
+    returns-2)
