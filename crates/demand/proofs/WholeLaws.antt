@@ -25,10 +25,10 @@ use Rattle.pdo_validator.specs.Counting.{isMapping}
 use Rattle.pdo_step.specs.declared.Outcome.the-variants as outcome
 use Rattle.pdo_step.specs.Outcomes.{part, within, onCount, onValue, onPlace, onIndex, outcomeOf}
 use Rattle.pdo_handler.specs.Run.{Frame}
 use Rattle.channel.specs.declared.Verdict.the-variants.{Clean}
 use Rattle.channel.specs.Elements.{lengthFits, wordVerdict}
-use Rattle.channel.specs.Demand.{Whole}
-use Rattle.channel.proofs.CleanLaws.{joined-range}
+use Rattle.demand.specs.Demand.{Whole}
+use Rattle.demand.proofs.CleanLaws.{joined-range}
 
 -- ---- what is stored comes from: the field is within the payload, outside of both ranges, at a value that takes it and has room
 pub record StoredAt (objects slots payload : List ℕ) (w p start n : ℕ) : Type 0 where

@@ -25,11 +25,11 @@ use Rattle.pdo_step.specs.Outcomes.{part}
 use Rattle.pdo_step.specs.Steps.{applied}
 use Rattle.pdo_handler.specs.Run.{Frame, held, decided, eventOf, stopsOf, actOf, ran, runFrom}
 use Rattle.pdo_handler.proofs.ConsumeLaws.{Sane, act-sane}
 use Rattle.channel.specs.declared.Fault.the-variants as fault
 use Rattle.channel.specs.declared.Verdict.the-variants.{Clean, Faulty}
 use Rattle.channel.specs.Elements.{lengthFits, wordVerdict, verdictOf}
-use Rattle.channel.specs.Demand.{Long, TextAt, Texts, Whole, putWord, putAll, AllWhole}
-use Rattle.channel.proofs.CleanLaws.{clean-word, clean-stored}
+use Rattle.demand.specs.Demand.{Long, TextAt, Texts, Whole, putWord, putAll, AllWhole}
+use Rattle.demand.proofs.CleanLaws.{clean-word, clean-stored}
 
 -- ---- what was put is encoded as what was put
 pub put-encodes : (d : Dict) (p : ℕ) (s : List ℕ) → ValueFacts d p → Bytes s → (isText (typeAt (d .slots) p) ≡ false → length s ≡ sizeOf (typeAt (d .slots) p))

@@ -22,15 +22,15 @@ use Rattle.pdo_validator.specs.Counting.{endsFrom}
 use Rattle.pdo_validator.proofs.CountLaws.{elements-lie}
 use Rattle.pdo_handler.specs.Channel.{u8At, matchesIn, commIndex, channelFrom, firstMatch, orZero, expectedOf}
 use Rattle.pdo_handler.specs.Run.{Frame, frame, listIn}
 use Rattle.channel.specs.declared.Checked.{Checked}
 use Rattle.channel.specs.declared.Checked.the-variants.{Pass}
 use Rattle.channel.specs.Check.{faultFrom, isFar, lastOf, senderFor, checkOf}
-use Rattle.channel.specs.Demand.{Long, putWord, AllWhole, Admits, Demand}
+use Rattle.demand.specs.Demand.{Long, putWord, AllWhole, Admits, Demand}
 use Rattle.channel.proofs.CheckLaws.{u8-small}
-use Rattle.channel.proofs.PassLaws.{AllClean, clean-element}
-use Rattle.channel.proofs.WholeLaws.{whole-clean}
-use Rattle.channel.proofs.DemandLaws.{passed, pass-writes}
-use Rattle.channel.proofs.ExistLaws.{Most, ends-most, long-of, right-same, zero-texts}
+use Rattle.demand.proofs.PassLaws.{AllClean, clean-element}
+use Rattle.demand.proofs.WholeLaws.{whole-clean}
+use Rattle.demand.proofs.DemandLaws.{passed, pass-writes}
+use Rattle.demand.proofs.ExistLaws.{Most, ends-most, long-of, right-same, zero-texts}
 
 -- ---- elements one by one
 pub clean-type : (objects slots : List ℕ) (p : ℕ) (ws : List ℕ) (j : ℕ) → AllClean objects slots p ws j → (k : ℕ) → k < length ws → typeAt slots (p + (j + k)) ≡ 8

@@ -20,17 +20,17 @@ use Rattle.entry.specs.declared.Found.the-variants.{At, Nothing}
 use Rattle.pdo_validator.specs.Counting.{endsFrom}
 use Rattle.pdo_handler.specs.Channel.{u8At, commIndex, firstMatch}
 use Rattle.pdo_handler.specs.Run.{frame, listIn}
 use Rattle.channel.specs.declared.Fault.{Fault}
 use Rattle.channel.specs.declared.Verdict.{Verdict}
 use Rattle.channel.specs.declared.Verdict.the-variants.{Clean, Faulty}
 use Rattle.channel.specs.declared.Checked.{Checked}
 use Rattle.channel.specs.declared.Checked.the-variants.{Pass, NoSender, NoList, Element, TooFar, Refused}
 use Rattle.channel.specs.Elements.{verdictOf}
 use Rattle.channel.specs.Check.{faultFrom, isFar, lastOf, senderFor, hasSender, checkOf}
-use Rattle.channel.specs.Demand.{Long, Whole}
-use Rattle.channel.proofs.PassLaws.{AllClean}
-use Rattle.channel.proofs.WholeLaws.{whole-clean}
-use Rattle.channel.proofs.ExactLaws.{long-at, list-length, list-word, list-most, sent-by}
+use Rattle.demand.specs.Demand.{Long, Whole}
+use Rattle.demand.proofs.PassLaws.{AllClean}
+use Rattle.demand.proofs.WholeLaws.{whole-clean}
+use Rattle.demand.proofs.ExactLaws.{long-at, list-length, list-word, list-most, sent-by}
 
 -- ---- the first fault of some elements
 pub record FaultAt (objects slots : List ℕ) (p : ℕ) (ws : List ℕ) (j : ℕ) (last : Checked) : Type 0 where

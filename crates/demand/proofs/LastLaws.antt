@@ -16,14 +16,14 @@ use Rattle.entry.specs.Put.{Contents, contents, filled}
 use Rattle.entry.specs.declared.Found.the-variants.{At}
 use Rattle.pdo_handler.specs.Run.{frame, listIn}
 use Rattle.pdo_handler.specs.Consume.{consumedBy}
 use Rattle.channel.specs.declared.Verdict.the-variants.{Clean}
 use Rattle.channel.specs.declared.Checked.the-variants.{Pass}
 use Rattle.channel.specs.Elements.{wordVerdict}
 use Rattle.channel.specs.Check.{checkOf}
-use Rattle.channel.specs.Demand.{Admitted, Written, Keeps}
-use Rattle.channel.proofs.CleanLaws.{CleanWord, clean-word}
-use Rattle.channel.proofs.PassLaws.{AllClean, clean-element, clean-run}
-use Rattle.channel.proofs.DemandLaws.{passed}
+use Rattle.demand.specs.Demand.{Admitted, Written, Keeps}
+use Rattle.demand.proofs.CleanLaws.{CleanWord, clean-word}
+use Rattle.demand.proofs.PassLaws.{AllClean, clean-element, clean-run}
+use Rattle.demand.proofs.DemandLaws.{passed}
 
 -- ---- a clean word stays clean where its target is the same
 pub word-clean : (objects slots : List ℕ) (w : ℕ) → CleanWord objects slots w → wordVerdict objects slots w ≡ Clean
