@@ -101,22 +101,3 @@ pub record Demand (d : Dict) (i : ℕ) : Type 0 where
   pub exists : Admits d i row
   pub all : (payload : List ℕ) → Bytes payload → (sender version : ℕ) (ready : Bool) (k : ℕ) → Admitted d i row payload sender version ready
       → Written (frame (d .objects) (d .slots) payload sender k) (contents (d .words) (d .bytes)) version ready (firstAt (d .objects) row) (listIn (d .objects) (d .words) row)
-
--- R12.9: "until a restore, or until the channel's records change". What a later dictionary keeps of one that was checked: the channel's list,
--- and every value's place, type and room. Rows and slots may have moved, since objects may have been let in.
-pub record SameTarget (d d′ : Dict) (x sub p : ℕ) : Type 0 where
-  pub place : ℕ
-  pub placed : placeOf (d′ .objects) x sub ≡ Value place
-  pub type : typeAt (d′ .slots) place ≡ typeAt (d .slots) p
-  pub room : roomAt (d′ .slots) place ≡ roomAt (d .slots) p
-
-pub record SameList (d d′ : Dict) (i r : ℕ) : Type 0 where
-  pub row : ℕ
-  pub found : findRow (d′ .objects) (0x1600 + i) ≡ At row
-  pub list : eqb (kindAt (d′ .objects) row) 0 ≡ eqb (kindAt (d .objects) r) 0
-  pub words : listIn (d′ .objects) (d′ .words) row ≡ listIn (d .objects) (d .words) r
-  pub types : (k : ℕ) → k < length (listIn (d .objects) (d .words) r) → typeAt (d′ .slots) (firstAt (d′ .objects) row + k) ≡ typeAt (d .slots) (firstAt (d .objects) r + k)
-
-pub record Keeps (d d′ : Dict) (i : ℕ) : Type 0 where
-  pub lists : (r : ℕ) → findRow (d .objects) (0x1600 + i) ≡ At r → SameList d d′ i r
-  pub targets : (x sub p : ℕ) → placeOf (d .objects) x sub ≡ Value p → SameTarget d d′ x sub p

@@ -1,0 +1,72 @@
+-- How long a pass lasts: RULES.md R12.9 to R12.11. Assumes nothing.
+use Prim.Native.Nat.{ℕ, _+_, _<_}
+use mathlib.Core.Path.{_≡_}
+use mathlib.Core.Bool.{Bool}
+use mathlib.Core.List.{List, [], _∷_}
+use Rattle.lists.specs.Numbers.{Bytes}
+use Rattle.entry.specs.Table.{Dict, kindAt, countAt, firstAt, typeAt, roomAt}
+use Rattle.entry.specs.Find.{findRow}
+use Rattle.entry.specs.Put.{contents, filled}
+use Rattle.entry.specs.declared.Found.the-variants.{At}
+use Rattle.insertion.specs.declared.Head.{Head}
+use Rattle.insertion.specs.Insert.{memoryOf}
+use Rattle.od.specs.Counter.{counterOf}
+use Rattle.writing.specs.Writing.{writeOf}
+use Rattle.pdo_handler.specs.Run.{listIn}
+use Rattle.pdo_handler.specs.Consume.{consumeOf}
+use Rattle.pdo_handler.specs.Errors.{updateOf}
+use Rattle.pdo_cycle.specs.Cycle.{cycleOf}
+
+-- R12.11: "keeps each object's kind, element count, types and rooms". Rows and slots may have moved, since objects may have been let in.
+pub record SameRow (d d′ : Dict) (x r : ℕ) : Type 0 where
+  pub row : ℕ
+  pub found : findRow (d′ .objects) x ≡ At row
+  pub kind : kindAt (d′ .objects) row ≡ kindAt (d .objects) r
+  pub count : countAt (d′ .objects) row ≡ countAt (d .objects) r
+  pub types : (k : ℕ) → k < countAt (d .objects) r → typeAt (d′ .slots) (firstAt (d′ .objects) row + k) ≡ typeAt (d .slots) (firstAt (d .objects) r + k)
+  pub rooms : (k : ℕ) → k < countAt (d .objects) r → roomAt (d′ .slots) (firstAt (d′ .objects) row + k) ≡ roomAt (d .slots) (firstAt (d .objects) r + k)
+
+abbrev pub Shaped : Dict → Dict → Type 0
+Shaped d d′ = (x r : ℕ) → findRow (d .objects) x ≡ At r → SameRow d d′ x r
+
+-- R12.10: "They change when their contents differ". Of the two records the claim needs the list 1600h+i alone.
+abbrev pub SameWords : Dict → Dict → ℕ → Type 0
+SameWords d d′ i = (r r′ : ℕ) → findRow (d .objects) (0x1600 + i) ≡ At r → findRow (d′ .objects) (0x1600 + i) ≡ At r′ → listIn (d′ .objects) (d′ .words) r′ ≡ listIn (d .objects) (d .words) r
+
+-- ---- the public calls, but for `new`, which makes a dictionary, and a restore; those that only look are one
+pub data Call : Type 0 where
+  look : Call
+  insert : Head → List ℕ → List ℕ → List ℕ → Call
+  write : List ℕ → ℕ → ℕ → ℕ → List ℕ → Call
+  increment-counter : ℕ → ℕ → Call
+  update-pdo-error-object : ℕ → ℕ → Call
+  consume-pdo-payload : List ℕ → ℕ → ℕ → Bool → ℕ → List ℕ → Call
+  consume-cycle : List ℕ → List ℕ → List ℕ → Call
+
+-- what a call leaves of a dictionary
+abbrev pub left : Call → Dict → Dict
+left look d = d
+left (insert h name vals encodings) d = memoryOf h name vals encodings d
+left (write store x sub t s) d = filled d (contents (writeOf d store x sub t s .words) (writeOf d store x sub t s .bytes))
+left (increment-counter x sub) d = filled d (contents (counterOf d x sub .words) (d .bytes))
+left (update-pdo-error-object x n) d = filled d (contents (d .words) (updateOf d x n .bytes))
+left (consume-pdo-payload payload sender version ready room log) d = filled d (consumeOf d payload sender version ready room log .contents)
+left (consume-cycle delivered ps log) d = filled d (cycleOf d delivered ps log .contents)
+
+unfoldable pub leftBy : List Call → Dict → Dict
+leftBy [] d = d
+leftBy (c ∷ cs) d = leftBy cs (left c d)
+
+-- what is lent as bytes holds bytes, at each call
+abbrev pub Given : Call → Type 0
+Given look = Unit {0}
+Given (insert h name vals encodings) = Unit {0}
+Given (write store x sub t s) = Bytes s
+Given (increment-counter x sub) = Unit {0}
+Given (update-pdo-error-object x n) = Unit {0}
+Given (consume-pdo-payload payload sender version ready room log) = Bytes payload
+Given (consume-cycle delivered ps log) = Bytes delivered
+
+abbrev pub Bytewise : List Call → Dict → Type 0
+Bytewise [] d = Bytes (d .bytes)
+Bytewise (c ∷ cs) d = Bytes (d .bytes) × Given c × Bytewise cs (left c d)
