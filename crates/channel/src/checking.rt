@@ -6,7 +6,7 @@ ghost use lib.ListN.{take, drop};
 ghost use Rattle.entry.specs.Table.{dict, numberOf};
 ghost use Rattle.entry.specs.Find.{findRow};
 ghost use Rattle.entry.specs.Judge.{wellFormed};
-ghost use Rattle.od.specs.Nodes.{Elements};
+ghost use Rattle.nodes.specs.Nodes.{Elements};
 ghost use Rattle.pdo_handler.specs.Channel.{u8At, commIndex};
 ghost use Rattle.pdo_step.specs.Outcomes.{Shape};
 ghost use Rattle.channel.specs.Check.{faultFrom, isFar, onElements, onList, senderFor, hasSender, checkOf};

@@ -5,7 +5,7 @@ ghost use Prim.Native.Nat.{_<_};
 ghost use Rattle.entry.specs.Table.{dict, numberOf};
 ghost use Rattle.entry.specs.Judge.{wellFormed};
 ghost use Rattle.entry.specs.declared.Found.the-variants.{At};
-ghost use Rattle.od.specs.Nodes.{Elements};
+ghost use Rattle.nodes.specs.Nodes.{Elements};
 ghost use Rattle.pdo_validator.specs.Counting.{sends, isMapping, limitOf, endsFrom, within, countOn, countOf, validOf};
 use answers::Refusal;
 use entry::Found;

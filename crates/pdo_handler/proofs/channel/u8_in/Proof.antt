@@ -6,7 +6,7 @@ use Rattle.entry.specs.Table.{Dict, dict}
 use Rattle.entry.specs.Find.{onRow}
 use Rattle.entry.specs.declared.Place.{Place}
 use Rattle.entry.proofs.ValueLaws.{ValueFacts, rows-of, found-lies}
-use Rattle.od.proofs.CounterLaws.{value-lies}
+use Rattle.od.proofs.ReadLaws.{value-lies}
 use Rattle.pdo_handler.specs.Channel.{u8In, u8At}
 use native.Mathlib.Omega.{arith}
 use borrow.Author.Needs.{needs}
