@@ -21,7 +21,7 @@ use Rattle.entry.specs.declared.Place.{Place}
 use Rattle.entry.specs.declared.Place.the-variants.{NoObject, NoSub, Count, Value}
 use Rattle.entry.proofs.Place.{the-type as place-type}
 use Rattle.entry.proofs.ValueLaws.{element-of, element-facts}
-use Rattle.pdo_handler.specs.Channel.{u8In, u8At}
+use Rattle.pdo_channel.specs.Channel.{u8In, u8At}
 use Rattle.channel.specs.declared.Fault.the-variants as fault
 use Rattle.channel.specs.declared.Verdict.the-variants.{Faulty}
 use Rattle.channel.specs.declared.Checked.{Checked}

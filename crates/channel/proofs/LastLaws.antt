@@ -14,7 +14,7 @@ use Rattle.entry.specs.Find.{findRow}
 use Rattle.entry.specs.Judge.{wellFormed}
 use Rattle.entry.specs.Put.{Contents, contents, filled}
 use Rattle.entry.specs.declared.Found.the-variants.{At}
-use Rattle.pdo_handler.specs.Run.{frame, listIn}
+use Rattle.pdo_run.specs.Run.{frame, listIn}
 use Rattle.pdo_handler.specs.Consume.{consumedBy}
 use Rattle.channel.specs.declared.Verdict.the-variants.{Clean}
 use Rattle.channel.specs.declared.Checked.the-variants.{Pass}

@@ -7,7 +7,7 @@ ghost use Rattle.entry.specs.Table.{dict, numberOf};
 ghost use Rattle.entry.specs.Find.{findRow};
 ghost use Rattle.entry.specs.Judge.{wellFormed};
 ghost use Rattle.nodes.specs.Nodes.{Elements};
-ghost use Rattle.pdo_handler.specs.Channel.{u8At, commIndex};
+ghost use Rattle.pdo_channel.specs.Channel.{u8At, commIndex};
 ghost use Rattle.pdo_step.specs.Outcomes.{Shape};
 ghost use Rattle.channel.specs.Check.{faultFrom, isFar, onElements, onList, senderFor, hasSender, checkOf};
 use crate::Checked;
@@ -106,11 +106,11 @@ fn has_sender(objects: &[u64], slots: &[u64], words: &[u64], bytes: &[u8], i: u8
     let Found::At(row) = entry::find(objects, index) else {
         return false;
     };
-    let Found::At(v) = pdo_handler::u8_in(objects, slots, words, bytes, row, index, 1) else {
+    let Found::At(v) = pdo_channel::u8_in(objects, slots, words, bytes, row, index, 1) else {
         return false;
     };
     let sender = sender_for(v);
-    let Found::At(j) = pdo_handler::first_match(objects, slots, words, bytes, sender) else {
+    let Found::At(j) = pdo_channel::first_match(objects, slots, words, bytes, sender) else {
         return false;
     };
     j == i as usize

@@ -6,7 +6,7 @@ ghost use lib.ListN.{length};
 ghost use Rattle.entry.specs.Table.{dict};
 ghost use Rattle.entry.specs.Judge.{wellFormed};
 ghost use Rattle.entry.specs.Put.{contents};
-ghost use Rattle.pdo_handler.specs.Run.{logged, finished};
+ghost use Rattle.pdo_run.specs.Run.{logged, finished};
 ghost use Rattle.pdo_cycle.specs.Payloads.{Lies, payloadsIn, areShaped, arePlaced, areShort};
 ghost use Rattle.pdo_cycle.specs.Cycle.{delivery, receivedAt, cycleFrom, ended, after, done, cycleOf};
 use crate::Cycle;

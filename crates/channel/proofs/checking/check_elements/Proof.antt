@@ -8,7 +8,7 @@ use Rattle.entry.proofs.ValueLaws.{row-lies}
 use Rattle.nodes.specs.Nodes.{Elements}
 use Rattle.pdo_validator.specs.Counting.{endsFrom}
 use Rattle.pdo_validator.proofs.CountLaws.{elements-lie}
-use Rattle.pdo_handler.specs.Run.{listIn}
+use Rattle.pdo_run.specs.Run.{listIn}
 use Rattle.pdo_step.proofs.OutcomeLaws.{shape-of}
 use Rattle.channel.specs.declared.Checked.the-variants.{Pass, TooFar}
 use Rattle.channel.specs.Check.{faultFrom, isFar, onElements}
