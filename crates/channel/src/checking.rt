@@ -137,7 +137,7 @@ pub fn check_judged(
 pub fn check(objects: &[u64], slots: &[u64], words: &[u64], bytes: &[u8], channel: u8) -> Checked
     ensures { λ r. ⌜ r ≡ checkOf (dict (now (objects .entry)) (now (slots .entry)) (now (words .entry)) (now (bytes .entry))) channel ⌝ }
 {
-    if !entry::well_formed(objects, slots, words, bytes) {
+    if !judge::well_formed(objects, slots, words, bytes) {
         return Checked::Refused(Refusal::Malformed);
     }
     check_judged(objects, slots, words, bytes, channel)

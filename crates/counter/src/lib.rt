@@ -50,7 +50,7 @@ pub fn increment_counter(
 ) -> Answer
     ensures { λ r. ⌜ after r (now (words .exit)) ≡ counterOf (dict (now (objects .entry)) (now (slots .entry)) (now (words .entry)) (now (bytes .entry))) index sub ⌝ }
 {
-    if !entry::well_formed(objects, slots, words, bytes) {
+    if !judge::well_formed(objects, slots, words, bytes) {
         return Answer::Refused(Refusal::Malformed);
     }
     let Found::At(p) = counter_at(objects, slots, words, bytes, index, sub) else {

@@ -74,7 +74,7 @@ pub fn find_by_name(
 ) -> ByName
     ensures { λ r. ⌜ r ≡ byNameOf (dict (now (objects .entry)) (now (slots .entry)) (now (words .entry)) (now (bytes .entry))) (now (name .entry)) ⌝ }
 {
-    if !entry::well_formed(objects, slots, words, bytes) {
+    if !judge::well_formed(objects, slots, words, bytes) {
         return ByName::Refused(Refusal::Malformed);
     }
     if name.len() > 32 {

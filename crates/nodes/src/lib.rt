@@ -90,7 +90,7 @@ pub fn get_configured_cns(
 ) -> Listed
     ensures { λ r. ⌜ given r (now (out .exit)) ≡ cnsOf (dict (now (objects .entry)) (now (slots .entry)) (now (words .entry)) (now (bytes .entry))) (now (out .entry)) ⌝ }
 {
-    if !entry::well_formed(objects, slots, words, bytes) {
+    if !judge::well_formed(objects, slots, words, bytes) {
         return Listed::Refused(Refusal::Malformed);
     }
     let span = elements(objects, slots, words, bytes);

@@ -89,7 +89,7 @@ pub fn consume_cycle(
 ) -> Cycle
     ensures { λ r. ⌜ after r (contents (now (words .exit)) (now (bytes .exit))) (now (log .exit)) ≡ cycleOf (dict (now (objects .entry)) (now (slots .entry)) (now (words .entry)) (now (bytes .entry))) (now (delivered .entry)) (now (payloads .entry)) (now (log .entry)) ⌝ }
 {
-    if !entry::well_formed(objects, slots, words, bytes) {
+    if !judge::well_formed(objects, slots, words, bytes) {
         return Cycle::Refused(Refusal::Malformed);
     }
     let judged = judge(delivered.len() as u64, payloads);

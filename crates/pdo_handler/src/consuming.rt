@@ -108,7 +108,7 @@ pub fn consume_logged(
     requires { ⌜ (254 ≤ room → 254 ≤ length (now log)) ⌝ }
     ensures { λ r. ⌜ after r (contents (now (words .exit)) (now (bytes .exit))) (now (log .exit)) ≡ consumeOf (dict (now (objects .entry)) (now (slots .entry)) (now (words .entry)) (now (bytes .entry))) (now (payload .entry)) sender version ready room (now (log .entry)) ⌝ }
 {
-    if !entry::well_formed(objects, slots, words, bytes) {
+    if !judge::well_formed(objects, slots, words, bytes) {
         return Consumed::Refused(Refusal::Malformed);
     }
     if room < 254 {

@@ -140,7 +140,7 @@ pub fn validate_pdo_mapping(
 ) -> Answer
     ensures { λ r. ⌜ r ≡ validOf (dict (now (objects .entry)) (now (slots .entry)) (now (words .entry)) (now (bytes .entry))) index n ⌝ }
 {
-    if !entry::well_formed(objects, slots, words, bytes) {
+    if !judge::well_formed(objects, slots, words, bytes) {
         return Answer::Refused(Refusal::Malformed);
     }
     judge_count(objects, slots, words, bytes, index, n)
