@@ -8,7 +8,7 @@ use Rattle.lists.specs.Lists.{over}
 use Rattle.lists.proofs.ListLaws.{over-none, over-over}
 use Rattle.entry.specs.Table.{Dict}
 use Rattle.entry.specs.Find.{findRow}
-use Rattle.pdo_handler.specs.Channel.{commIndex}
+use Rattle.pdo_channel.specs.Channel.{commIndex}
 use Rattle.channel.specs.All.{onComm, linesFrom, laid, laidOn}
 
 module _ (d : Dict) (n i : ℕ) where

@@ -22,7 +22,7 @@ use Rattle.entry.specs.declared.Place.{Place}
 use Rattle.entry.specs.declared.Place.the-variants.{NoObject, NoSub, Count, Value}
 use Rattle.entry.proofs.Place.{the-type as place-type}
 use Rattle.entry.proofs.ValueLaws.{element-of, element-facts}
-use Rattle.pdo_handler.specs.Channel.{u8In, u8At}
+use Rattle.pdo_channel.specs.Channel.{u8In, u8At}
 use Rattle.channel.specs.declared.Explained.the-variants.{Refused}
 use Rattle.channel.specs.declared.Checked.{Checked}
 use Rattle.channel.specs.Explain.{ofPlace}

@@ -11,7 +11,7 @@ use Rattle.entry.specs.Find.{findRow}
 use Rattle.entry.specs.Judge.{wellFormed}
 use Rattle.entry.specs.declared.Found.{Found}
 use Rattle.entry.specs.declared.Found.the-variants.{At, Nothing}
-use Rattle.pdo_handler.specs.Channel.{commIndex}
+use Rattle.pdo_channel.specs.Channel.{commIndex}
 use Rattle.channel.specs.declared.CheckedAll.{CheckedAll}
 use Rattle.channel.specs.declared.CheckedAll.the-variants.{Done, Refused}
 use Rattle.channel.specs.Check.{checkOf}

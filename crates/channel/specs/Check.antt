@@ -12,8 +12,8 @@ use Rattle.entry.specs.declared.Found.the-variants.{At, Nothing}
 use Rattle.pdo_validator.specs.Counting.{endsFrom}
 use Rattle.pdo_validator.specs.declared.Mapped.{Mapped}
 use Rattle.pdo_validator.specs.declared.Mapped.the-variants.{Upto, Missing}
-use Rattle.pdo_handler.specs.Channel.{u8At, commIndex, firstMatch}
-use Rattle.pdo_handler.specs.Run.{listIn}
+use Rattle.pdo_channel.specs.Channel.{u8At, commIndex, firstMatch}
+use Rattle.pdo_run.specs.Run.{listIn}
 use Rattle.channel.specs.declared.Verdict.{Verdict}
 use Rattle.channel.specs.declared.Verdict.the-variants.{Clean, Faulty}
 use Rattle.channel.specs.declared.Checked.{Checked}

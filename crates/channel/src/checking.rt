@@ -6,8 +6,8 @@ ghost use lib.ListN.{take, drop};
 ghost use Rattle.entry.specs.Table.{dict, numberOf};
 ghost use Rattle.entry.specs.Find.{findRow};
 ghost use Rattle.entry.specs.Judge.{wellFormed};
-ghost use Rattle.od.specs.Nodes.{Elements};
-ghost use Rattle.pdo_handler.specs.Channel.{u8At, commIndex};
+ghost use Rattle.nodes.specs.Nodes.{Elements};
+ghost use Rattle.pdo_channel.specs.Channel.{u8At, commIndex};
 ghost use Rattle.pdo_step.specs.Outcomes.{Shape};
 ghost use Rattle.channel.specs.Check.{faultFrom, isFar, onElements, onList, senderFor, hasSender, checkOf};
 use crate::Checked;
@@ -106,11 +106,11 @@ fn has_sender(objects: &[u64], slots: &[u64], words: &[u64], bytes: &[u8], i: u8
     let Found::At(row) = entry::find(objects, index) else {
         return false;
     };
-    let Found::At(v) = pdo_handler::u8_in(objects, slots, words, bytes, row, index, 1) else {
+    let Found::At(v) = pdo_channel::u8_in(objects, slots, words, bytes, row, index, 1) else {
         return false;
     };
     let sender = sender_for(v);
-    let Found::At(j) = pdo_handler::first_match(objects, slots, words, bytes, sender) else {
+    let Found::At(j) = pdo_channel::first_match(objects, slots, words, bytes, sender) else {
         return false;
     };
     j == i as usize
@@ -137,7 +137,7 @@ pub fn check_judged(
 pub fn check(objects: &[u64], slots: &[u64], words: &[u64], bytes: &[u8], channel: u8) -> Checked
     ensures { λ r. ⌜ r ≡ checkOf (dict (now (objects .entry)) (now (slots .entry)) (now (words .entry)) (now (bytes .entry))) channel ⌝ }
 {
-    if !entry::well_formed(objects, slots, words, bytes) {
+    if !judge::well_formed(objects, slots, words, bytes) {
         return Checked::Refused(Refusal::Malformed);
     }
     check_judged(objects, slots, words, bytes, channel)

@@ -57,7 +57,7 @@ pub fn check_all(
 ) -> CheckedAll
     ensures { λ r. ⌜ after r (now (out .exit)) ≡ checkAllOf (dict (now (objects .entry)) (now (slots .entry)) (now (words .entry)) (now (bytes .entry))) (now (out .entry)) ⌝ }
 {
-    if !entry::well_formed(objects, slots, words, bytes) {
+    if !judge::well_formed(objects, slots, words, bytes) {
         return CheckedAll::Refused(Refusal::Malformed);
     }
     if out.len() < 768 {

@@ -115,7 +115,7 @@ pub fn explain(
 ) -> Explained
     ensures { λ r. ⌜ r ≡ explainOf (dict (now (objects .entry)) (now (slots .entry)) (now (words .entry)) (now (bytes .entry))) channel element ⌝ }
 {
-    if !entry::well_formed(objects, slots, words, bytes) {
+    if !judge::well_formed(objects, slots, words, bytes) {
         return Explained::Refused(Refusal::Malformed);
     }
     explain_judged(

@@ -16,11 +16,11 @@ use Rattle.entry.specs.Put.{contents}
 use Rattle.entry.specs.declared.Found.{Found}
 use Rattle.entry.specs.declared.Found.the-variants.{At, Nothing}
 use Rattle.pdo_validator.specs.Counting.{endsFrom}
-use Rattle.pdo_handler.specs.Channel.{u8At, commIndex, firstMatch}
-use Rattle.pdo_handler.specs.Run.{frame, listIn}
+use Rattle.pdo_channel.specs.Channel.{u8At, commIndex, firstMatch}
+use Rattle.pdo_run.specs.Run.{frame, listIn}
 use Rattle.pdo_handler.specs.declared.Consumed.the-variants.{Done}
 use Rattle.pdo_handler.specs.Consume.{consumedBy, after, done, consumeOf}
-use Rattle.pdo_handler.proofs.RunLaws.{finished-none}
+use Rattle.pdo_run.proofs.RunLaws.{finished-none}
 use Rattle.channel.specs.declared.Verdict.{Verdict}
 use Rattle.channel.specs.declared.Verdict.the-variants.{Clean, Faulty}
 use Rattle.channel.specs.declared.Checked.{Checked}

@@ -20,8 +20,8 @@ use Rattle.entry.specs.declared.Found.the-variants.{At, Nothing}
 use Rattle.entry.proofs.ValueLaws.{found-lies}
 use Rattle.pdo_validator.specs.Counting.{endsFrom}
 use Rattle.pdo_validator.proofs.CountLaws.{elements-lie}
-use Rattle.pdo_handler.specs.Channel.{u8At, matchesIn, commIndex, channelFrom, firstMatch, orZero, expectedOf}
-use Rattle.pdo_handler.specs.Run.{Frame, frame, listIn}
+use Rattle.pdo_channel.specs.Channel.{u8At, matchesIn, commIndex, channelFrom, firstMatch, orZero, expectedOf}
+use Rattle.pdo_run.specs.Run.{Frame, frame, listIn}
 use Rattle.channel.specs.declared.Checked.{Checked}
 use Rattle.channel.specs.declared.Checked.the-variants.{Pass}
 use Rattle.channel.specs.Check.{faultFrom, isFar, lastOf, senderFor, checkOf}

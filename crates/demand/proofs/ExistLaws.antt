@@ -15,7 +15,7 @@ use Rattle.entry.specs.Table.{typeAt}
 use Rattle.pdo_validator.specs.Counting.{most, endsFrom}
 use Rattle.pdo_validator.specs.declared.Mapped.the-variants.{Upto}
 use Rattle.pdo_step.specs.Outcomes.{part}
-use Rattle.pdo_handler.specs.Channel.{rightVersion}
+use Rattle.pdo_channel.specs.Channel.{rightVersion}
 use Rattle.demand.specs.Demand.{Long, TextAt, Texts}
 
 -- ---- zeros are text

@@ -17,7 +17,7 @@ use Rattle.entry.specs.Put.{contents}
 use Rattle.entry.specs.declared.Found.the-variants.{At}
 use Rattle.entry.specs.declared.Place.the-variants.{Value}
 use Rattle.entry.proofs.ValueLaws.{Element, element-of}
-use Rattle.pdo_handler.specs.Run.{frame, listIn}
+use Rattle.pdo_run.specs.Run.{frame, listIn}
 use Rattle.pdo_handler.specs.Consume.{consumedBy}
 use Rattle.channel.specs.declared.Verdict.the-variants.{Clean}
 use Rattle.channel.specs.declared.Checked.the-variants.{Pass}

@@ -18,8 +18,8 @@ use Rattle.entry.specs.Put.{Contents}
 use Rattle.entry.specs.declared.Found.{Found}
 use Rattle.entry.specs.declared.Found.the-variants.{At, Nothing}
 use Rattle.pdo_validator.specs.Counting.{endsFrom}
-use Rattle.pdo_handler.specs.Channel.{u8At, commIndex, firstMatch}
-use Rattle.pdo_handler.specs.Run.{frame, listIn}
+use Rattle.pdo_channel.specs.Channel.{u8At, commIndex, firstMatch}
+use Rattle.pdo_run.specs.Run.{frame, listIn}
 use Rattle.channel.specs.declared.Fault.{Fault}
 use Rattle.channel.specs.declared.Verdict.{Verdict}
 use Rattle.channel.specs.declared.Verdict.the-variants.{Clean, Faulty}

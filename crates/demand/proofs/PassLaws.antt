@@ -23,7 +23,7 @@ use Rattle.entry.proofs.PutLaws.{put-text, put-fixed}
 use Rattle.pdo_step.specs.declared.Outcome.the-variants as outcome
 use Rattle.pdo_step.specs.Outcomes.{part}
 use Rattle.pdo_step.specs.Steps.{applied}
-use Rattle.pdo_handler.specs.Run.{Frame, held, decided, eventOf, stopsOf, actOf, ran, runFrom}
+use Rattle.pdo_run.specs.Run.{Frame, held, decided, eventOf, stopsOf, actOf, ran, runFrom}
 use Rattle.pdo_handler.proofs.ConsumeLaws.{Sane, act-sane}
 use Rattle.channel.specs.declared.Fault.the-variants as fault
 use Rattle.channel.specs.declared.Verdict.the-variants.{Clean, Faulty}

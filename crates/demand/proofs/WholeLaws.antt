@@ -24,7 +24,7 @@ use Rattle.entry.specs.declared.Place.the-variants.{NoObject, NoSub, Count, Val
 use Rattle.pdo_validator.specs.Counting.{isMapping}
 use Rattle.pdo_step.specs.declared.Outcome.the-variants as outcome
 use Rattle.pdo_step.specs.Outcomes.{part, within, onCount, onValue, onPlace, onIndex, outcomeOf}
-use Rattle.pdo_handler.specs.Run.{Frame}
+use Rattle.pdo_run.specs.Run.{Frame}
 use Rattle.channel.specs.declared.Verdict.the-variants.{Clean}
 use Rattle.channel.specs.Elements.{lengthFits, wordVerdict}
 use Rattle.demand.specs.Demand.{Whole}

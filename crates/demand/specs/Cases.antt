@@ -10,7 +10,7 @@ use Rattle.entry.specs.Rules.{wordOk, valOk, heldOk, headOk}
 use Rattle.entry.specs.Judge.{slotOk, slotsFrom, rowReserved, rowOk, rowFits, rowsFrom, reserved, headerOk, wellFormed}
 use Rattle.entry.specs.Find.{findFrom, subAt}
 use Rattle.pdo_validator.specs.Counting.{endsFrom}
-use Rattle.pdo_handler.specs.Channel.{channelFrom}
+use Rattle.pdo_channel.specs.Channel.{channelFrom}
 use Rattle.pdo_handler.specs.Cases.{setUp}
 use Rattle.channel.specs.declared.Fault.the-variants.{WrongLength}
 use Rattle.channel.specs.declared.Checked.the-variants.{Pass, Element}

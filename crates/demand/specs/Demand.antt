@@ -20,8 +20,8 @@ use Rattle.entry.specs.declared.Place.{Place}
 use Rattle.entry.specs.declared.Place.the-variants.{NoObject, NoSub, Count, Value}
 use Rattle.pdo_step.specs.declared.Outcome.the-variants.{Stored}
 use Rattle.pdo_step.specs.Outcomes.{part, within}
-use Rattle.pdo_handler.specs.Channel.{firstMatch, expectedOf, rightVersion}
-use Rattle.pdo_handler.specs.Run.{Frame, frame, decided, actOf, ran, listIn}
+use Rattle.pdo_channel.specs.Channel.{firstMatch, expectedOf, rightVersion}
+use Rattle.pdo_run.specs.Run.{Frame, frame, decided, actOf, ran, listIn}
 use Rattle.pdo_handler.specs.Consume.{receivedBy}
 
 -- R12.4: "its length is from the largest end of the list's U64 elements": each of them ends within the payload. The list's first slot is p,

@@ -10,9 +10,9 @@ use Rattle.entry.specs.Put.{contents, filled}
 use Rattle.entry.specs.declared.Found.the-variants.{At}
 use Rattle.insertion.specs.declared.Head.{Head}
 use Rattle.insertion.specs.Insert.{memoryOf}
-use Rattle.od.specs.Counter.{counterOf}
+use Rattle.counter.specs.Counter.{counterOf}
 use Rattle.writing.specs.Writing.{writeOf}
-use Rattle.pdo_handler.specs.Run.{listIn}
+use Rattle.pdo_run.specs.Run.{listIn}
 use Rattle.pdo_handler.specs.Consume.{consumeOf}
 use Rattle.pdo_handler.specs.Errors.{updateOf}
 use Rattle.pdo_cycle.specs.Cycle.{cycleOf}

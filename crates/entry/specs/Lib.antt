@@ -1,6 +1,5 @@
 pub mod Model
 pub mod Table
-pub mod Rows
 pub mod Rules
 pub mod Judge
 pub mod Find

@@ -3,7 +3,6 @@ ghost use mathlib.Core.Path.{_≡_};
 ghost use Prim.Native.Nat.{_≤_, _<_};
 ghost use lib.ListN.{length};
 ghost use Rattle.entry.specs.Table.{numberOf, valuesOf, usedOf, rowPlace, rowEnd, slotPlace, slotEnd, indexAt, kindAt, accessAt, countAt, firstAt, nameAt, nameLenAt, defaultAt, typeAt, startAt, roomAt};
-ghost use Rattle.entry.specs.Judge.{rowReserved, reserved};
 
 // The header: how many objects, values (defaults counted) and bytes there are.
 pub fn number_of(objects: &[u64]) -> u64
@@ -25,20 +24,6 @@ pub fn used_of(objects: &[u64]) -> u64
     ensures { λ r. ⌜ r ≡ usedOf (now (objects .entry)) ⌝ }
 {
     objects[2]
-}
-
-// The rest of the header.
-pub fn reserved(objects: &[u64]) -> bool
-    requires { ⌜ 12 ≤ length (now objects) ⌝ }
-    ensures { λ r. ⌜ r ≡ reserved (now (objects .entry)) ⌝ }
-{
-    (objects[3] == 1)
-        & ((objects[4] == 0)
-            & ((objects[5] == 0)
-                & ((objects[6] == 0)
-                    & ((objects[7] == 0)
-                        & ((objects[8] == 0)
-                            & ((objects[9] == 0) & ((objects[10] == 0) & (objects[11] == 0))))))))
 }
 
 // Where row i begins and ends, and where slot p begins.
@@ -118,18 +103,6 @@ pub fn default_at(objects: &[u64], i: usize) -> u64
     ensures { λ r. ⌜ r ≡ defaultAt (now (objects .entry)) i ⌝ }
 {
     objects[12 * i + 19]
-}
-
-// The four words of a row that are kept for later.
-pub fn row_reserved(objects: &[u64], i: usize) -> bool
-    requires { ⌜ (i < 1024) × (rowEnd i ≤ length (now objects)) ⌝ }
-    ensures { λ r. ⌜ r ≡ rowReserved (now (objects .entry)) i ⌝ }
-{
-    let a = objects[12 * i + 20];
-    let b = objects[12 * i + 21];
-    let c = objects[12 * i + 22];
-    let d = objects[12 * i + 23];
-    (a == 0) & ((b == 0) & ((c == 0) & (d == 0)))
 }
 
 // Slot p.

@@ -1,10 +1,8 @@
-// The lent dictionary: four slices that are judged, looked up and put into.
+// The lent dictionary: four slices that are looked up and put into. The crate `judge` judges them, and `rows` writes their rows.
 mod columns;
 mod encoding;
-mod judge;
 mod lookup;
 mod put;
-mod rows;
 
 pub use columns::access_at;
 pub use columns::count_at;
@@ -24,23 +22,12 @@ pub use columns::type_at;
 pub use columns::used_of;
 pub use columns::values_of;
 pub use encoding::lay_encoding;
-pub use judge::head_ok;
-pub use judge::is_good;
-pub use judge::well_formed;
 pub use lookup::find;
 pub use lookup::locate;
 pub use lookup::lower;
 pub use lookup::sub_at;
 pub use put::put_new;
 pub use put::put_value;
-pub use rows::insert_row;
-pub use rows::lay_header;
-pub use rows::open_slots;
-pub use rows::remove_row;
-pub use rows::remove_slots;
-pub use rows::row_of;
-pub use rows::set_slot;
-pub use rows::set_totals;
 
 // A row, or none.
 pub enum Found {

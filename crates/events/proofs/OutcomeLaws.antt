@@ -23,7 +23,7 @@ use Rattle.pdo_validator.specs.Counting.{isMapping}
 use Rattle.pdo_step.specs.Outcomes.{part, onCount, onValue, onPlace, within, onIndex, onField, outcomeOf}
 use Rattle.pdo_step.specs.declared.Outcome.the-variants as outcome
 use Rattle.pdo_step.proofs.OutcomeLaws.{reach-within}
-use Rattle.pdo_handler.specs.Run.{one, eventOf}
+use Rattle.pdo_run.specs.Run.{one, eventOf}
 use Rattle.events.specs.Record.{recordOf, reported, noted}
 use Rattle.events.proofs.RecordLaws.{target, outcome-noted}
 

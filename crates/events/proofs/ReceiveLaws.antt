@@ -12,7 +12,7 @@ use Rattle.entry.specs.Table.{Dict}
 use Rattle.entry.specs.Judge.{wellFormed}
 use Rattle.entry.specs.Put.{Contents, contents}
 use Rattle.pdo_handler.specs.declared.Consumed.the-variants.{Refused}
-use Rattle.pdo_handler.specs.Run.{Frame, frame, finished}
+use Rattle.pdo_run.specs.Run.{Frame, frame, finished}
 use Rattle.pdo_handler.specs.Consume.{receivedBy, after, done, consumeOf}
 use Rattle.pdo_handler.proofs.EventLaws.{received-few}
 use Rattle.events.specs.Receive.{countOf}

@@ -12,10 +12,10 @@ use Rattle.value.specs.declared.Fault.the-variants as fault
 use Rattle.pdo_step.specs.declared.Outcome.{Outcome}
 use Rattle.pdo_step.specs.declared.Outcome.the-variants as outcome
 use Rattle.pdo_step.specs.Outcomes.{reach}
-use Rattle.pdo_handler.specs.Run.{packed, one, eventOf as outcomeEvent}
+use Rattle.pdo_run.specs.Run.{packed, one, eventOf as outcomeEvent}
 use Rattle.pdo_handler.specs.Consume.{mapVersion}
 use Rattle.pdo_handler.proofs.EventLaws.{map-append}
-use Rattle.pdo_handler.proofs.RunLaws.{one-packed}
+use Rattle.pdo_run.proofs.RunLaws.{one-packed}
 use Rattle.events.specs.declared.Cause.the-variants.{Frame, Value, Text, Odd}
 use Rattle.events.specs.declared.Unwritten.the-variants.{CountNotWritable, TooLong}
 use Rattle.events.specs.declared.Event.{Event}

@@ -8,7 +8,7 @@ use Rattle.value.specs.declared.Fault.{Fault}
 use Rattle.value.specs.declared.Fault.the-variants as fault
 use Rattle.pdo_step.specs.declared.Outcome.{Outcome}
 use Rattle.pdo_step.specs.declared.Outcome.the-variants as outcome
-use Rattle.pdo_handler.specs.Run.{packed}
+use Rattle.pdo_run.specs.Run.{packed}
 use Rattle.events.specs.declared.Cause.{Cause}
 use Rattle.events.specs.declared.Cause.the-variants.{Frame, Value, Text, Odd}
 use Rattle.events.specs.declared.Unwritten.the-variants.{CountNotWritable, TooLong}

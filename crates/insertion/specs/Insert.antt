@@ -10,7 +10,7 @@ use Rattle.answers.specs.declared.Refusal.the-variants.{Malformed, BadValue, Oc
 use Rattle.value.specs.Codec.{isText}
 use Rattle.entry.specs.Model.{Obj, used, size, insertAt}
 use Rattle.entry.specs.Table.{Dict, indexAt, modelOf, laid, numberOf, valuesOf, usedOf, rowEnd, slotPlace}
-use Rattle.entry.specs.Rows.{rowOf}
+use Rattle.rows.specs.Rows.{rowOf}
 use Rattle.entry.specs.Judge.{wellFormed}
 use Rattle.insertion.specs.declared.Head.{Head}
 use Rattle.insertion.specs.declared.Inserted.{Inserted}

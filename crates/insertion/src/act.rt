@@ -8,7 +8,7 @@ ghost use Rattle.lists.specs.Lists.{over, grown, spliced};
 ghost use Rattle.value.specs.Codec.{isText};
 ghost use Rattle.entry.specs.Model.{rooms, wordsOf};
 ghost use Rattle.entry.specs.Table.{numberOf, valuesOf, usedOf, rowPlace, rowEnd, firstPlace, namePlace, slotPlace, startPlace, valuesBefore, bytesBefore, dict, modelOf, Lies};
-ghost use Rattle.entry.specs.Rows.{rowsGrown, startsGrown, totalled};
+ghost use Rattle.rows.specs.Rows.{rowsGrown, startsGrown, totalled};
 ghost use Rattle.insertion.specs.Given.{wordIn, roomOf, given, roomsIn, slotsIn, countIn, objIn};
 ghost use Rattle.insertion.specs.Insert.{rowIn, inserted, Room, Values};
 use crate::Head;
@@ -44,7 +44,7 @@ fn fill_slots(slots: &mut [u64], v: usize, b: usize, vals: &[u64], u: usize)
     let mut start = b;
     while j < u {
         let room = room_in(vals, j);
-        entry::set_slot(slots, v + j, type_in(vals, j), start as u64, room);
+        rows::set_slot(slots, v + j, type_in(vals, j), start as u64, room);
         start += room as usize;
         j += 1;
     }
@@ -108,7 +108,7 @@ fn insert_slots(slots: &mut [u64], v: usize, m: usize, b: usize, vals: &[u64], u
     requires { ⌜ ((j : ℕ) → j < m - v → getD (now slots) (startPlace v + 3 * j) 0 + g < 2 ^ 64) ⌝ }
     ensures { λ _. ⌜ now (slots .exit) ≡ spliced (slotPlace v) (slotPlace m) (slotsIn (now (vals .entry)) u 0 b) (startsGrown v (m - v) g (now (slots .entry))) ⌝ }
 {
-    entry::open_slots(slots, v, m, u, g);
+    rows::open_slots(slots, v, m, u, g);
     fill_slots(slots, v, b, vals, u);
 }
 
@@ -151,7 +151,7 @@ fn insert_object(
 {
     let m = entry::values_of(objects);
     let used = entry::used_of(objects);
-    let row = entry::row_of(
+    let row = rows::row_of(
         head.index as u64,
         head.kind,
         head.access,
@@ -161,8 +161,8 @@ fn insert_object(
         len as u64,
         head.default,
     );
-    entry::insert_row(objects, i, n, &row, u as u64, g as u64);
-    entry::set_totals(objects, (n + 1) as u64, m + u as u64, used + g as u64);
+    rows::insert_row(objects, i, n, &row, u as u64, g as u64);
+    rows::set_totals(objects, (n + 1) as u64, m + u as u64, used + g as u64);
 }
 
 // How many values, and how many bytes, lie before object i.

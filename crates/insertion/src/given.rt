@@ -110,7 +110,7 @@ pub fn size_in(head: Head, name: &[u8], vals: &[u64], encodings: &[u8]) -> Size
     let index = head.index as u64;
     let count = (u - flag) as u64;
     let len = name.len();
-    if !entry::head_ok(
+    if !judge::head_ok(
         index,
         head.kind,
         head.access,
@@ -120,7 +120,7 @@ pub fn size_in(head: Head, name: &[u8], vals: &[u64], encodings: &[u8]) -> Size
     ) {
         return Size::Bad;
     }
-    if !entry::is_good(name, 0, len) {
+    if !judge::is_good(name, 0, len) {
         return Size::Bad;
     }
     vals_in(vals, encodings, u - flag, u, len)

@@ -91,7 +91,7 @@ pub fn insert(
     ensures answer { λ r. ⌜ r ≡ answerOf head (now (name .entry)) (now (vals .entry)) (now (encodings .entry)) (dict (now (objects .entry)) (now (slots .entry)) (now (words .entry)) (now (bytes .entry))) ⌝ }
     ensures memory { λ _. ⌜ dict (now (objects .exit)) (now (slots .exit)) (now (words .exit)) (now (bytes .exit)) ≡ memoryOf head (now (name .entry)) (now (vals .entry)) (now (encodings .entry)) (dict (now (objects .entry)) (now (slots .entry)) (now (words .entry)) (now (bytes .entry))) ⌝ }
 {
-    if !entry::well_formed(objects, slots, words, bytes) {
+    if !judge::well_formed(objects, slots, words, bytes) {
         return Inserted::Refused(Refusal::Malformed);
     }
     let Size::Upto(g) = given::size_in(head, name, vals, encodings) else {

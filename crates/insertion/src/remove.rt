@@ -29,7 +29,7 @@ pub fn remove_at(
     let u = (e - v) as u64;
     let g = (f - b) as u64;
     lists::move_down(words, v, e, m);
-    entry::remove_slots(slots, v, e, m, g);
+    rows::remove_slots(slots, v, e, m, g);
     lists::move_down_bytes(bytes, b, f, used);
-    entry::remove_row(objects, i, n, u, g);
+    rows::remove_row(objects, i, n, u, g);
 }

@@ -13,13 +13,13 @@ use Rattle.od.specs.declared.Stored.{Stored}
 use Rattle.od.specs.declared.Stored.the-variants as stored
 use Rattle.od.specs.declared.Number.{Number}
 use Rattle.od.specs.declared.Number.the-variants as number
-use Rattle.od.specs.declared.ByName.{ByName}
-use Rattle.od.specs.declared.ByName.the-variants as byName
-use Rattle.od.specs.declared.Listed.{Listed}
-use Rattle.od.specs.declared.Listed.the-variants as listed
+use Rattle.names.specs.declared.ByName.{ByName}
+use Rattle.names.specs.declared.ByName.the-variants as byName
+use Rattle.nodes.specs.declared.Listed.{Listed}
+use Rattle.nodes.specs.declared.Listed.the-variants as listed
 use Rattle.od.specs.Read.{readOf, ofType}
-use Rattle.od.specs.Names.{byNameOf}
-use Rattle.od.specs.Nodes.{cnsOf}
+use Rattle.names.specs.Names.{byNameOf}
+use Rattle.nodes.specs.Nodes.{cnsOf}
 use Rattle.loomfinch.specs.C.{Lent, lent, results, Written, wrote}
 
 abbrev pub answerNumber : Answer → ℕ

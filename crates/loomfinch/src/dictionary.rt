@@ -2,15 +2,15 @@
 ghost use mathlib.Core.Path.{_≡_};
 ghost use Rattle.entry.specs.Table.{dict};
 ghost use Rattle.od.specs.New.{newOf};
-ghost use Rattle.od.specs.Counter.{counterOf};
+ghost use Rattle.counter.specs.Counter.{counterOf};
 ghost use Rattle.insertion.specs.Insert.{answerOf, memoryOf};
 ghost use Rattle.loomfinch.specs.C.{lent, wrote};
 ghost use Rattle.loomfinch.specs.Dictionary.{answerNumber, insertedNumber, headOf, readNumbers, told, typedTold, namedTold, nodeNumbers};
 use insertion::Head;
 use insertion::Inserted;
+use names::ByName;
+use nodes::Listed;
 use od::Answer;
-use od::ByName;
-use od::Listed;
 use od::Number;
 use od::Stored;
 
@@ -184,7 +184,7 @@ pub extern "C" fn loomfinch_find_by_name(
 ) -> u64
     ensures { λ r. ⌜ told r (now (index .exit)) ≡ namedTold (dict (now (objects .entry)) (now (slots .entry)) (now (words .entry)) (now (bytes .entry))) (now (name .entry)) (now (index .entry)) ⌝ }
 {
-    match od::find_by_name(objects, slots, words, bytes, name) {
+    match names::find_by_name(objects, slots, words, bytes, name) {
         ByName::At(x) => {
             *index = x as u64;
             0
@@ -204,7 +204,7 @@ pub extern "C" fn loomfinch_get_configured_cns(
 ) -> u64
     ensures { λ r. ⌜ wrote r (now (out .exit)) (now (count .exit)) ≡ nodeNumbers (dict (now (objects .entry)) (now (slots .entry)) (now (words .entry)) (now (bytes .entry))) (now (out .entry)) (now (count .entry)) ⌝ }
 {
-    match od::get_configured_cns(objects, slots, words, bytes, out) {
+    match nodes::get_configured_cns(objects, slots, words, bytes, out) {
         Listed::Numbers(n) => {
             *count = n as u64;
             0
@@ -225,5 +225,5 @@ pub extern "C" fn loomfinch_increment_counter(
     ensures answer { λ r. ⌜ r ≡ answerNumber (counterOf (dict (now (objects .entry)) (now (slots .entry)) (now (words .entry)) (now (bytes .entry))) index «sub_index» .answer) ⌝ }
     ensures memory { λ _. ⌜ now (words .exit) ≡ counterOf (dict (now (objects .entry)) (now (slots .entry)) (now (words .entry)) (now (bytes .entry))) index «sub_index» .words ⌝ }
 {
-    number_of(od::increment_counter(objects, slots, words, bytes, index, sub_index))
+    number_of(counter::increment_counter(objects, slots, words, bytes, index, sub_index))
 }

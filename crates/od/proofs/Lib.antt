@@ -1,4 +1,1 @@
 pub mod ReadLaws
-pub mod CounterLaws
-pub mod NodeLaws
-pub mod NameLaws

@@ -12,6 +12,6 @@ pub fn new(objects: &mut [u64]) -> Answer
     if objects.len() < header {
         return Answer::Refused(Refusal::Full);
     }
-    entry::lay_header(objects);
+    rows::lay_header(objects);
     Answer::Done
 }

@@ -1,15 +1,9 @@
-// The object dictionary's calls. Each judges the lent dictionary first.
-mod counter;
+// An empty dictionary, and values read: each reading call judges the lent dictionary first.
 mod empty;
-mod names;
-mod nodes;
 mod reading;
 
 use answers::Refusal;
-pub use counter::increment_counter;
 pub use empty::new;
-pub use names::find_by_name;
-pub use nodes::get_configured_cns;
 pub use reading::read;
 pub use reading::read_number;
 pub use reading::read_part;
@@ -31,17 +25,5 @@ pub enum Stored {
 
 pub enum Number {
     Is(u64),
-    Refused(Refusal),
-}
-
-// The index of an object.
-pub enum ByName {
-    At(u16),
-    Refused(Refusal),
-}
-
-// How many node numbers were laid into the output.
-pub enum Listed {
-    Numbers(usize),
     Refused(Refusal),
 }

@@ -18,7 +18,7 @@ pub fn read(
 ) -> Stored
     ensures { λ r. ⌜ r ≡ readOf (dict (now (objects .entry)) (now (slots .entry)) (now (words .entry)) (now (bytes .entry))) index sub ⌝ }
 {
-    if !entry::well_formed(objects, slots, words, bytes) {
+    if !judge::well_formed(objects, slots, words, bytes) {
         return Stored::Refused(Refusal::Malformed);
     }
     match entry::locate(objects, index, sub) {

@@ -13,7 +13,7 @@ use Rattle.lists.proofs.NumberLaws.{bytes-take, bytes-drop}
 use Rattle.entry.specs.Table.{dict}
 use Rattle.entry.specs.Judge.{wellFormed}
 use Rattle.entry.specs.Put.{Contents}
-use Rattle.pdo_handler.specs.Run.{frame, Ran, Logged, finished}
+use Rattle.pdo_run.specs.Run.{frame, Ran, Logged, finished}
 use Rattle.pdo_handler.proofs.ConsumeLaws.{Sane, received-sane}
 use Rattle.pdo_handler.proofs.EventLaws.{received-few}
 use Rattle.pdo_cycle.specs.Payloads.{startOf, lengthOf, senderOf, versionOf, readyOf, payloadOf}

@@ -11,7 +11,7 @@ use Rattle.answers.specs.declared.Refusal.the-variants.{BadValue, PayloadTooLon
 use Rattle.entry.specs.Table.{Dict, dict}
 use Rattle.entry.specs.Judge.{wellFormed}
 use Rattle.entry.specs.Put.{Contents, contents, filled}
-use Rattle.pdo_handler.specs.Run.{frame, Ran, finished}
+use Rattle.pdo_run.specs.Run.{frame, Ran, finished}
 use Rattle.pdo_handler.specs.Consume.{receivedBy, consumeOf, done as consumed}
 use Rattle.pdo_handler.proofs.EventLaws.{relabelled, received-numbered}
 use Rattle.pdo_cycle.specs.declared.Cycle.the-variants.{Refused}

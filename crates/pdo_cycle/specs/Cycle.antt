@@ -9,7 +9,7 @@ use Rattle.answers.specs.declared.Refusal.the-variants.{Malformed, BadValue, Pa
 use Rattle.entry.specs.Table.{Dict}
 use Rattle.entry.specs.Judge.{wellFormed}
 use Rattle.entry.specs.Put.{Contents, contents}
-use Rattle.pdo_handler.specs.Run.{frame, Ran}
+use Rattle.pdo_run.specs.Run.{frame, Ran}
 use Rattle.pdo_handler.specs.Consume.{receivedBy}
 use Rattle.pdo_cycle.specs.declared.Cycle.{Cycle}
 use Rattle.pdo_cycle.specs.declared.Cycle.the-variants.{Done, Refused}

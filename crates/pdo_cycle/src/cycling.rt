@@ -6,7 +6,7 @@ ghost use lib.ListN.{length};
 ghost use Rattle.entry.specs.Table.{dict};
 ghost use Rattle.entry.specs.Judge.{wellFormed};
 ghost use Rattle.entry.specs.Put.{contents};
-ghost use Rattle.pdo_handler.specs.Run.{logged, finished};
+ghost use Rattle.pdo_run.specs.Run.{logged, finished};
 ghost use Rattle.pdo_cycle.specs.Payloads.{Lies, payloadsIn, areShaped, arePlaced, areShort};
 ghost use Rattle.pdo_cycle.specs.Cycle.{delivery, receivedAt, cycleFrom, ended, after, done, cycleOf};
 use crate::Cycle;
@@ -89,7 +89,7 @@ pub fn consume_cycle(
 ) -> Cycle
     ensures { λ r. ⌜ after r (contents (now (words .exit)) (now (bytes .exit))) (now (log .exit)) ≡ cycleOf (dict (now (objects .entry)) (now (slots .entry)) (now (words .entry)) (now (bytes .entry))) (now (delivered .entry)) (now (payloads .entry)) (now (log .entry)) ⌝ }
 {
-    if !entry::well_formed(objects, slots, words, bytes) {
+    if !judge::well_formed(objects, slots, words, bytes) {
         return Cycle::Refused(Refusal::Malformed);
     }
     let judged = judge(delivered.len() as u64, payloads);

@@ -17,8 +17,8 @@ use Rattle.pdo_step.specs.Steps.{applied}
 use Rattle.pdo_step.proofs.OutcomeLaws.{step-keeps, step-bytes}
 use Rattle.pdo_step.proofs.MarkLaws.{mark-keeps, mark-bytes}
 use Rattle.pdo_handler.specs.declared.Consumed.the-variants.{Refused}
-use Rattle.pdo_handler.specs.Channel.{firstMatch, expectedOf, rightVersion}
-use Rattle.pdo_handler.specs.Run.{Frame, frame, held, marked, decided, isShort, stopsOf, eventOf, actOf, ran, one, behind, runFrom, listIn, runOn, finished}
+use Rattle.pdo_channel.specs.Channel.{firstMatch, expectedOf, rightVersion}
+use Rattle.pdo_run.specs.Run.{Frame, frame, held, marked, decided, isShort, stopsOf, eventOf, actOf, ran, one, behind, runFrom, listIn, runOn, finished}
 use Rattle.pdo_handler.specs.Consume.{mapVersion, onChannel, consumedBy, receivedBy, after, done, consumeOf}
 
 -- a well-formed dictionary of bytes

@@ -16,10 +16,10 @@ use Rattle.entry.specs.declared.Found.the-variants.{At, Nothing}
 use Rattle.entry.proofs.ValueLaws.{found-lies}
 use Rattle.pdo_step.specs.declared.Outcome.{Outcome}
 use Rattle.pdo_step.specs.declared.Outcome.the-variants as outcome
-use Rattle.pdo_handler.specs.Channel.{firstMatch, expectedOf, rightVersion}
-use Rattle.pdo_handler.specs.Run.{packed, Frame, frame, held, marked, decided, stopsOf, eventOf, actOf, Ran, ran, one, behind, runFrom, listIn, runOn}
+use Rattle.pdo_channel.specs.Channel.{firstMatch, expectedOf, rightVersion}
+use Rattle.pdo_run.specs.Run.{packed, Frame, frame, held, marked, decided, stopsOf, eventOf, actOf, Ran, ran, one, behind, runFrom, listIn, runOn}
 use Rattle.pdo_handler.specs.Consume.{mapVersion, onChannel, consumedBy, receivedBy}
-use Rattle.pdo_handler.proofs.RunLaws.{one-packed}
+use Rattle.pdo_run.proofs.RunLaws.{one-packed}
 
 one-few : (e : ℕ) → length (one e) ≤ 1
 one-few e = go (eqb e 0)

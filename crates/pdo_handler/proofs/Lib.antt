@@ -1,4 +1,2 @@
-pub mod ChannelLaws
-pub mod RunLaws
 pub mod ConsumeLaws
 pub mod EventLaws

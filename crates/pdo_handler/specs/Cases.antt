@@ -14,8 +14,8 @@ use Rattle.entry.specs.Put.{contents, putIn}
 use Rattle.pdo_step.specs.Outcomes.{outcomeOf, onIndex, onCount}
 use Rattle.pdo_step.specs.Steps.{applied}
 use Rattle.pdo_step.specs.Bits.{byteOf, maskOf, bitAt, markedIn}
-use Rattle.pdo_handler.specs.Channel.{rightVersion, channelFrom}
-use Rattle.pdo_handler.specs.Run.{frame, Ran, ran, packed, actOf, runFrom}
+use Rattle.pdo_channel.specs.Channel.{rightVersion, channelFrom}
+use Rattle.pdo_run.specs.Run.{frame, Ran, ran, packed, actOf, runFrom}
 use Rattle.pdo_handler.specs.Consume.{consumedBy}
 
 -- versions expected and received

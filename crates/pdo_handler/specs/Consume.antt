@@ -13,8 +13,8 @@ use Rattle.entry.specs.declared.Found.{Found}
 use Rattle.entry.specs.declared.Found.the-variants.{At, Nothing}
 use Rattle.pdo_handler.specs.declared.Consumed.{Consumed}
 use Rattle.pdo_handler.specs.declared.Consumed.the-variants.{Done, Refused}
-use Rattle.pdo_handler.specs.Channel.{firstMatch, expectedOf, rightVersion}
-use Rattle.pdo_handler.specs.Run.{Frame, frame, held, marked, Ran, ran, packed, runOn, Logged, finished}
+use Rattle.pdo_channel.specs.Channel.{firstMatch, expectedOf, rightVersion}
+use Rattle.pdo_run.specs.Run.{Frame, frame, held, marked, Ran, ran, packed, runOn, Logged, finished}
 
 -- R11.9: element 0
 abbrev pub mapVersion : ℕ → ℕ

@@ -6,17 +6,17 @@ ghost use lib.ListN.{length};
 ghost use Rattle.entry.specs.Table.{dict};
 ghost use Rattle.entry.specs.Judge.{wellFormed};
 ghost use Rattle.entry.specs.Put.{contents};
-ghost use Rattle.pdo_handler.specs.Run.{frame, logged, finished};
+ghost use Rattle.pdo_run.specs.Run.{frame, logged, finished};
 ghost use Rattle.pdo_handler.specs.Consume.{consumedBy, receivedBy, after, consumeOf};
 use crate::Consumed;
-use crate::channel::first_match;
-use crate::channel::right_version;
-use crate::channel::version_of;
-use crate::running::note;
-use crate::running::packed;
-use crate::running::run_list;
 use answers::Refusal;
 use entry::Found;
+use pdo_channel::first_match;
+use pdo_channel::right_version;
+use pdo_channel::version_of;
+use pdo_run::note;
+use pdo_run::packed;
+use pdo_run::run_list;
 
 // A payload that is ready; the number of events in the log, where so many had begun it.
 fn consume_ready(
@@ -108,7 +108,7 @@ pub fn consume_logged(
     requires { ⌜ (254 ≤ room → 254 ≤ length (now log)) ⌝ }
     ensures { λ r. ⌜ after r (contents (now (words .exit)) (now (bytes .exit))) (now (log .exit)) ≡ consumeOf (dict (now (objects .entry)) (now (slots .entry)) (now (words .entry)) (now (bytes .entry))) (now (payload .entry)) sender version ready room (now (log .entry)) ⌝ }
 {
-    if !entry::well_formed(objects, slots, words, bytes) {
+    if !judge::well_formed(objects, slots, words, bytes) {
         return Consumed::Refused(Refusal::Malformed);
     }
     if room < 254 {

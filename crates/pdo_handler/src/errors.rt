@@ -16,7 +16,7 @@ pub fn update_pdo_error_object(
 ) -> Answer
     ensures { λ r. ⌜ after r (now (bytes .exit)) ≡ updateOf (dict (now (objects .entry)) (now (slots .entry)) (now (words .entry)) (now (bytes .entry))) index node ⌝ }
 {
-    if !entry::well_formed(objects, slots, words, bytes) {
+    if !judge::well_formed(objects, slots, words, bytes) {
         return Answer::Refused(Refusal::Malformed);
     }
     pdo_step::set_bit(objects, slots, words, bytes, index, node);

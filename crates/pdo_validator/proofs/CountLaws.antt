@@ -13,7 +13,7 @@ use Rattle.entry.specs.Table.{Dict, numberOf, countAt, firstAt, typeAt}
 use Rattle.entry.specs.Judge.{wellFormed}
 use Rattle.entry.proofs.JudgeLaws.{head-ok, headed}
 use Rattle.entry.proofs.FactLaws.{row-facts}
-use Rattle.od.specs.Nodes.{Elements}
+use Rattle.nodes.specs.Nodes.{Elements}
 use Rattle.pdo_validator.specs.declared.Mapped.{Mapped}
 use Rattle.pdo_validator.specs.declared.Mapped.the-variants.{Upto, Missing}
 use Rattle.pdo_validator.specs.Counting.{most, endsFrom}

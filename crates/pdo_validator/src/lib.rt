@@ -5,7 +5,7 @@ ghost use Prim.Native.Nat.{_<_};
 ghost use Rattle.entry.specs.Table.{dict, numberOf};
 ghost use Rattle.entry.specs.Judge.{wellFormed};
 ghost use Rattle.entry.specs.declared.Found.the-variants.{At};
-ghost use Rattle.od.specs.Nodes.{Elements};
+ghost use Rattle.nodes.specs.Nodes.{Elements};
 ghost use Rattle.pdo_validator.specs.Counting.{sends, isMapping, limitOf, endsFrom, within, countOn, countOf, validOf};
 use answers::Refusal;
 use entry::Found;
@@ -140,7 +140,7 @@ pub fn validate_pdo_mapping(
 ) -> Answer
     ensures { λ r. ⌜ r ≡ validOf (dict (now (objects .entry)) (now (slots .entry)) (now (words .entry)) (now (bytes .entry))) index n ⌝ }
 {
-    if !entry::well_formed(objects, slots, words, bytes) {
+    if !judge::well_formed(objects, slots, words, bytes) {
         return Answer::Refused(Refusal::Malformed);
     }
     judge_count(objects, slots, words, bytes, index, n)

@@ -20,7 +20,7 @@ pub fn restore_power_on_values(
 ) -> Restored
     ensures { λ r. ⌜ after r (dict (now (objects .entry)) (now (slots .exit)) (now (words .exit)) (now (bytes .exit))) ≡ restoreOf (dict (now (objects .entry)) (now (slots .entry)) (now (words .entry)) (now (bytes .entry))) (now (store .entry)) first last ⌝ }
 {
-    if !entry::well_formed(objects, slots, words, bytes) {
+    if !judge::well_formed(objects, slots, words, bytes) {
         return Restored::Refused(Refusal::Malformed);
     }
     let n = records(store);

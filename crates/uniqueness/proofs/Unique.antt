@@ -10,8 +10,8 @@ use denote.Triple.Clauses.{Lasts, atExit}
 use Rattle.value.specs.Codec.{After}
 use Rattle.entry.specs.Table.{Dict}
 use Rattle.od.specs.New.{Made}
-use Rattle.od.specs.Nodes.{Given}
-use Rattle.od.specs.Counter.{Counted}
+use Rattle.nodes.specs.Nodes.{Given}
+use Rattle.counter.specs.Counter.{Counted}
 use Rattle.entry.specs.Put.{Contents}
 use Rattle.events.specs.declared.EventRecord.{EventRecord}
 use Rattle.events.specs.Receive.{Received, received}
@@ -50,12 +50,12 @@ use Rattle.od.proofs.read_u32.Reads as read-u32
 use Rattle.od.proofs.read_u32.Kinds as read-u32-kinds
 use Rattle.od.proofs.read_u64.Reads as read-u64
 use Rattle.od.proofs.read_u64.Kinds as read-u64-kinds
-use Rattle.od.proofs.find_by_name.Reads as find-by-name
-use Rattle.od.proofs.find_by_name.Kinds as find-by-name-kinds
-use Rattle.od.proofs.get_configured_cns.Reads as get-configured-cns
-use Rattle.od.proofs.get_configured_cns.Kinds as get-configured-cns-kinds
-use Rattle.od.proofs.increment_counter.Reads as increment-counter
-use Rattle.od.proofs.increment_counter.Kinds as increment-counter-kinds
+use Rattle.names.proofs.find_by_name.Reads as find-by-name
+use Rattle.names.proofs.find_by_name.Kinds as find-by-name-kinds
+use Rattle.nodes.proofs.get_configured_cns.Reads as get-configured-cns
+use Rattle.nodes.proofs.get_configured_cns.Kinds as get-configured-cns-kinds
+use Rattle.counter.proofs.increment_counter.Reads as increment-counter
+use Rattle.counter.proofs.increment_counter.Kinds as increment-counter-kinds
 use Rattle.pdo_validator.proofs.validate_pdo_mapping.Reads as validate-pdo-mapping
 use Rattle.pdo_validator.proofs.validate_pdo_mapping.Kinds as validate-pdo-mapping-kinds
 use Rattle.channel.specs.All.{After as Checking}

@@ -30,7 +30,7 @@ pub fn write(
 ) -> Wrote
     ensures { λ r. ⌜ after r (now (words .exit)) (now (bytes .exit)) (now (store .exit)) ≡ writeOf (dict (now (objects .entry)) (now (slots .entry)) (now (words .entry)) (now (bytes .entry))) (now (store .entry)) index sub t (now («data» .entry)) ⌝ }
 {
-    if !entry::well_formed(objects, slots, words, bytes) {
+    if !judge::well_formed(objects, slots, words, bytes) {
         return Wrote::Refused(Refusal::Malformed);
     }
     let size = store.len();

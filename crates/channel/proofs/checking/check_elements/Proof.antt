@@ -5,10 +5,10 @@ use denote.Ref.{now}
 use lib.ListN.{take, drop}
 use Rattle.entry.specs.Table.{Dict, dict, firstAt, countAt}
 use Rattle.entry.proofs.ValueLaws.{row-lies}
-use Rattle.od.specs.Nodes.{Elements}
+use Rattle.nodes.specs.Nodes.{Elements}
 use Rattle.pdo_validator.specs.Counting.{endsFrom}
 use Rattle.pdo_validator.proofs.CountLaws.{elements-lie}
-use Rattle.pdo_handler.specs.Run.{listIn}
+use Rattle.pdo_run.specs.Run.{listIn}
 use Rattle.pdo_step.proofs.OutcomeLaws.{shape-of}
 use Rattle.channel.specs.declared.Checked.the-variants.{Pass, TooFar}
 use Rattle.channel.specs.Check.{faultFrom, isFar, onElements}

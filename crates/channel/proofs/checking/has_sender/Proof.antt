@@ -4,7 +4,7 @@ use denote.Ref.{now}
 use Rattle.entry.specs.Table.{Dict, dict}
 use Rattle.entry.specs.Find.{onRow}
 use Rattle.entry.proofs.ValueLaws.{rows-of}
-use Rattle.pdo_handler.specs.Channel.{u8In, u8At, commIndex, firstMatch}
+use Rattle.pdo_channel.specs.Channel.{u8In, u8At, commIndex, firstMatch}
 use Rattle.channel.specs.Check.{isAt, hasSender}
 use Rattle.channel.proofs.CheckLaws.{u8-small}
 use borrow.Author.Needs.{needs}

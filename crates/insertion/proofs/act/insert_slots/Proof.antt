@@ -6,7 +6,7 @@ use borrow.Author.Needs.{needs}
 use lib.ListN.{length}
 use Rattle.lists.proofs.SpliceLaws.{fill-gap, length-grown}
 use Rattle.entry.specs.Table.{slotPlace, startPlace}
-use Rattle.entry.specs.Rows.{startsGrown}
+use Rattle.rows.specs.Rows.{startsGrown}
 use Rattle.insertion.specs.Given.{slotsIn}
 use Rattle.insertion.proofs.GivenLaws.{length-slotsIn}
 use Rattle.insertion.proofs.act.insert_slots.Statement.{statement}

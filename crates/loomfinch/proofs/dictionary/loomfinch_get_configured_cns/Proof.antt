@@ -1,7 +1,7 @@
 -- `loomfinch::dictionary::loomfinch_get_configured_cns` meets its contract: each arm is a case of `listedNumbers`. Assumes nothing.
 use mathlib.Core.Path.{ap, _∙_, sym}
 use denote.Ref.{now}
-use Rattle.od.specs.Nodes.{Given}
+use Rattle.nodes.specs.Nodes.{Given}
 use Rattle.loomfinch.specs.C.{wrote}
 use Rattle.loomfinch.specs.Dictionary.{listedNumbers, nodeNumbers}
 use borrow.Author.Needs.{needs}

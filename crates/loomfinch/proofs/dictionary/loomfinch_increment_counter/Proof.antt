@@ -1,7 +1,7 @@
 -- `loomfinch::dictionary::loomfinch_increment_counter` meets its contract. Assumes nothing.
 use mathlib.Core.Path.{ap, _∙_}
 use Rattle.loomfinch.specs.Dictionary.{answerNumber}
-use Rattle.od.specs.Counter.{Counted}
+use Rattle.counter.specs.Counter.{Counted}
 use borrow.Author.Needs.{needs}
 use Rattle.loomfinch.proofs.dictionary.loomfinch_increment_counter.Statement.{statement}
 use Rattle.loomfinch.proofs.dictionary.loomfinch_increment_counter.Tie as tie

@@ -8,7 +8,7 @@ use Rattle.lists.specs.Numbers.{Bytes}
 use Rattle.entry.specs.Table.{dict}
 use Rattle.entry.specs.Judge.{wellFormed}
 use Rattle.entry.specs.Put.{Contents, contents}
-use Rattle.pdo_handler.specs.Run.{Logged}
+use Rattle.pdo_run.specs.Run.{Logged}
 use Rattle.pdo_cycle.specs.Payloads.{payloadsIn}
 use Rattle.pdo_cycle.specs.Cycle.{Delivery, delivery, receivedAt, cycleFrom, ended, done}
 use Rattle.pdo_cycle.proofs.PayloadLaws.{lies}

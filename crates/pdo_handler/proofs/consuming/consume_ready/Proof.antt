@@ -9,11 +9,11 @@ use Rattle.entry.specs.Find.{findRow}
 use Rattle.entry.specs.Put.{Contents, contents}
 use Rattle.entry.specs.declared.Found.{Found}
 use Rattle.entry.specs.declared.Found.the-variants.{At}
-use Rattle.pdo_handler.specs.Channel.{rightVersion}
-use Rattle.pdo_handler.specs.Run.{Frame, frame, marked, ran, runOn, logged, finished, notedLog, notedCount}
+use Rattle.pdo_channel.specs.Channel.{rightVersion}
+use Rattle.pdo_run.specs.Run.{Frame, frame, marked, ran, runOn, logged, finished, notedLog, notedCount}
 use Rattle.pdo_handler.specs.Consume.{mapVersion, onChannel, consumedBy}
-use Rattle.pdo_handler.proofs.ChannelLaws.{channel-below}
-use Rattle.pdo_handler.proofs.RunLaws.{finished-none, finished-one, one-packed}
+use Rattle.pdo_channel.proofs.ChannelLaws.{channel-below}
+use Rattle.pdo_run.proofs.RunLaws.{finished-none, finished-one, one-packed}
 use native.Mathlib.Omega.{arith}
 use borrow.Author.Needs.{needs}
 use Rattle.pdo_handler.proofs.consuming.consume_ready.Statement.{statement}

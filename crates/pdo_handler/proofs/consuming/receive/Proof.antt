@@ -4,9 +4,9 @@ use mathlib.Core.Bool.{Bool}
 use denote.Ref.{now}
 use borrow.Author.Tests.{not-true, not-false}
 use Rattle.entry.specs.Put.{contents}
-use Rattle.pdo_handler.specs.Run.{frame, finished}
+use Rattle.pdo_run.specs.Run.{frame, finished}
 use Rattle.pdo_handler.specs.Consume.{receivedBy}
-use Rattle.pdo_handler.proofs.RunLaws.{finished-none}
+use Rattle.pdo_run.proofs.RunLaws.{finished-none}
 use borrow.Author.Needs.{needs}
 use Rattle.pdo_handler.proofs.consuming.receive.Statement.{statement}
 use Rattle.pdo_handler.proofs.consuming.receive.Tie as tie

@@ -10,7 +10,7 @@ use Rattle.entry.specs.declared.Found.the-variants.{At}
 use Rattle.entry.specs.declared.Place.{Place}
 use Rattle.entry.proofs.ValueLaws.{rows-of}
 use Rattle.entry.proofs.ValueLaws.{RowLies, found-lies}
-use Rattle.od.proofs.CounterLaws.{value-lies}
+use Rattle.od.proofs.ReadLaws.{value-lies}
 use Rattle.writing.specs.declared.Judged.the-variants.{Kept, Refused}
 use Rattle.writing.specs.Judging.{inPlace, inObject}
 use borrow.Author.Needs.{needs}

@@ -1,0 +1,69 @@
+-- `pdo_run::gather` meets its contract: the words so far are those from the first on. Assumes nothing.
+use mathlib.Core.Path.{_≡_, refl}
+use Prim.Native.Nat.{_-_, _≤_}
+use denote.Ref.{now}
+use lib.ListN.{length, take, drop, length-set}
+use Rattle.pdo_run.proofs.RunLaws.{gathered-more}
+use native.Mathlib.Omega.{arith}
+use borrow.Author.Needs.{needs}
+use Rattle.pdo_run.proofs.gather.Statement.{statement}
+use Rattle.pdo_run.proofs.gather.Tie as tie
+
+abbrev Inv-loop : tie.InvT-loop
+Inv-loop words first n list₀ j₀ list j = (length list ≡ 254) × (j ≤ n) × (take j list ≡ take j (drop first words))
+
+abbrev μ-loop : tie.MeasureT-loop
+μ-loop words first n list₀ j₀ list j = n - j
+
+loop-holds : tie.Need-loop-holds Inv-loop μ-loop
+loop-holds c = (refl, omega arith, refl)
+
+add-list : tie.Need-add-list Inv-loop μ-loop
+add-list c = search needs
+
+mul-list : tie.Need-mul-list Inv-loop μ-loop
+mul-list c = search needs
+
+shared-slice-read-list : tie.Need-shared-slice-read-list Inv-loop μ-loop
+shared-slice-read-list c = search needs
+
+mul-list-2 : tie.Need-mul-list-2 Inv-loop μ-loop
+mul-list-2 c = search needs
+
+array-write-list : tie.Need-array-write-list Inv-loop μ-loop
+array-write-list c = search needs
+
+add-j : tie.Need-add-j Inv-loop μ-loop
+add-j c = search needs
+
+loop-less : tie.Need-loop-less Inv-loop μ-loop
+loop-less c = search needs
+
+loop-again : tie.Need-loop-again Inv-loop μ-loop
+loop-again c =
+    let k = c .before .before in
+    let a = k .before .args in
+    (simp length-set (k .loop .inv .0), omega arith, gathered-more (k .loop .list) (now (a .words)) (a .first) (k .loop .j) _ (omega arith) (omega arith) refl (k .loop .inv .2))
+
+returns : tie.Need-returns Inv-loop μ-loop
+returns c =
+    let k = c .before in
+    let e : k .loop .j ≡ k .before .args .n = omega arith in
+    (k .loop .inv .0, rw e at (k .loop .inv .2))
+
+pub gather-spec : {M : Type 1} → statement M
+gather-spec =
+    tie.close
+    (tie.spec
+    Inv-loop
+    μ-loop
+    loop-holds
+    add-list
+    mul-list
+    shared-slice-read-list
+    mul-list-2
+    array-write-list
+    add-j
+    loop-less
+    loop-again
+    returns)

@@ -1,0 +1,90 @@
+-- `pdo_run::run_row` meets its contract: the gathered words are those of the list. Assumes nothing.
+use mathlib.Core.Path.{_≡_, sym, ap, ap₂, _∙_}
+use Prim.Native.Nat.{_+_, _≤_}
+use denote.Ref.{now}
+use lib.ListN.{length, take, drop}
+use lib.Seq.{length-take-le}
+use Rattle.entry.specs.Table.{Dict, dict, valuesOf}
+use Rattle.entry.specs.Put.{contents}
+use Rattle.entry.proofs.JudgeLaws.{headed}
+use Rattle.entry.proofs.FactLaws.{row-facts}
+use Rattle.entry.proofs.ValueLaws.{row-lies}
+use Rattle.pdo_run.specs.Run.{frame, runFrom, finished}
+use native.Mathlib.Omega.{arith}
+use borrow.Author.Needs.{needs}
+use Rattle.pdo_run.proofs.run_row.Statement.{statement}
+use Rattle.pdo_run.proofs.run_row.Tie as tie
+
+abbrev D : tie.Start → Dict
+D s = dict (now (s .args .objects)) (now (s .args .slots)) (now (s .args .words)) (now (s .args .bytes))
+
+abbrev start : tie.After-count-at → tie.Start
+start c = c .before .before .before .before .before .before .before .before
+
+few : (c : tie.After-count-at) → c .count-at .result ≤ 254
+few c = let s = start c in omega (arith, c .count-at .ensures, row-lies (D s) (s .pre .0) (s .args .r) (s .pre .1 .0) .few)
+
+inside : (c : tie.After-count-at) → c .before .first-at .result + c .count-at .result ≤ valuesOf (now (start c .args .objects))
+inside c =
+    let s = start c in
+    omega (arith, c .before .first-at .ensures, c .count-at .ensures, row-facts (D s) (s .pre .0) (s .args .r) (s .pre .1 .0) .values)
+
+as-long : (g : tie.After-gather) → length (take (g .before .before .count-at .result) (g .gather .result)) ≡ g .before .before .count-at .result
+as-long g = length-take-le _ _ (omega (arith, g .gather .ensures .0, few (g .before .before)))
+
+first-at-requires : tie.Need-first-at-requires
+first-at-requires c κs = let s = c .before .before .before .before .before .before in let r = row-lies (D s) (s .pre .0) (s .args .r) (s .pre .1 .0) in (r .small, r .inside)
+
+count-at-requires : tie.Need-count-at-requires
+count-at-requires c κs = let s = c .before .before .before .before .before .before .before in let r = row-lies (D s) (s .pre .0) (s .args .r) (s .pre .1 .0) in (r .small, r .inside)
+
+gather-requires : tie.Need-gather-requires
+gather-requires c κs = let n = c .before in let s = start n in (few n, omega (arith, inside n, headed (D s) (s .pre .0) .words))
+
+array-share-prefix-list : tie.Need-array-share-prefix-list
+array-share-prefix-list c = let g = c .before .before in omega (arith, few (g .before .before), g .gather .ensures .0)
+
+slice-aggregate-run : tie.Need-slice-aggregate-run
+slice-aggregate-run c = sym (as-long (c .before .before .before))
+
+run-requires : tie.Need-run-requires
+run-requires c κs =
+    let g = c .before .before .before .before in
+    let n = g .before .before in
+    let s = start n in
+    (s .pre .0, (omega (arith, inside n, as-long g), omega (arith, few n, as-long g), s .pre .1 .1, s .pre .1 .2, omega (arith, few n, as-long g, s .pre .1 .3)))
+
+same-length : tie.Need-same-length
+same-length c = search needs
+
+same-length-2 : tie.Need-same-length-2
+same-length-2 c = search needs
+
+same-length-3 : tie.Need-same-length-3
+same-length-3 c = search needs
+
+returns : tie.Need-returns
+returns c =
+    let u = c .before .before .before .before .before .before in
+    let g = u .before .before .before .before .before in
+    let n = g .before .before in
+    let a = start n .args in
+    let f = frame (now (a .objects)) (now (a .slots)) (now (a .payload)) (a .sender) (a .number) in
+    let k = contents (now (a .words)) (now (a .bytes)) in
+    u .run .ensures ∙ ap (λ l. finished (runFrom f (n .before .first-at .result) l 0 k) (now (a .log)) (a .begun)) (g .gather .ensures .1)
+    ∙ ap₂ (λ p m. finished (runFrom f p (take m (drop p (now (a .words)))) 0 k) (now (a .log)) (a .begun)) (n .before .first-at .ensures) (n .count-at .ensures)
+
+pub run-row-spec : {M : Type 1} → statement M
+run-row-spec =
+    tie.close
+    (tie.spec
+    first-at-requires
+    count-at-requires
+    gather-requires
+    array-share-prefix-list
+    slice-aggregate-run
+    run-requires
+    same-length
+    same-length-2
+    same-length-3
+    returns)
