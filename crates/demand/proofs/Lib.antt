@@ -5,4 +5,7 @@ pub mod DemandLaws
 pub mod ExistLaws
 pub mod ExactLaws
 pub mod NamedLaws
+pub mod ExplainLaws
 pub mod LastLaws
+pub mod CallLaws
+pub mod HoldLaws
