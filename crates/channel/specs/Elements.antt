@@ -31,7 +31,7 @@ ontoTarget n (target.Value t most) = cond (fitsIn t most n) Clean (Faulty fault.
 -- NotMapping: "the element is not U64"; Misaligned: R4.3; HandOff: "the target's index is 1200h..12FFh". A refusal explains no element.
 abbrev pub saidOf : Explained → Verdict
 saidOf (explained.Other t) = Faulty fault.NotMapping
-saidOf (explained.Misaligned x sub offset len) = Faulty fault.Misaligned
+saidOf (explained.Misaligned x sub offset len t) = Faulty fault.Misaligned
 saidOf (explained.Field x sub start n t) = cond (within 0x1200 0x12FF x) (Faulty fault.HandOff) (ontoTarget n t)
 saidOf (explained.Refused r) = Clean
 

@@ -35,8 +35,10 @@ targetOf slots (place.Value p) = target.Value (typeAt slots p) (holds (typeAt sl
 
 -- "offset and length in bytes, or in bits where one of them is not whole bytes"
 abbrev pub ofField : List ℕ → List ℕ → PdoMappingEntry → Field → Explained
-ofField objects slots e field.Misaligned = explained.Misaligned (e .index) (e .«sub_index») (e .«offset_bits») (e .«length_bits»)
-ofField objects slots e (field.Whole start n) = explained.Field (e .index) (e .«sub_index») start n (targetOf slots (placeOf objects (e .index) (e .«sub_index»)))
+ofField objects slots e field.Misaligned =
+    explained.Misaligned (e .index) (e .«sub_index») (e .«offset_bits») (e .«length_bits») (targetOf slots (placeOf objects (e .index) (e .«sub_index»)))
+ofField objects slots e (field.Whole start n) =
+    explained.Field (e .index) (e .«sub_index») start n (targetOf slots (placeOf objects (e .index) (e .«sub_index»)))
 
 abbrev pub ofWord : List ℕ → List ℕ → ℕ → Explained
 ofWord objects slots w = ofField objects slots (entryOf w) (fieldOf (entryOf w))

@@ -9,7 +9,7 @@ use crate::Verdict;
 use crate::explaining::of_word;
 
 // Is a field of n bytes a value of the type that takes, or has room for, so many?
-fn fits_in(t: u64, most: u64, n: usize) -> bool
+fn fits_in(t: u64, most: u64, n: u16) -> bool
     ensures { λ r. ⌜ r ≡ fitsIn t most n ⌝ }
 {
     if value::is_text(t) {
@@ -18,7 +18,7 @@ fn fits_in(t: u64, most: u64, n: usize) -> bool
     n as u64 == most
 }
 
-fn onto_target(n: usize, target: Target) -> Verdict
+fn onto_target(n: u16, target: Target) -> Verdict
     ensures { λ r. ⌜ r ≡ ontoTarget n target ⌝ }
 {
     match target {
@@ -46,6 +46,7 @@ pub fn said(e: Explained) -> Verdict
             sub_index: _,
             offset_bits: _,
             length_bits: _,
+            target: _,
         } => Verdict::Faulty(Fault::Misaligned),
         Explained::Field {
             index,

@@ -60,20 +60,22 @@ pub fn of_word(objects: &[u64], slots: &[u64], word: u64) -> Explained
     let sub_index = e.sub_index;
     let offset_bits = e.offset_bits;
     let length_bits = e.length_bits;
+    let target = target_at(objects, slots, index, sub_index);
     let Field::Whole { start, length } = e.field() else {
         return Explained::Misaligned {
             index,
             sub_index,
             offset_bits,
             length_bits,
+            target,
         };
     };
     Explained::Field {
         index,
         sub_index,
-        start,
-        length,
-        target: target_at(objects, slots, index, sub_index),
+        start: start as u16,
+        length: length as u16,
+        target,
     }
 }
 

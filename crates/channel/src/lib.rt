@@ -10,6 +10,7 @@ pub use checking::check;
 pub use elements::said;
 pub use every::check_all;
 pub use explaining::explain;
+pub use numbers::explained_numbers;
 pub use numbers::named;
 pub use numbers::number;
 
@@ -62,13 +63,14 @@ pub enum Explained {
         sub_index: u8,
         offset_bits: u16,
         length_bits: u16,
+        target: Target,
     },
     // In bytes.
     Field {
         index: u16,
         sub_index: u8,
-        start: usize,
-        length: usize,
+        start: u16,
+        length: u16,
         target: Target,
     },
     Refused(Refusal),
