@@ -1,6 +1,7 @@
 //! What is inserted: objects with their names, access and rooms.
 
 use crate::value::ObjectValue;
+use std::iter::repeat;
 
 /// An object's values.
 #[derive(Debug, Clone, PartialEq)]
@@ -81,6 +82,7 @@ pub struct ObjectEntry<'n> {
     /// What a restore puts where nothing was saved.
     pub default_value: Option<ObjectValue>,
     /// How many bytes each value, in order, has room for, for good. A value behind the last has just the room that it takes.
+    /// More rooms than values are refused.
     pub rooms: Vec<usize>,
 }
 
@@ -88,5 +90,50 @@ impl ObjectEntry<'_> {
     /// An object without a name, access and default, each value with just the room that it takes.
     pub fn new(object: Object) -> Self {
         ObjectEntry { object, name: "", access: None, default_value: None, rooms: Vec::new() }
+    }
+}
+
+/// An object as the library takes it.
+pub(crate) struct Description {
+    pub kind: u64,
+    pub access: u64,
+    pub has_default: u64,
+    /// Of each value, the default last: its type, its room and the length of its encoding.
+    pub values: Vec<u64>,
+    /// The encodings back to back.
+    pub encodings: Vec<u8>,
+}
+
+impl Description {
+    pub fn of(entry: &ObjectEntry<'_>) -> Self {
+        let mut description = Description {
+            kind: entry.object.kind(),
+            access: AccessType::number(entry.access),
+            has_default: entry.default_value.is_some().into(),
+            values: Vec::new(),
+            encodings: Vec::new(),
+        };
+        let values = entry.object.values();
+        let rooms = entry.rooms.iter().map(|&room| Some(room)).chain(repeat(None));
+        for (value, room) in values.iter().zip(rooms) {
+            description.add(value, room);
+        }
+        if let Some(value) = &entry.default_value {
+            description.add(value, None);
+        }
+        if entry.rooms.len() > values.len() {
+            // A number that belongs to no value: the library refuses the description.
+            description.values.push(0);
+        }
+        description
+    }
+
+    /// Adds a value with a room, or with just the room that it takes.
+    fn add(&mut self, value: &ObjectValue, room: Option<usize>) {
+        let encoding = value.serialize();
+        let room = room.unwrap_or_else(|| value.part().len());
+        let numbers = [value.value_type().number().into(), room as u64, encoding.len() as u64];
+        self.values.extend(numbers);
+        self.encodings.extend(encoding);
     }
 }

@@ -64,19 +64,53 @@ pub struct EventRecord {
     pub event: Event,
 }
 
+impl EventRecord {
+    /// Takes an event's number apart, as docs/RULES.md puts it together.
+    fn from_number(number: u64) -> Self {
+        let bits = |first: u32, count: u32| (number >> first & ((1 << count) - 1)) as u16;
+        let (index, start, len) = (bits(12, 16), bits(28, 13), bits(41, 13));
+        let event = match bits(0, 4) {
+            1 => Event::MapVersion,
+            2 => Event::PayloadShort(Cause::Frame),
+            3 => Event::PayloadShort(Cause::Value),
+            4 => Event::PayloadShort(Cause::Text),
+            5 => Event::PayloadShort(Cause::Odd),
+            6 => Event::Server { index, start, len },
+            7 => Event::Client { index, start, len },
+            8 => Event::WriteRefused(Unwritten::CountNotWritable),
+            9 => Event::WriteRefused(Unwritten::TooLong),
+            _ => panic!("loomfinch: the library has no event {number}"),
+        };
+        let element = bits(4, 8) as u8;
+        EventRecord { payload: bits(54, 10), element: (element > 0).then_some(element), event }
+    }
+}
+
 /// The events of a payload or of a cycle, in order.
 #[derive(Debug, Clone)]
 pub struct Events {
     numbers: std::vec::IntoIter<u64>,
 }
 
+impl Events {
+    pub(crate) fn of(numbers: Vec<u64>) -> Self {
+        Events { numbers: numbers.into_iter() }
+    }
+}
+
 impl Iterator for Events {
     type Item = EventRecord;
 
     fn next(&mut self) -> Option<EventRecord> {
-        todo!()
+        self.numbers.next().map(EventRecord::from_number)
+    }
+
+    fn size_hint(&self) -> (usize, Option<usize>) {
+        self.numbers.size_hint()
     }
 }
+
+impl ExactSizeIterator for Events {}
 
 /// A payload of a cycle, which lies somewhere in the bytes that the cycle delivered.
 #[derive(Debug, Clone, Copy, PartialEq, Eq, Hash)]
@@ -91,4 +125,13 @@ pub struct Payload {
     pub received_version: PDOVersion,
     /// Whether its data is valid, as the frame's RD flag says.
     pub is_ready: bool,
+}
+
+impl Payload {
+    /// The five numbers that the library takes for a payload.
+    pub(crate) fn numbers(&self) -> [u64; 5] {
+        let (start, len) = (self.start as u64, self.len as u64);
+        let (sender, version) = (self.source_node_id.0, self.received_version.0);
+        [start, len, sender.into(), version.into(), self.is_ready.into()]
+    }
 }

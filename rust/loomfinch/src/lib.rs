@@ -3,24 +3,31 @@
 #![deny(unsafe_code)]
 #![deny(missing_docs)]
 
+mod answer;
 mod check;
 mod codec;
 mod dictionary;
 mod entry;
 mod event;
-mod explain;
 mod mapping;
 mod parts;
 mod refusal;
 mod types;
 mod value;
 
+#[cfg(not(target_arch = "x86_64"))]
+mod emulated;
+#[cfg(target_arch = "x86_64")]
+mod sys;
+
+#[cfg(not(target_arch = "x86_64"))]
+use emulated as sys;
+
 pub use check::{Checked, Fault};
 pub use codec::{decode, encode};
 pub use dictionary::{Dictionary, Written};
 pub use entry::{AccessType, Object, ObjectEntry};
 pub use event::{Cause, Event, EventRecord, Events, Payload, Unwritten};
-pub use explain::{Explanation, Target};
 pub use mapping::PdoMappingEntry;
 pub use parts::{Capacity, Parts};
 pub use refusal::Refusal;

@@ -28,3 +28,28 @@ pub struct Parts {
     /// Names, rooms and defaults.
     pub bytes: Vec<u8>,
 }
+
+/// How many words the header and each row of an object take.
+const ROW: usize = 12;
+
+/// How many words a value's slot takes.
+const SLOT: usize = 3;
+
+impl Parts {
+    /// Memory for so much, without a header.
+    pub(crate) fn new(capacity: Capacity) -> Self {
+        let values = capacity.values.min(Capacity::MOST.values);
+        Parts {
+            objects: vec![0; ROW * (1 + capacity.objects.min(Capacity::MOST.objects))],
+            slots: vec![0; SLOT * values],
+            words: vec![0; values],
+            bytes: vec![0; capacity.bytes.min(Capacity::MOST.bytes)],
+        }
+    }
+
+    /// How much is used, as the header says.
+    pub(crate) fn used(&self) -> Capacity {
+        let number = |place: usize| self.objects.get(place).map_or(0, |&number| number as usize);
+        Capacity { objects: number(0), values: number(1), bytes: number(2) }
+    }
+}

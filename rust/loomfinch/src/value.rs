@@ -1,6 +1,7 @@
 //! Values and their types.
 
 use crate::types::{IpAddress, MacAddress, NetTime, RelativeTime, TimeDifference, TimeOfDay};
+use std::borrow::Cow;
 use std::fmt;
 
 /// A value, with the names and payloads that powerlink-rs gives it.
@@ -178,4 +179,91 @@ impl ObjectValue {
             ObjectValue::IpAddress(_) => ValueType::IpAddress,
         }
     }
+
+    /// The value's word, as the library has it: the little-endian number of a fixed type's bytes, or a string's length.
+    pub(crate) fn word(&self) -> u64 {
+        match *self {
+            ObjectValue::Boolean(value) | ObjectValue::Unsigned8(value) => value.into(),
+            ObjectValue::Integer8(value) => (value as u8).into(),
+            ObjectValue::Integer16(value) => (value as u16).into(),
+            ObjectValue::Integer32(value) => (value as u32).into(),
+            ObjectValue::Integer64(value) => value as u64,
+            ObjectValue::Unsigned16(value) => value.into(),
+            ObjectValue::Unsigned32(value) => value.into(),
+            ObjectValue::Unsigned64(value) => value,
+            ObjectValue::Real32(value) => value.to_bits().into(),
+            ObjectValue::Real64(value) => value.to_bits(),
+            ObjectValue::TimeOfDay(TimeOfDay { ms, days }) => pair(ms, days.into()),
+            ObjectValue::TimeDifference(TimeDifference { ms, days }) => pair(ms, days.into()),
+            ObjectValue::NetTime(NetTime { seconds, nanoseconds }) => pair(seconds, nanoseconds),
+            ObjectValue::RelativeTime(RelativeTime(micros)) => micros,
+            ObjectValue::MacAddress(MacAddress([a, b, c, d, e, f])) => {
+                u64::from_le_bytes([a, b, c, d, e, f, 0, 0])
+            }
+            ObjectValue::IpAddress(address) => u32::from_le_bytes(address).into(),
+            ObjectValue::VisibleString(_)
+            | ObjectValue::OctetString(_)
+            | ObjectValue::UnicodeString(_)
+            | ObjectValue::Domain(_) => self.part().len() as u64,
+        }
+    }
+
+    /// The text or the bytes of a string, empty for a fixed type.
+    pub(crate) fn part(&self) -> Cow<'_, [u8]> {
+        match self {
+            ObjectValue::VisibleString(text) => text.as_bytes().into(),
+            ObjectValue::OctetString(bytes) | ObjectValue::Domain(bytes) => bytes.into(),
+            ObjectValue::UnicodeString(units) => {
+                units.iter().flat_map(|unit| unit.to_le_bytes()).collect()
+            }
+            _ => Cow::default(),
+        }
+    }
+
+    /// The value of a word, and of the part that is a string's text or bytes, as a call of the library gave them.
+    pub(crate) fn from_word(value_type: ValueType, word: u64, part: &[u8]) -> Self {
+        let [a, b, c, d, e, f, ..] = word.to_le_bytes();
+        let (low, high) = (word as u32, (word >> 32) as u32);
+        match value_type {
+            ValueType::Boolean => ObjectValue::Boolean(a),
+            ValueType::Integer8 => ObjectValue::Integer8(a as i8),
+            ValueType::Integer16 => ObjectValue::Integer16(word as i16),
+            ValueType::Integer32 => ObjectValue::Integer32(word as i32),
+            ValueType::Integer64 => ObjectValue::Integer64(word as i64),
+            ValueType::Unsigned8 => ObjectValue::Unsigned8(a),
+            ValueType::Unsigned16 => ObjectValue::Unsigned16(word as u16),
+            ValueType::Unsigned32 => ObjectValue::Unsigned32(low),
+            ValueType::Unsigned64 => ObjectValue::Unsigned64(word),
+            ValueType::Real32 => ObjectValue::Real32(f32::from_bits(low)),
+            ValueType::Real64 => ObjectValue::Real64(f64::from_bits(word)),
+            ValueType::VisibleString => ObjectValue::VisibleString(text(part).to_owned()),
+            ValueType::OctetString => ObjectValue::OctetString(part.to_vec()),
+            ValueType::UnicodeString => ObjectValue::UnicodeString(units(part)),
+            ValueType::Domain => ObjectValue::Domain(part.to_vec()),
+            ValueType::TimeOfDay => {
+                ObjectValue::TimeOfDay(TimeOfDay { ms: low, days: high as u16 })
+            }
+            ValueType::TimeDifference => {
+                ObjectValue::TimeDifference(TimeDifference { ms: low, days: high as u16 })
+            }
+            ValueType::NetTime => ObjectValue::NetTime(NetTime { seconds: low, nanoseconds: high }),
+            ValueType::RelativeTime => ObjectValue::RelativeTime(RelativeTime(word)),
+            ValueType::MacAddress => ObjectValue::MacAddress(MacAddress([a, b, c, d, e, f])),
+            ValueType::IpAddress => ObjectValue::IpAddress([a, b, c, d]),
+        }
+    }
+}
+
+/// The number of two parts, the lower one in bits 0 to 31.
+fn pair(low: u32, high: u32) -> u64 {
+    u64::from(low) | u64::from(high) << 32
+}
+
+/// Bytes that the library has judged to be text.
+pub(crate) fn text(part: &[u8]) -> &str {
+    std::str::from_utf8(part).expect("loomfinch: the library takes no other text than UTF-8")
+}
+
+fn units(part: &[u8]) -> Vec<u16> {
+    part.chunks_exact(2).map(|unit| u16::from_le_bytes([unit[0], unit[1]])).collect()
 }
