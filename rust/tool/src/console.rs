@@ -1,11 +1,11 @@
 //! A rig laid into a dictionary of the library, which checks and consumes; the rig keeps a copy of each value, so that
 //! what a payload changed can be told.
 
-use crate::explain;
+use crate::explain::{self, Element};
 use crate::rig::{Kind, Object, Place, Problem, Rig, Value};
 use loomfinch::{
-    decode, Capacity, Cause, Checked, Dictionary, Event, EventRecord, Explanation, NodeId, ObjectEntry, ObjectValue,
-    PDOVersion, Refusal, Unwritten,
+    decode, Capacity, Cause, Checked, Dictionary, Event, EventRecord, NodeId, ObjectEntry,
+    ObjectValue, PDOVersion, Refusal, Unwritten,
 };
 use std::collections::HashMap;
 
@@ -13,7 +13,7 @@ pub struct Console {
     pub rig: Rig,
     dictionary: Dictionary,
     /// The explained mappings of channels, for as long as they stay.
-    explained: HashMap<u8, Vec<Explanation>>,
+    explained: HashMap<u8, Vec<Element>>,
 }
 
 /// A payload with what came along with it.
@@ -30,13 +30,21 @@ pub enum Consumed {
     NotReady,
     NoChannel,
     /// The version is wrong; the one that the channel expects.
-    WrongVersion { channel: u8, expected: u8, noted: Option<Change> },
-    Taken { channel: u8, steps: Vec<Step>, noted: Option<Change> },
+    WrongVersion {
+        channel: u8,
+        expected: u8,
+        noted: Option<Change>,
+    },
+    Taken {
+        channel: u8,
+        steps: Vec<Step>,
+        noted: Option<Change>,
+    },
 }
 
 /// An element of the mapping, and what became of its field.
 pub struct Step {
-    pub explanation: Explanation,
+    pub element: Element,
     pub outcome: Outcome,
 }
 
@@ -84,12 +92,14 @@ impl Console {
         let node = NodeId(received.sender);
         let version = PDOVersion(received.version);
         let channel = self.rig.channel_of(received.sender);
-        let steps = channel.map(|channel| self.explanations(channel));
-        let events: Vec<EventRecord> =
-            self.dictionary.consume_pdo_payload(node, received.payload, version, received.ready)?.collect();
-        let (channel, explained) = match (channel, steps) {
+        let elements = channel.map(|channel| self.elements(channel));
+        let events: Vec<EventRecord> = self
+            .dictionary
+            .consume_pdo_payload(node, received.payload, version, received.ready)?
+            .collect();
+        let (channel, elements) = match (channel, elements) {
             _ if !received.ready => return Ok(Consumed::NotReady),
-            (Some(channel), Some(steps)) => (channel, steps),
+            (Some(channel), Some(elements)) => (channel, elements),
             _ => return Ok(Consumed::NoChannel),
         };
         if events.iter().any(|record| record.event == Event::MapVersion) {
@@ -97,51 +107,58 @@ impl Console {
             let noted = self.noted(WRONG_VERSIONS)?;
             return Ok(Consumed::WrongVersion { channel, expected, noted });
         }
-        let steps = self.steps(explained, &events)?;
+        let steps = self.steps(elements, &events)?;
         let short = events.iter().any(|record| record.event == Event::PayloadShort(Cause::Frame));
         let noted = if short { self.noted(SHORT_PAYLOADS)? } else { None };
         Ok(Consumed::Taken { channel, steps, noted })
     }
 
-    fn explanations(&mut self, channel: u8) -> Vec<Explanation> {
+    /// The explained mapping of a channel.
+    pub fn elements(&mut self, channel: u8) -> Vec<Element> {
         let rig = &self.rig;
         self.explained.entry(channel).or_insert_with(|| explain::mapping(rig, channel)).clone()
     }
 
     /// Each element with its outcome. The old values are taken before the first is read again, since two elements may
     /// have one target.
-    fn steps(&mut self, explained: Vec<Explanation>, events: &[EventRecord]) -> Result<Vec<Step>, Refusal> {
-        let before: Vec<Option<Value>> = explained.iter().map(|element| self.stored_at(element)).collect();
+    fn steps(
+        &mut self,
+        elements: Vec<Element>,
+        events: &[EventRecord],
+    ) -> Result<Vec<Step>, Refusal> {
+        let before: Vec<Option<Value>> =
+            elements.iter().map(|element| self.stored_at(element)).collect();
         let mut stopped = false;
         let mut steps = Vec::new();
-        for (explanation, old) in explained.into_iter().zip(before) {
-            let event = events.iter().find(|record| record.element == Some(explanation.element));
+        for (element, old) in elements.into_iter().zip(before) {
+            let event = events.iter().find(|record| record.element == Some(element.number));
             let outcome = match event.map(|record| record.event) {
                 _ if stopped => Outcome::NotReached,
                 Some(Event::PayloadShort(cause)) => Outcome::Stopped(cause),
                 Some(Event::Server { .. }) | Some(Event::Client { .. }) => Outcome::HandedOn,
                 Some(Event::WriteRefused(why)) => Outcome::Refused(why),
-                Some(Event::MapVersion) | None => self.quiet_outcome(&explanation, old)?,
+                Some(Event::MapVersion) | None => self.quiet_outcome(&element, old)?,
             };
             stopped = stopped || matches!(outcome, Outcome::Stopped(_));
-            steps.push(Step { explanation, outcome });
+            steps.push(Step { element, outcome });
         }
         Ok(steps)
     }
 
     /// The value that an element's field would be written to.
-    fn stored_at(&self, explanation: &Explanation) -> Option<Value> {
-        let entry = explanation.mapped?.0;
-        match self.rig.place(entry.index, entry.sub_index) {
-            Place::Value(_, value) if entry.field().is_some() => Some(value.clone()),
+    fn stored_at(&self, element: &Element) -> Option<Value> {
+        let mapped = element.mapped.as_ref()?;
+        match self.rig.place(mapped.entry.index, mapped.entry.sub_index) {
+            Place::Value(_, value) if mapped.field.is_some() => Some(value.clone()),
             _ => None,
         }
     }
 
     /// The outcome of an element that was reached and gave no event.
-    fn quiet_outcome(&mut self, explanation: &Explanation, old: Option<Value>) -> Result<Outcome, Refusal> {
-        match (explanation.mapped, old) {
-            (Some((entry, _)), Some(before)) => {
+    fn quiet_outcome(&mut self, element: &Element, old: Option<Value>) -> Result<Outcome, Refusal> {
+        match (&element.mapped, old) {
+            (Some(mapped), Some(before)) => {
+                let entry = mapped.entry;
                 Ok(Outcome::Written(self.read_again(entry.index, entry.sub_index, before)?))
             }
             _ => Ok(Outcome::PassedOver),
@@ -180,7 +197,8 @@ fn capacity(rig: &Rig) -> Capacity {
 }
 
 fn entry(object: &Object) -> Result<ObjectEntry<'_>, Refusal> {
-    let values: Result<Vec<ObjectValue>, Refusal> = object.values.iter().map(object_value).collect();
+    let values: Result<Vec<ObjectValue>, Refusal> =
+        object.values.iter().map(object_value).collect();
     let mut values = values?;
     let inner = match object.kind {
         Kind::Variable => loomfinch::Object::Variable(values.pop().ok_or(Refusal::BadValue)?),

@@ -1,8 +1,9 @@
 //! A payload drawn in text: which bytes go to which object, where fields overlap, what is cut.
 
+use crate::explain::{Element, Target};
 use crate::rig::Rig;
 use crate::words::named_place;
-use loomfinch::{Explanation, Fault, Target};
+use loomfinch::Fault;
 use std::ops::Range;
 
 /// A field of the payload and what becomes of its bytes.
@@ -31,8 +32,8 @@ const MARKS: [(char, &str); 5] = [
 ];
 
 /// The drawing's lines; none where no element is a mapping word.
-pub fn draw(rig: &Rig, explained: &[Explanation]) -> Vec<String> {
-    let fields: Vec<Field> = explained.iter().filter_map(|element| field(rig, element)).collect();
+pub fn draw(rig: &Rig, elements: &[Element]) -> Vec<String> {
+    let fields: Vec<Field> = elements.iter().filter_map(|element| field(rig, element)).collect();
     let end = fields.iter().map(|field| field.bytes.end).max().unwrap_or(0);
     if fields.is_empty() {
         return Vec::new();
@@ -65,18 +66,21 @@ pub fn draw(rig: &Rig, explained: &[Explanation]) -> Vec<String> {
     lines
 }
 
-fn field(rig: &Rig, explanation: &Explanation) -> Option<Field> {
-    let (entry, target) = explanation.mapped?;
+fn field(rig: &Rig, element: &Element) -> Option<Field> {
+    let mapped = element.mapped.as_ref()?;
+    let entry = mapped.entry;
     let start = usize::from(entry.offset_bits) / 8;
-    let bytes = start..entry.end().max(start);
-    let (kept, mark) = match (explanation.fault, target) {
+    let bytes = start..mapped.end.max(start);
+    let (kept, mark) = match (element.fault, mapped.target) {
         (None, _) => (bytes.len(), LOST),
         (Some(Fault::Misaligned), _) => (0, NOT_WHOLE),
         (Some(Fault::HandOff), _) => (0, HANDED_ON),
-        (Some(Fault::WrongLength), Target::Fixed { size, .. }) if size < bytes.len() => (size, LOST),
+        (Some(Fault::WrongLength), Target::Fixed { size, .. }) if size < bytes.len() => {
+            (size, LOST)
+        }
         (Some(_), _) => (0, LOST),
     };
-    let label = format!("element {}", explanation.element);
+    let label = format!("element {}", element.number);
     Some(Field { label, bytes, kept, mark, target: named_place(rig, entry.index, entry.sub_index) })
 }
 
@@ -106,14 +110,19 @@ impl Sheet {
         let mut rows = Vec::new();
         for field in fields {
             if let Some(cells) = self.cells(field, band) {
-                let target = if band.contains(&field.bytes.start) { field.target.as_str() } else { "" };
-                rows.push(format!("{:>13}  {}  {}", field.label, cells, target).trim_end().to_string());
+                let target =
+                    if band.contains(&field.bytes.start) { field.target.as_str() } else { "" };
+                rows.push(
+                    format!("{:>13}  {}  {}", field.label, cells, target).trim_end().to_string(),
+                );
             }
         }
-        let shared = |byte: usize| fields.iter().filter(|field| field.bytes.contains(&byte)).count() > 1;
+        let shared =
+            |byte: usize| fields.iter().filter(|field| field.bytes.contains(&byte)).count() > 1;
         if band.clone().any(shared) {
             let mark = |byte| if shared(byte) { SHARED } else { ' ' };
-            let cells: String = band.clone().map(|byte| mark(byte).to_string().repeat(self.cell)).collect();
+            let cells: String =
+                band.clone().map(|byte| mark(byte).to_string().repeat(self.cell)).collect();
             rows.push(format!("{:>13}  {}", "overlap", cells).trim_end().to_string());
         }
         rows
@@ -122,7 +131,8 @@ impl Sheet {
     /// A field's part of a band; none where it has none.
     fn cells(&self, field: &Field, band: &Range<usize>) -> Option<String> {
         let bytes = &field.bytes;
-        let empty_here = bytes.is_empty() && (band.contains(&bytes.start) || bytes.start == band.end);
+        let empty_here =
+            bytes.is_empty() && (band.contains(&bytes.start) || bytes.start == band.end);
         if !empty_here && (bytes.is_empty() || bytes.end <= band.start || bytes.start >= band.end) {
             return None;
         }
@@ -153,8 +163,13 @@ impl Sheet {
 
 /// What the marks that were used mean.
 fn legend(lines: &[String]) -> String {
-    let used = |mark: char| lines.iter().any(|line| line.split('"').step_by(2).any(|part| part.contains(mark)));
-    let words: Vec<String> =
-        MARKS.iter().filter(|entry| used(entry.0)).map(|entry| format!("{} {}", entry.0, entry.1)).collect();
+    let used = |mark: char| {
+        lines.iter().any(|line| line.split('"').step_by(2).any(|part| part.contains(mark)))
+    };
+    let words: Vec<String> = MARKS
+        .iter()
+        .filter(|entry| used(entry.0))
+        .map(|entry| format!("{} {}", entry.0, entry.1))
+        .collect();
     format!("{:>13}  {}", "", words.join("   "))
 }

@@ -1,19 +1,22 @@
 //! The faults of the check in plain words.
 
+use crate::explain::{Element, Mapped, Target};
 use crate::rig::{Place, Rig};
 use crate::words::{self, named_place, place};
-use loomfinch::{Checked, Explanation, Fault, PdoMappingEntry, Target, ValueType, MOST_PAYLOAD_BYTES};
+use loomfinch::{Checked, Fault, PdoMappingEntry, ValueType, MOST_PAYLOAD_BYTES};
 
 /// Why a channel does not pass.
-pub fn sentence(rig: &Rig, channel: u8, checked: Checked, explained: &[Explanation]) -> String {
+pub fn sentence(rig: &Rig, channel: u8, checked: Checked, elements: &[Element]) -> String {
     match checked {
         Checked::Pass => "pass".to_string(),
         Checked::NoSender => no_sender(rig, channel),
         Checked::NoList => no_list(rig, channel),
-        Checked::TooFar => too_far(explained),
+        Checked::TooFar => too_far(elements),
         Checked::Element { element, fault } => {
-            let explanation = explained.iter().find(|explanation| explanation.element == element);
-            explanation.map_or(format!("element {}: {}", element, fault), |known| of_element(rig, known, fault))
+            let named = elements.iter().find(|known| known.number == element);
+            named.map_or(format!("element {}: {}", element, fault), |known| {
+                of_element(rig, known, fault)
+            })
         }
     }
 }
@@ -22,14 +25,18 @@ fn no_sender(rig: &Rig, channel: u8) -> String {
     let index = 0x1400 + u16::from(channel);
     if let Some(sender) = rig.named_sender(channel) {
         return match rig.channel_of(sender) {
-            Some(earlier) => format!("no sender: channel {} takes {} before it", earlier, words::node(sender)),
+            Some(earlier) => {
+                format!("no sender: channel {} takes {} before it", earlier, words::node(sender))
+            }
             None => format!("no sender: no payload comes from {}", words::node(sender)),
         };
     }
     let found = match rig.place(index, 1) {
         Place::NoObject => format!("there is no {:04X}h", index),
         Place::Value(_, value) => format!("it is {}", words::type_with_article(value.of)),
-        Place::NoSub(object) | Place::Count(object) if object.is_list() => format!("{:04X}h has no element", index),
+        Place::NoSub(object) | Place::Count(object) if object.is_list() => {
+            format!("{:04X}h has no element", index)
+        }
         Place::NoSub(_) | Place::Count(_) => format!("{:04X}h is a Variable", index),
     };
     format!("no sender: there is no Unsigned8 at {}: {}", place(index, 1), found)
@@ -44,8 +51,10 @@ fn no_list(rig: &Rig, channel: u8) -> String {
     }
 }
 
-fn too_far(explained: &[Explanation]) -> String {
-    let ends = explained.iter().filter_map(|known| known.mapped.map(|(entry, _)| (entry.end(), known.element)));
+fn too_far(elements: &[Element]) -> String {
+    let ends = elements
+        .iter()
+        .filter_map(|known| known.mapped.as_ref().map(|mapped| (mapped.end, known.number)));
     let (end, element) = ends.max_by_key(|found| found.0).unwrap_or((0, 0));
     format!(
         "element {} ends behind byte {}, and no payload has more than {} bytes: nothing would be written from there on",
@@ -53,19 +62,20 @@ fn too_far(explained: &[Explanation]) -> String {
     )
 }
 
-fn of_element(rig: &Rig, explanation: &Explanation, fault: Fault) -> String {
-    let element = explanation.element;
-    match explanation.mapped {
-        Some((entry, target)) => format!("element {} {}", element, of_mapping(rig, &entry, target, fault)),
+/// What is wrong with an element, as a sentence.
+pub fn of_element(rig: &Rig, element: &Element, fault: Fault) -> String {
+    match &element.mapped {
+        Some(mapped) => format!("element {} {}", element.number, of_mapping(rig, mapped, fault)),
         None => format!(
             "element {} is {}, not an Unsigned64, and maps nothing",
-            element,
-            words::type_with_article(explanation.element_type)
+            element.number,
+            words::type_with_article(element.element_type)
         ),
     }
 }
 
-fn of_mapping(rig: &Rig, entry: &PdoMappingEntry, target: Target, fault: Fault) -> String {
+fn of_mapping(rig: &Rig, mapped: &Mapped, fault: Fault) -> String {
+    let entry = &mapped.entry;
     let at = named_place(rig, entry.index, entry.sub_index);
     match fault {
         Fault::NotMapping => "maps nothing".to_string(),
@@ -75,10 +85,16 @@ fn of_mapping(rig: &Rig, entry: &PdoMappingEntry, target: Target, fault: Fault) 
             entry.offset_bits,
             at
         ),
-        Fault::HandOff => format!("maps onto {}, which belongs to SDO: it is handed on and not written", at),
-        Fault::NoTarget => format!("maps onto {}, and {}: it is passed over", at, missing(rig, entry)),
-        Fault::CountTarget => format!("maps onto {}, a list's count of elements, which no payload changes", at),
-        Fault::WrongLength => wrong_length(&at, entry, target),
+        Fault::HandOff => {
+            format!("maps onto {}, which belongs to SDO: it is handed on and not written", at)
+        }
+        Fault::NoTarget => {
+            format!("maps onto {}, and {}: it is passed over", at, missing(rig, entry))
+        }
+        Fault::CountTarget => {
+            format!("maps onto {}, a list's count of elements, which no payload changes", at)
+        }
+        Fault::WrongLength => wrong_length(&at, mapped),
     }
 }
 
@@ -92,16 +108,22 @@ fn missing(rig: &Rig, entry: &PdoMappingEntry) -> String {
     }
 }
 
-fn wrong_length(at: &str, entry: &PdoMappingEntry, target: Target) -> String {
-    let length = usize::from(entry.length_bits) / 8;
+fn wrong_length(at: &str, mapped: &Mapped) -> String {
+    let length = mapped.length();
     let maps = format!("maps {} onto {}", words::bytes(length), at);
-    match target {
+    match mapped.target {
         Target::Fixed { value_type, size } => {
-            let onto = format!("{} of {}", words::type_with_article(value_type), words::bytes(size));
+            let onto =
+                format!("{} of {}", words::type_with_article(value_type), words::bytes(size));
             if length > size {
                 format!("{}, {}: {} would be lost", maps, onto, last_bytes(length - size))
             } else {
-                format!("{}, {}: {} missing, so every payload stops there", maps, onto, are(size - length))
+                format!(
+                    "{}, {}: {} missing, so every payload stops there",
+                    maps,
+                    onto,
+                    are(size - length)
+                )
             }
         }
         Target::Text { value_type, room } if length > room => format!(

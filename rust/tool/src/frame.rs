@@ -21,7 +21,12 @@ const HEAD: usize = 10;
 pub enum Frame<'a> {
     Poll(Poll<'a>),
     /// A poll frame whose size goes past its end, or that ends inside its head.
-    Cut { request: bool, sender: Option<u8>, said: Option<usize>, there: usize },
+    Cut {
+        request: bool,
+        sender: Option<u8>,
+        said: Option<usize>,
+        there: usize,
+    },
     /// Another POWERLINK message, by its type.
     Message(u8),
     /// Another protocol, by its EtherType.
@@ -112,7 +117,14 @@ mod tests {
 
     #[test]
     fn a_response_has_its_source_as_sender() {
-        let wanted = Poll { request: false, destination: 255, sender: 5, version: 0x12, ready: true, payload: &[0xC4, 9] };
+        let wanted = Poll {
+            request: false,
+            destination: 255,
+            sender: 5,
+            version: 0x12,
+            ready: true,
+            payload: &[0xC4, 9],
+        };
         assert_eq!(dissect(&frame(&[], &RESPONSE)), Frame::Poll(wanted));
     }
 
@@ -121,7 +133,14 @@ mod tests {
         let mut request = RESPONSE;
         request[0] = 3;
         request[4] = 0x20;
-        let wanted = Poll { request: true, destination: 255, sender: 240, version: 0x12, ready: false, payload: &[0xC4, 9] };
+        let wanted = Poll {
+            request: true,
+            destination: 255,
+            sender: 240,
+            version: 0x12,
+            ready: false,
+            payload: &[0xC4, 9],
+        };
         assert_eq!(dissect(&frame(&[], &request)), Frame::Poll(wanted));
     }
 

@@ -36,11 +36,13 @@ impl Json {
                 let member = |f: &mut fmt::Formatter, item: &Json| item.lines(f, indent + 2);
                 enclosed(f, ('[', ']'), items, indent, member)
             }
-            Json::Object(members) => enclosed(f, ('{', '}'), members, indent, |f, (name, value)| {
-                quoted(f, name)?;
-                f.write_str(": ")?;
-                value.lines(f, indent + 2)
-            }),
+            Json::Object(members) => {
+                enclosed(f, ('{', '}'), members, indent, |f, (name, value)| {
+                    quoted(f, name)?;
+                    f.write_str(": ")?;
+                    value.lines(f, indent + 2)
+                })
+            }
         }
     }
 }
@@ -102,6 +104,9 @@ mod tests {
             ("a", Json::Bool(true)),
             ("none", Json::List(Vec::new())),
         ]);
-        assert_eq!(json.to_string(), "{\n  \"z\": [\n    1,\n    null\n  ],\n  \"a\": true,\n  \"none\": []\n}");
+        assert_eq!(
+            json.to_string(),
+            "{\n  \"z\": [\n    1,\n    null\n  ],\n  \"a\": true,\n  \"none\": []\n}"
+        );
     }
 }

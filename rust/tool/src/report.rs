@@ -1,10 +1,11 @@
 //! What a payload changed, told line by line.
 
 use crate::console::{Change, Consumed, Outcome, Received, Step};
+use crate::explain::{Element, Mapped, Target};
 use crate::faults::last_bytes;
 use crate::rig::Rig;
 use crate::words::{self, named_place, Style};
-use loomfinch::{Cause, Explanation, Target, Unwritten, ValueType};
+use loomfinch::{Cause, Unwritten, ValueType};
 
 /// A payload's story, and what of it a table counts.
 #[derive(Default)]
@@ -17,6 +18,13 @@ pub struct Told {
 }
 
 impl Told {
+    /// The story of a payload that was refused as a whole.
+    pub fn refused(why: String) -> Told {
+        let mut told = Told::default();
+        told.fault(why);
+        told
+    }
+
     fn line(&mut self, text: String) {
         self.lines.push(text);
     }
@@ -31,9 +39,10 @@ pub fn tell(rig: &Rig, received: &Received, consumed: &Consumed, style: Style) -
     let mut told = Told::default();
     match consumed {
         Consumed::NotReady => told.line("not ready: nothing happens".to_string()),
-        Consumed::NoChannel => {
-            told.line(format!("no channel of the rig takes {}: nothing happens", words::node(received.sender)))
-        }
+        Consumed::NoChannel => told.line(format!(
+            "no channel of the rig takes {}: nothing happens",
+            words::node(received.sender)
+        )),
         Consumed::WrongVersion { channel, expected, noted } => {
             told.stops += 1;
             told.fault(format!(
@@ -57,11 +66,18 @@ pub fn tell(rig: &Rig, received: &Received, consumed: &Consumed, style: Style) -
     told
 }
 
-fn tell_step(told: &mut Told, rig: &Rig, received: &Received, step: &Step, later: &[Step], style: Style) {
-    let element = step.explanation.element;
-    let at = match step.explanation.mapped {
-        Some((entry, _)) => named_place(rig, entry.index, entry.sub_index),
-        None => words::type_with_article(step.explanation.element_type),
+fn tell_step(
+    told: &mut Told,
+    rig: &Rig,
+    received: &Received,
+    step: &Step,
+    later: &[Step],
+    style: Style,
+) {
+    let element = step.element.number;
+    let at = match &step.element.mapped {
+        Some(mapped) => named_place(rig, mapped.entry.index, mapped.entry.sub_index),
+        None => words::type_with_article(step.element.element_type),
     };
     match &step.outcome {
         Outcome::Written(change) => {
@@ -69,28 +85,39 @@ fn tell_step(told: &mut Told, rig: &Rig, received: &Received, step: &Step, later
             told.line(format!("{}: {}", at, changed(change, later, style)));
             tell_cut(told, received, step, change, style);
         }
-        Outcome::PassedOver => told.fault(format!("element {} ({}) is passed over: {}", element, at, passed_over(&step.explanation))),
+        Outcome::PassedOver => told.fault(format!(
+            "element {} ({}) is passed over: {}",
+            element,
+            at,
+            passed_over(&step.element)
+        )),
         Outcome::HandedOn => told.line(format!("element {} ({}) is handed on to SDO", element, at)),
         Outcome::Refused(Unwritten::CountNotWritable) => {
             told.fault(format!("element {} ({}) is not written: it is a list's count", element, at))
         }
-        Outcome::Refused(Unwritten::TooLong) => {
-            told.fault(format!("element {} ({}) is not written: {}", element, at, over_room(&step.explanation)))
-        }
+        Outcome::Refused(Unwritten::TooLong) => told.fault(format!(
+            "element {} ({}) is not written: {}",
+            element,
+            at,
+            over_room(&step.element)
+        )),
         Outcome::Stopped(cause) => {
             told.stops += 1;
-            told.fault(format!("stopped at element {} ({}): {}", element, at, stop(*cause, received, &step.explanation)));
+            told.fault(format!(
+                "stopped at element {} ({}): {}",
+                element,
+                at,
+                stop(*cause, received, &step.element)
+            ));
         }
         Outcome::NotReached => told.line(format!("element {} ({}) is not reached", element, at)),
     }
 }
 
 fn changed(change: &Change, later: &[Step], style: Style) -> String {
-    let same_target = |step: &&Step| {
-        matches!(&step.outcome, Outcome::Written(other) if (other.index, other.sub_index) == (change.index, change.sub_index))
-    };
+    let same_target = |step: &&Step| matches!(&step.outcome, Outcome::Written(other) if (other.index, other.sub_index) == (change.index, change.sub_index));
     if let Some(step) = later.iter().find(same_target) {
-        return format!("written, and again by element {}", step.explanation.element);
+        return format!("written, and again by element {}", step.element.number);
     }
     let after = words::value(&change.after, style);
     if change.before.bytes == change.after.bytes {
@@ -101,11 +128,13 @@ fn changed(change: &Change, later: &[Step], style: Style) -> String {
 
 /// Tells of a field of which only the first bytes are kept.
 fn tell_cut(told: &mut Told, received: &Received, step: &Step, change: &Change, style: Style) {
-    let (entry, size) = match step.explanation.mapped {
-        Some((entry, Target::Fixed { size, .. })) => (entry, size),
+    let (range, size) = match &step.element.mapped {
+        Some(Mapped { field: Some(range), target: Target::Fixed { size, .. }, .. }) => {
+            (range.clone(), *size)
+        }
         _ => return,
     };
-    let field = match entry.field().and_then(|range| received.payload.get(range)) {
+    let field = match received.payload.get(range) {
         Some(field) if field.len() > size => field,
         _ => return,
     };
@@ -121,7 +150,7 @@ fn tell_cut(told: &mut Told, received: &Received, step: &Step, change: &Change, 
     };
     told.fault(format!(
         "  CUT: element {}'s field is {}{}; {}, {}, {} lost",
-        step.explanation.element,
+        step.element.number,
         words::hex(field),
         meant,
         last_bytes(lost.len()),
@@ -141,38 +170,44 @@ fn means_nothing(of: ValueType, kept: &[u8], lost: &[u8]) -> bool {
     lost.iter().all(|byte| *byte == fill)
 }
 
-fn passed_over(explanation: &Explanation) -> &'static str {
-    match explanation.mapped {
+fn passed_over(element: &Element) -> &'static str {
+    match &element.mapped {
         None => "it is no mapping word",
-        Some((entry, _)) if entry.field().is_none() => "it is not whole bytes",
-        Some((_, Target::NoObject)) => "there is no such object",
-        Some((_, Target::NoSubIndex)) => "there is no such sub-index",
+        Some(mapped) if mapped.field.is_none() => "it is not whole bytes",
+        Some(Mapped { target: Target::NoObject, .. }) => "there is no such object",
+        Some(Mapped { target: Target::NoSubIndex, .. }) => "there is no such sub-index",
         Some(_) => "it is a mapping's count",
     }
 }
 
-fn over_room(explanation: &Explanation) -> String {
-    match explanation.mapped {
-        Some((entry, Target::Text { room, .. })) => {
-            format!("{} are more than its room of {}", words::bytes(usize::from(entry.length_bits) / 8), room)
+fn over_room(element: &Element) -> String {
+    match &element.mapped {
+        Some(mapped @ Mapped { target: Target::Text { room, .. }, .. }) => {
+            format!("{} are more than its room of {}", words::bytes(mapped.length()), room)
         }
         _ => "it is longer than its room".to_string(),
     }
 }
 
-fn stop(cause: Cause, received: &Received, explanation: &Explanation) -> String {
-    let field = explanation.mapped.and_then(|(entry, _)| entry.field()).unwrap_or(0..0);
+fn stop(cause: Cause, received: &Received, element: &Element) -> String {
+    let mapped = match &element.mapped {
+        Some(mapped) => mapped,
+        None => return "it is no mapping word".to_string(),
+    };
     match cause {
         Cause::Frame => format!(
             "it needs {} of payload, and {} came",
-            words::bytes(field.end),
+            words::bytes(mapped.end),
             received.payload.len()
         ),
-        Cause::Value => match explanation.mapped {
-            Some((_, Target::Fixed { value_type, size })) => {
-                format!("{} are too few for {} of {}", words::bytes(field.len()), words::type_with_article(value_type), size)
-            }
-            _ => "it has too few bytes".to_string(),
+        Cause::Value => match mapped.target {
+            Target::Fixed { value_type, size } => format!(
+                "a field of {} is too short for {} of {}",
+                words::bytes(mapped.length()),
+                words::type_with_article(value_type),
+                words::bytes(size)
+            ),
+            _ => "its field is too short".to_string(),
         },
         Cause::Text => "the field is no text in UTF-8".to_string(),
         Cause::Odd => "the field has an odd number of bytes".to_string(),

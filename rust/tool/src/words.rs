@@ -134,7 +134,13 @@ mod tests {
             let of = ValueType::from_number(number).unwrap();
             assert!(!as_type(of, &[1; 8][..of.size().unwrap_or(8)], false, plain).is_empty());
         }
-        assert_eq!(as_type(ValueType::IpAddress, &[192, 168, 100, 5], false, plain), "192.168.100.5");
-        assert_eq!(as_type(ValueType::MacAddress, &[0, 0x60, 0x65, 1, 2, 3], false, plain), "00:60:65:01:02:03");
+        assert_eq!(
+            as_type(ValueType::IpAddress, &[192, 168, 100, 5], false, plain),
+            "192.168.100.5"
+        );
+        assert_eq!(
+            as_type(ValueType::MacAddress, &[0, 0x60, 0x65, 1, 2, 3], false, plain),
+            "00:60:65:01:02:03"
+        );
     }
 }

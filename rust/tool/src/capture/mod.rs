@@ -6,8 +6,8 @@ mod source;
 
 use std::io::Read;
 
-pub use source::{Damage, Source};
 use source::Order;
+pub use source::{Damage, Source};
 
 /// A packet of a capture.
 #[derive(Debug, PartialEq, Eq)]

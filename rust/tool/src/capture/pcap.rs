@@ -21,12 +21,21 @@ impl Header {
         let rest = source.exactly(20, "the capture's header", 0)?;
         let major = order.u16(&rest, 0);
         if major != 2 {
-            return Err(Damage::at(4, format!("expected version 2 of the pcap form, found {}", major)));
+            return Err(Damage::at(
+                4,
+                format!("expected version 2 of the pcap form, found {}", major),
+            ));
         }
         // The high half of the link type says how long the frames' check sequence is.
         let link = order.u32(&rest, 16) as u16;
         if link != ETHERNET {
-            return Err(Damage::at(20, format!("expected a capture of an Ethernet (link type 1), found link type {}", link)));
+            return Err(Damage::at(
+                20,
+                format!(
+                    "expected a capture of an Ethernet (link type 1), found link type {}",
+                    link
+                ),
+            ));
         }
         Ok(Header { order, unit })
     }
@@ -38,12 +47,18 @@ impl Header {
             return Ok(None);
         }
         if head.len() < 16 {
-            let text = format!("the file ends inside the header of packet {} that begins at byte {}", number, start);
+            let text = format!(
+                "the file ends inside the header of packet {} that begins at byte {}",
+                number, start
+            );
             return Err(Damage::at(source.offset(), text));
         }
         let captured = self.order.u32(&head, 8) as usize;
         if captured > MOST_PACKET {
-            let text = format!("packet {} says it has {} bytes; no packet has more than {}", number, captured, MOST_PACKET);
+            let text = format!(
+                "packet {} says it has {} bytes; no packet has more than {}",
+                number, captured, MOST_PACKET
+            );
             return Err(Damage::at(start + 8, text));
         }
         let seconds = u128::from(self.order.u32(&head, 0));

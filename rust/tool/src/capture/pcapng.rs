@@ -54,7 +54,11 @@ impl Block {
     /// The part of the body that holds a packet's bytes.
     fn part(&mut self, from: usize, count: usize) -> Result<Vec<u8>, Damage> {
         if count > self.body.len() - from {
-            let text = format!("a packet says it has {} bytes; its block has {} for it", count, self.body.len() - from);
+            let text = format!(
+                "a packet says it has {} bytes; its block has {} for it",
+                count,
+                self.body.len() - from
+            );
             return Err(Damage::at(self.start, text));
         }
         Ok(self.body[from..from + count].to_vec())
@@ -62,7 +66,12 @@ impl Block {
 
     fn at_least(&self, count: usize) -> Result<(), Damage> {
         if self.body.len() < count {
-            let text = format!("a block of type {} needs a body of {} bytes; it has {}", self.kind, count, self.body.len());
+            let text = format!(
+                "a block of type {} needs a body of {} bytes; it has {}",
+                self.kind,
+                count,
+                self.body.len()
+            );
             return Err(Damage::at(self.start, text));
         }
         Ok(())
@@ -77,23 +86,38 @@ impl Section {
         let order = match head[4..] {
             [0x4D, 0x3C, 0x2B, 0x1A] => Order::Little,
             [0x1A, 0x2B, 0x3C, 0x4D] => Order::Big,
-            _ => return Err(Damage::at(start + 8, "expected the byte-order mark of a pcapng section, 1A2B3C4Dh")),
+            _ => {
+                return Err(Damage::at(
+                    start + 8,
+                    "expected the byte-order mark of a pcapng section, 1A2B3C4Dh",
+                ))
+            }
         };
         let length = block_length(order.u32(&head, 0), start)?;
         if length < 28 {
-            return Err(Damage::at(start + 4, format!("a section's header has 28 bytes or more; this one says {}", length)));
+            return Err(Damage::at(
+                start + 4,
+                format!("a section's header has 28 bytes or more; this one says {}", length),
+            ));
         }
         let version = source.exactly(4, what, start)?;
         let major = order.u16(&version, 0);
         if major != 1 {
-            return Err(Damage::at(start + 12, format!("expected version 1 of the pcapng form, found {}", major)));
+            return Err(Damage::at(
+                start + 12,
+                format!("expected version 1 of the pcapng form, found {}", major),
+            ));
         }
         source.pass_over(length - 20, what, start)?;
         trailer(source, order, length, start)?;
         Ok(Section { order, interfaces: Vec::new() })
     }
 
-    pub fn next_packet(&mut self, source: &mut Source, number: u64) -> Result<Option<Packet>, Damage> {
+    pub fn next_packet(
+        &mut self,
+        source: &mut Source,
+        number: u64,
+    ) -> Result<Option<Packet>, Damage> {
         while let Some(mut block) = self.next_block(source)? {
             match block.kind {
                 INTERFACE => self.interface(&block)?,
@@ -115,7 +139,10 @@ impl Section {
                 return Ok(None);
             }
             if kind.len() < 4 {
-                return Err(Damage::at(source.offset(), format!("the file ends inside the block that begins at byte {}", start)));
+                return Err(Damage::at(
+                    source.offset(),
+                    format!("the file ends inside the block that begins at byte {}", start),
+                ));
             }
             let kind = self.order.u32(&kind, 0);
             if kind != SECTION {
@@ -132,7 +159,10 @@ impl Section {
         let known = matches!(kind, INTERFACE | OBSOLETE_PACKET | SIMPLE_PACKET | ENHANCED_PACKET);
         let body = if known {
             if inside > 2 * MOST_PACKET {
-                return Err(Damage::at(start + 4, format!("a block says it has {} bytes, more than any packet needs", length)));
+                return Err(Damage::at(
+                    start + 4,
+                    format!("a block says it has {} bytes, more than any packet needs", length),
+                ));
             }
             source.exactly(inside, "the block", start)?
         } else {
@@ -178,7 +208,8 @@ impl Section {
             self.order.u32(&block.body, 0) as usize
         };
         let interface = self.interface_at(place, block)?;
-        let ticks = u64::from(self.order.u32(&block.body, 4)) << 32 | u64::from(self.order.u32(&block.body, 8));
+        let ticks = u64::from(self.order.u32(&block.body, 4)) << 32
+            | u64::from(self.order.u32(&block.body, 8));
         let captured = self.order.u32(&block.body, 12) as usize;
         let length = self.order.u32(&block.body, 16) as usize;
         let bytes = block.part(20, captured)?;
@@ -197,7 +228,11 @@ impl Section {
 
     fn interface_at(&self, place: usize, block: &Block) -> Result<&Interface, Damage> {
         self.interfaces.get(place).ok_or_else(|| {
-            let text = format!("a packet names interface {}; the section has described {} so far", place, self.interfaces.len());
+            let text = format!(
+                "a packet names interface {}; the section has described {} so far",
+                place,
+                self.interfaces.len()
+            );
             Damage::at(block.start, text)
         })
     }
@@ -213,7 +248,10 @@ fn resolution(power: u8) -> Ticks {
 
 fn block_length(length: u32, start: u64) -> Result<usize, Damage> {
     if length < 12 || length % 4 != 0 {
-        let text = format!("a block's length is a multiple of 4 from 12 on; the block here says {}", length);
+        let text = format!(
+            "a block's length is a multiple of 4 from 12 on; the block here says {}",
+            length
+        );
         return Err(Damage::at(start + 4, text));
     }
     Ok(length as usize)
@@ -225,7 +263,10 @@ fn trailer(source: &mut Source, order: Order, length: usize, start: u64) -> Resu
     let again = source.exactly(4, "the block", start)?;
     let again = order.u32(&again, 0) as usize;
     if again != length {
-        let text = format!("the block that begins at byte {} has length {} before it and {} behind it", start, length, again);
+        let text = format!(
+            "the block that begins at byte {} has length {} before it and {} behind it",
+            start, length, again
+        );
         return Err(Damage::at(at, text));
     }
     Ok(())

@@ -39,7 +39,9 @@ impl Source {
                 Ok(0) => break,
                 Ok(more) => filled += more,
                 Err(error) if error.kind() == ErrorKind::Interrupted => (),
-                Err(error) => return Err(Damage::at(self.offset + filled as u64, error.to_string())),
+                Err(error) => {
+                    return Err(Damage::at(self.offset + filled as u64, error.to_string()))
+                }
             }
         }
         self.offset += filled as u64;

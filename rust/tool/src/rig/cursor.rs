@@ -56,7 +56,8 @@ impl Cursor {
     pub fn grouped_word(&mut self, first: &str) -> Option<u64> {
         let last = self.word_ahead(2)?.strip_suffix(|c| c == 'h' || c == 'H')?;
         let groups = [first, self.word_ahead(0)?, self.word_ahead(1)?, last];
-        let is_group = |group: &&str| group.len() == 4 && group.bytes().all(|c| c.is_ascii_hexdigit());
+        let is_group =
+            |group: &&str| group.len() == 4 && group.bytes().all(|c| c.is_ascii_hexdigit());
         if !groups.iter().all(is_group) {
             return None;
         }

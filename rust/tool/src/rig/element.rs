@@ -58,7 +58,12 @@ impl Parts {
         cursor.next();
         let of = match self.of {
             Some(of) => of,
-            None => return Err(Problem::at(cursor.line, "expected a type before '=', as in Unsigned16 = 2500")),
+            None => {
+                return Err(Problem::at(
+                    cursor.line,
+                    "expected a type before '=', as in Unsigned16 = 2500",
+                ))
+            }
         };
         let bytes = typed_value(cursor, of)?;
         once(cursor, self.bytes.replace(bytes).is_none(), "value").map(|_| ())
@@ -67,7 +72,11 @@ impl Parts {
     /// Takes a mapping or a mapping word, if an element's line goes on with one.
     pub fn take_mapping(&mut self, cursor: &mut Cursor) -> Result<bool, Problem> {
         let word = match cursor.word_ahead(0) {
-            Some(word) if word.starts_with(|c: char| c.is_ascii_digit() || c.is_ascii_hexdigit()) => word.to_string(),
+            Some(word)
+                if word.starts_with(|c: char| c.is_ascii_digit() || c.is_ascii_hexdigit()) =>
+            {
+                word.to_string()
+            }
             _ => return Ok(false),
         };
         if type_of_name(&word).is_some() {
@@ -86,11 +95,17 @@ impl Parts {
             None => return Err(Problem::at(line, "expected a type, such as Unsigned16")),
         };
         if self.milliseconds && !is_unsigned(of) {
-            let text = format!("expected 'ms' only beside an Unsigned type, found it beside {}", words::type_with_article(of));
+            let text = format!(
+                "expected 'ms' only beside an Unsigned type, found it beside {}",
+                words::type_with_article(of)
+            );
             return Err(Problem::at(line, text));
         }
         if of.size().is_none() && self.bytes.is_none() && self.room.is_none() {
-            let text = format!("expected a room for {}, as in room 40, or a value that it takes its room from", words::type_with_article(of));
+            let text = format!(
+                "expected a room for {}, as in room 40, or a value that it takes its room from",
+                words::type_with_article(of)
+            );
             return Err(Problem::at(line, text));
         }
         let bytes = self.bytes.unwrap_or_else(|| vec![0; of.size().unwrap_or(0)]);
@@ -101,7 +116,10 @@ impl Parts {
             return Err(Problem::at(line, text));
         }
         if room > MOST_ROOM {
-            return Err(Problem::at(line, format!("expected at most {} bytes, found {}", MOST_ROOM, room)));
+            return Err(Problem::at(
+                line,
+                format!("expected at most {} bytes, found {}", MOST_ROOM, room),
+            ));
         }
         Ok(Value { of, bytes, room, milliseconds: self.milliseconds })
     }
@@ -115,7 +133,12 @@ pub fn default_value(cursor: &mut Cursor, like: Option<ValueType>) -> Result<Val
     }
     let of = match own.or(like) {
         Some(of) => of,
-        None => return Err(Problem::at(cursor.line, "expected a type behind 'default', as in default Unsigned16 = 2500")),
+        None => {
+            return Err(Problem::at(
+                cursor.line,
+                "expected a type behind 'default', as in default Unsigned16 = 2500",
+            ))
+        }
     };
     match cursor.next() {
         Some(Token::Equals) => (),
@@ -124,7 +147,10 @@ pub fn default_value(cursor: &mut Cursor, like: Option<ValueType>) -> Result<Val
     let bytes = typed_value(cursor, of)?;
     let room = if of.size().is_none() { bytes.len() } else { 0 };
     if room > MOST_ROOM {
-        return Err(Problem::at(cursor.line, format!("expected at most {} bytes in a default, found {}", MOST_ROOM, room)));
+        return Err(Problem::at(
+            cursor.line,
+            format!("expected at most {} bytes in a default, found {}", MOST_ROOM, room),
+        ));
     }
     Ok(Value { of, bytes, room, milliseconds: false })
 }
@@ -197,6 +223,7 @@ fn extent(cursor: &mut Cursor, part: &str) -> Result<u16, Problem> {
         8
     };
     let bits = number.and_then(|n| n.checked_mul(unit)).and_then(|bits| u16::try_from(bits).ok());
-    let wanted = format!("the field's {} as a number of bytes up to 8191, or of bits up to 65535", part);
+    let wanted =
+        format!("the field's {} as a number of bytes up to 8191, or of bits up to 65535", part);
     bits.ok_or_else(|| cursor.expected(&wanted, token.as_ref()))
 }

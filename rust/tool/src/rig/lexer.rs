@@ -87,7 +87,9 @@ impl<'a> Scanner<'a> {
             Some('\\') => Ok('\\'),
             Some('n') => Ok('\n'),
             Some('t') => Ok('\t'),
-            _ => Err(Problem::at(self.line, "expected \\\", \\\\, \\n or \\t after a \\ in a text")),
+            _ => {
+                Err(Problem::at(self.line, "expected \\\", \\\\, \\n or \\t after a \\ in a text"))
+            }
         }
     }
 
@@ -95,7 +97,12 @@ impl<'a> Scanner<'a> {
     fn bytes(&mut self) -> Result<Vec<u8>, Problem> {
         let end = match self.rest.find(']') {
             Some(end) => end,
-            None => return Err(Problem::at(self.line, "expected a closing ] for the bytes that begin on this line")),
+            None => {
+                return Err(Problem::at(
+                    self.line,
+                    "expected a closing ] for the bytes that begin on this line",
+                ))
+            }
         };
         let inside = self.rest[1..end].replace('*', " * ");
         self.skip(end + 1);
@@ -108,20 +115,28 @@ impl<'a> Scanner<'a> {
                 self.pairs(&mut bytes, word)?;
             }
             if bytes.len() > MOST_BYTES {
-                return Err(Problem::at(self.line, format!("expected at most {} bytes in brackets", MOST_BYTES)));
+                return Err(Problem::at(
+                    self.line,
+                    format!("expected at most {} bytes in brackets", MOST_BYTES),
+                ));
             }
         }
         Ok(bytes)
     }
 
     fn repeat(&self, bytes: &mut Vec<u8>, times: Option<&str>) -> Result<(), Problem> {
-        let times = times.and_then(|word| word.parse::<usize>().ok()).filter(|n| (1..=MOST_BYTES).contains(n));
+        let times = times
+            .and_then(|word| word.parse::<usize>().ok())
+            .filter(|n| (1..=MOST_BYTES).contains(n));
         match (bytes.last().copied(), times) {
             (Some(byte), Some(times)) => {
                 bytes.resize(bytes.len() - 1 + times, byte);
                 Ok(())
             }
-            _ => Err(Problem::at(self.line, "expected a byte before * and a count of 1 to 1490 behind it, as in [00 * 32]")),
+            _ => Err(Problem::at(
+                self.line,
+                "expected a byte before * and a count of 1 to 1490 behind it, as in [00 * 32]",
+            )),
         }
     }
 
@@ -129,7 +144,10 @@ impl<'a> Scanner<'a> {
         match hex_bytes(word) {
             Some(more) => bytes.extend(more),
             None => {
-                let found = format!("expected pairs of hexadecimal digits in brackets, as in [C4 09], found '{}'", word.escape_debug());
+                let found = format!(
+                    "expected pairs of hexadecimal digits in brackets, as in [C4 09], found '{}'",
+                    word.escape_debug()
+                );
                 return Err(Problem::at(self.line, found));
             }
         }

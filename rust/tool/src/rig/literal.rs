@@ -61,7 +61,10 @@ fn of_word(cursor: &mut Cursor, of: ValueType, word: &str) -> Option<Vec<u8>> {
             _ => unsigned(word, size),
         },
         Integer8 | Integer16 | Integer32 | Integer64 => signed(word, size),
-        Unsigned64 => cursor.grouped_word(word).map(|n| n.to_le_bytes().to_vec()).or_else(|| unsigned(word, size)),
+        Unsigned64 => cursor
+            .grouped_word(word)
+            .map(|n| n.to_le_bytes().to_vec())
+            .or_else(|| unsigned(word, size)),
         Real32 | Real64 => real(word, size),
         TimeOfDay | TimeDifference => parts(cursor, word, &[("ms", 4), ("days", 2)]),
         NetTime => parts(cursor, word, &[("s", 4), ("ns", 4)]),
@@ -120,7 +123,9 @@ fn parts(cursor: &mut Cursor, first: &str, units: &[(&str, usize)]) -> Option<Ve
 
 fn separated(word: &str, mark: char, radix: u32, size: usize) -> Option<Vec<u8>> {
     let parts: Vec<&str> = word.split(mark).collect();
-    let digits = |part: &&str| !part.is_empty() && part.len() <= 3 && part.chars().all(|c| c.is_digit(radix));
+    let digits = |part: &&str| {
+        !part.is_empty() && part.len() <= 3 && part.chars().all(|c| c.is_digit(radix))
+    };
     if parts.len() != size || !parts.iter().all(|part| digits(part)) {
         return None;
     }
@@ -140,11 +145,16 @@ fn expectation(of: ValueType) -> String {
             let most = (1u64 << (8 * of.size().unwrap_or(1))) - 1;
             format!("a number from 0 to {}", most)
         }
-        Unsigned64 => "a number, a mapping (6000h/0 at 0 length 2) or a mapping word (0010 0000 0000 6000h)".to_string(),
+        Unsigned64 => {
+            "a number, a mapping (6000h/0 at 0 length 2) or a mapping word (0010 0000 0000 6000h)"
+                .to_string()
+        }
         Real32 | Real64 => "a decimal number, or its bits as 3F800000h".to_string(),
         VisibleString | UnicodeString => "text in double quotes".to_string(),
         OctetString | Domain => "bytes in brackets, as in [C4 09] or [00 * 32]".to_string(),
-        TimeOfDay | TimeDifference => "milliseconds and days, as in 3600000 ms 15000 days".to_string(),
+        TimeOfDay | TimeDifference => {
+            "milliseconds and days, as in 3600000 ms 15000 days".to_string()
+        }
         NetTime => "seconds and nanoseconds, as in 12 s 500 ns".to_string(),
         RelativeTime => "microseconds, as in 1500 us".to_string(),
         MacAddress => "an address, as in 00:60:65:01:02:03".to_string(),

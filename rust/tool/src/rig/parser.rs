@@ -7,9 +7,9 @@ use super::numbers;
 use super::problem::Problem;
 use super::types::{access_of_name, Kind};
 use super::{Object, Rig, Value};
+use super::{MOST_BYTES, MOST_ELEMENTS, MOST_NAME, MOST_OBJECTS, MOST_VALUES};
 use crate::words;
 use loomfinch::AccessType;
-use super::{MOST_BYTES, MOST_ELEMENTS, MOST_NAME, MOST_OBJECTS, MOST_VALUES};
 
 /// The rig that the bytes of a file describe.
 pub fn parse(file: &[u8]) -> Result<Rig, Problem> {
@@ -24,7 +24,9 @@ pub fn parse(file: &[u8]) -> Result<Rig, Problem> {
     }
     reader.finish_object()?;
     if reader.rig.objects.is_empty() {
-        return Err(Problem::of_file("expected at least one object, as in 6000h Variable Unsigned16; found none"));
+        return Err(Problem::of_file(
+            "expected at least one object, as in 6000h Variable Unsigned16; found none",
+        ));
     }
     Ok(reader.rig)
 }
@@ -33,7 +35,8 @@ fn text_of(file: &[u8]) -> Result<&str, Problem> {
     match std::str::from_utf8(file) {
         Ok(text) => Ok(text.strip_prefix('\u{FEFF}').unwrap_or(text)),
         Err(error) => {
-            let line = 1 + file[..error.valid_up_to()].iter().filter(|byte| **byte == b'\n').count();
+            let line =
+                1 + file[..error.valid_up_to()].iter().filter(|byte| **byte == b'\n').count();
             Err(Problem::at(line, "expected text in UTF-8, found a byte that is none"))
         }
     }
@@ -62,21 +65,38 @@ impl Reader {
                 return self.element(cursor, from, to);
             }
         }
-        Err(cursor.expected("an index, as in 6000h, or an element's number, as in 1", first.as_ref()))
+        Err(cursor
+            .expected("an index, as in 6000h, or an element's number, as in 1", first.as_ref()))
     }
 
     fn element(&mut self, cursor: &mut Cursor, from: usize, to: usize) -> Result<(), Problem> {
         let object = match &mut self.open {
             Some((_, object)) if object.is_list() => object,
-            Some(_) => return Err(Problem::at(cursor.line, "expected a new object: a Variable has no elements")),
-            None => return Err(Problem::at(cursor.line, "expected an object, as in 1600h Array, before its elements")),
+            Some(_) => {
+                return Err(Problem::at(
+                    cursor.line,
+                    "expected a new object: a Variable has no elements",
+                ))
+            }
+            None => {
+                return Err(Problem::at(
+                    cursor.line,
+                    "expected an object, as in 1600h Array, before its elements",
+                ))
+            }
         };
         let next = object.values.len() + 1;
         if from != next {
-            return Err(Problem::at(cursor.line, format!("expected element {}, found {}", next, from)));
+            return Err(Problem::at(
+                cursor.line,
+                format!("expected element {}, found {}", next, from),
+            ));
         }
         if to < from || to > MOST_ELEMENTS {
-            let text = format!("expected elements up to {} at most, rising, found {}..{}", MOST_ELEMENTS, from, to);
+            let text = format!(
+                "expected elements up to {} at most, rising, found {}..{}",
+                MOST_ELEMENTS, from, to
+            );
             return Err(Problem::at(cursor.line, text));
         }
         let value = element(cursor)?;
@@ -93,7 +113,10 @@ impl Reader {
         self.values += object.value_count();
         self.bytes += object.weight();
         if let Some(earlier) = self.rig.objects.get(&index) {
-            let text = format!("expected each index once, found {:04X}h again (first on line {})", index, earlier.line);
+            let text = format!(
+                "expected each index once, found {:04X}h again (first on line {})",
+                index, earlier.line
+            );
             return Err(Problem::at(line, text));
         }
         self.rig.objects.insert(index, object);
@@ -103,7 +126,10 @@ impl Reader {
             ("bytes of names, rooms and defaults", self.bytes, MOST_BYTES),
         ] {
             if count > most {
-                let text = format!("expected at most {} {} in a rig, found {} with this object", most, what, count);
+                let text = format!(
+                    "expected at most {} {} in a rig, found {} with this object",
+                    most, what, count
+                );
                 return Err(Problem::at(line, text));
             }
         }
@@ -113,7 +139,8 @@ impl Reader {
 
 /// `3` or `1..3`.
 fn element_numbers(word: &str) -> Option<(usize, usize)> {
-    let number = |digits: &str| digits.parse().ok().filter(|_| digits.bytes().all(|c| c.is_ascii_digit()));
+    let number =
+        |digits: &str| digits.parse().ok().filter(|_| digits.bytes().all(|c| c.is_ascii_digit()));
     match word.split_once("..") {
         Some((from, to)) => number(from).zip(number(to)),
         None => number(word).map(|k| (k, k)),
@@ -145,7 +172,10 @@ fn object(cursor: &mut Cursor) -> Result<Object, Problem> {
         } else if !parts.take(cursor)? {
             return Err(cursor.expected(object_parts(kind), Some(&token)));
         } else if kind != Kind::Variable {
-            let text = format!("expected elements on their own lines, as in 1 Unsigned16: {} has no value itself", words::kind_with_article(kind));
+            let text = format!(
+                "expected elements on their own lines, as in 1 Unsigned16: {} has no value itself",
+                words::kind_with_article(kind)
+            );
             return Err(Problem::at(line, text));
         }
     }
