@@ -94,7 +94,7 @@ impl ObjectEntry<'_> {
 }
 
 /// An object as the library takes it.
-pub(crate) struct Description {
+pub struct Description {
     pub kind: u64,
     pub access: u64,
     pub has_default: u64,
