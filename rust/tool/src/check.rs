@@ -7,6 +7,7 @@ use crate::explain::{Element, Mapped, Target};
 use crate::failure::{Failure, Status};
 use crate::faults;
 use crate::json::Json;
+use crate::notes;
 use crate::rig::Rig;
 use crate::words::{self, named_place};
 use loomfinch::Checked;
@@ -63,7 +64,7 @@ fn text(
             explanation(rig, channel, out)?;
         }
     }
-    for note in notes(rig) {
+    for note in all_notes(rig, channels) {
         writeln!(out, "note: {}", note)?;
     }
     if channels.is_empty() {
@@ -124,21 +125,10 @@ fn sender_words(rig: &Rig, channel: &Channel) -> String {
     sender(rig, channel).map_or("no node".to_string(), words::node)
 }
 
-/// What the check does not look at and a person should know.
-fn notes(rig: &Rig) -> Vec<String> {
-    let unused = |index: &&u16| !rig.objects.contains_key(&(**index - 0x200));
-    rig.objects
-        .range(0x1600..=0x16FF)
-        .map(|(index, _)| index)
-        .filter(unused)
-        .map(|index| {
-            format!(
-                "nothing uses the mapping {:04X}h: there is no {:04X}h that names its sender",
-                index,
-                index - 0x200
-            )
-        })
-        .collect()
+/// What is no fault, of the channels and of the rig.
+fn all_notes(rig: &Rig, channels: &[Channel]) -> Vec<String> {
+    let of_channel = |channel: &Channel| notes::of_channel(rig, channel.number, &channel.elements);
+    channels.iter().flat_map(of_channel).chain(notes::of_rig(rig)).collect()
 }
 
 fn json(file: &str, rig: &Rig, channels: &[Channel], explain: bool) -> Json {
@@ -151,7 +141,7 @@ fn json(file: &str, rig: &Rig, channels: &[Channel], explain: bool) -> Json {
                 channels.iter().map(|channel| channel_json(rig, channel, explain)).collect(),
             ),
         ),
-        ("notes", Json::List(notes(rig).into_iter().map(Json::Text).collect())),
+        ("notes", Json::List(all_notes(rig, channels).into_iter().map(Json::Text).collect())),
     ])
 }
 

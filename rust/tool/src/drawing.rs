@@ -34,17 +34,17 @@ const MARKS: [(char, &str); 5] = [
 /// The drawing's lines; none where no element is a mapping word.
 pub fn draw(rig: &Rig, elements: &[Element]) -> Vec<String> {
     let fields: Vec<Field> = elements.iter().filter_map(|element| field(rig, element)).collect();
-    let end = fields.iter().map(|field| field.bytes.end).max().unwrap_or(0);
+    let end = end(&fields);
     if fields.is_empty() {
         return Vec::new();
     }
     let sheet = Sheet::new(end);
     let mut lines = Vec::new();
-    let mut last: Vec<String> = Vec::new();
+    let mut last: Option<Vec<String>> = None;
     let mut repeated = false;
     for band in sheet.bands(end) {
         let rows = sheet.rows(&fields, &band);
-        if rows == last {
+        if last.as_ref() == Some(&rows) {
             repeated = true;
             continue;
         }
@@ -57,12 +57,12 @@ pub fn draw(rig: &Rig, elements: &[Element]) -> Vec<String> {
             lines.push(format!("{:>13}", "no element"));
         }
         lines.extend(rows.iter().cloned());
-        last = rows;
+        last = Some(rows);
     }
     if repeated {
         lines.push(format!("{:>13} up to byte {}", "the same", end - 1));
     }
-    lines.push(legend(&lines));
+    lines.push(legend(&fields));
     lines
 }
 
@@ -117,8 +117,7 @@ impl Sheet {
                 );
             }
         }
-        let shared =
-            |byte: usize| fields.iter().filter(|field| field.bytes.contains(&byte)).count() > 1;
+        let shared = |byte: usize| is_shared(fields, byte);
         if band.clone().any(shared) {
             let mark = |byte| if shared(byte) { SHARED } else { ' ' };
             let cells: String =
@@ -162,14 +161,22 @@ impl Sheet {
 }
 
 /// What the marks that were used mean.
-fn legend(lines: &[String]) -> String {
-    let used = |mark: char| {
-        lines.iter().any(|line| line.split('"').step_by(2).any(|part| part.contains(mark)))
+fn legend(fields: &[Field]) -> String {
+    let used = |mark: char| match mark {
+        KEPT => fields.iter().any(|field| field.kept > 0),
+        SHARED => (0..end(fields)).any(|byte| is_shared(fields, byte)),
+        mark => fields.iter().any(|field| field.mark == mark && field.kept < field.bytes.len()),
     };
-    let words: Vec<String> = MARKS
-        .iter()
-        .filter(|entry| used(entry.0))
-        .map(|entry| format!("{} {}", entry.0, entry.1))
-        .collect();
-    format!("{:>13}  {}", "", words.join("   "))
+    let marks = MARKS.iter().filter(|entry| used(entry.0));
+    let words: Vec<String> = marks.map(|entry| format!("{} {}", entry.0, entry.1)).collect();
+    format!("{:>13}  {}", "", words.join("   ")).trim_end().to_string()
+}
+
+/// How many bytes the fields reach over.
+fn end(fields: &[Field]) -> usize {
+    fields.iter().map(|field| field.bytes.end).max().unwrap_or(0)
+}
+
+fn is_shared(fields: &[Field], byte: usize) -> bool {
+    fields.iter().filter(|field| field.bytes.contains(&byte)).count() > 1
 }

@@ -83,7 +83,7 @@ fn target(rig: &Rig, entry: &PdoMappingEntry) -> Target {
     match rig.place(entry.index, entry.sub_index) {
         Place::NoObject => Target::NoObject,
         Place::NoSub(_) => Target::NoSubIndex,
-        Place::Count(_) => Target::Count,
+        Place::Count => Target::Count,
         Place::Value(_, value) => match value.of.size() {
             Some(size) => Target::Fixed { value_type: value.of, size },
             None => Target::Text { value_type: value.of, room: value.room },

@@ -32,12 +32,13 @@ fn no_sender(rig: &Rig, channel: u8) -> String {
         };
     }
     let found = match rig.place(index, 1) {
-        Place::NoObject => format!("there is no {:04X}h", index),
-        Place::Value(_, value) => format!("it is {}", words::type_with_article(value.of)),
-        Place::NoSub(object) | Place::Count(object) if object.is_list() => {
-            format!("{:04X}h has no element", index)
+        Place::Value(_, value) => {
+            let of = words::type_with_article(value.of);
+            return format!("no sender: {} is {}, not an Unsigned8", place(index, 1), of);
         }
-        Place::NoSub(_) | Place::Count(_) => format!("{:04X}h is a Variable", index),
+        Place::NoSub(object) if object.is_list() => format!("{:04X}h has no element", index),
+        Place::NoSub(_) => format!("{:04X}h is a Variable", index),
+        Place::NoObject | Place::Count => format!("there is no {:04X}h", index),
     };
     format!("no sender: there is no Unsigned8 at {}: {}", place(index, 1), found)
 }
@@ -57,7 +58,7 @@ fn too_far(elements: &[Element]) -> String {
         .filter_map(|known| known.mapped.as_ref().map(|mapped| (mapped.end, known.number)));
     let (end, element) = ends.max_by_key(|found| found.0).unwrap_or((0, 0));
     format!(
-        "element {} ends behind byte {}, and no payload has more than {} bytes: nothing would be written from there on",
+        "element {} needs a payload of {} bytes, and none has more than {}: every payload stops there",
         element, end, MOST_PAYLOAD_BYTES
     )
 }
@@ -92,7 +93,7 @@ fn of_mapping(rig: &Rig, mapped: &Mapped, fault: Fault) -> String {
             format!("maps onto {}, and {}: it is passed over", at, missing(rig, entry))
         }
         Fault::CountTarget => {
-            format!("maps onto {}, a list's count of elements, which no payload changes", at)
+            format!("maps onto {}, the count of the list's elements, which no payload changes", at)
         }
         Fault::WrongLength => wrong_length(&at, mapped),
     }

@@ -14,12 +14,16 @@ mod faults;
 mod frame;
 mod help;
 mod json;
+mod notes;
 mod progress;
 mod replay;
 mod report;
 mod rig;
 mod table;
 mod words;
+
+#[cfg(test)]
+mod damage_tests;
 
 use args::{Command, Named};
 use console::Console;

@@ -54,7 +54,7 @@ impl Cursor {
 
     /// A 64-bit word in four groups, as 0010 0000 0000 6000h, of which the first was taken already.
     pub fn grouped_word(&mut self, first: &str) -> Option<u64> {
-        let last = self.word_ahead(2)?.strip_suffix(|c| c == 'h' || c == 'H')?;
+        let last = self.word_ahead(2)?.strip_suffix(['h', 'H'])?;
         let groups = [first, self.word_ahead(0)?, self.word_ahead(1)?, last];
         let is_group =
             |group: &&str| group.len() == 4 && group.bytes().all(|c| c.is_ascii_hexdigit());

@@ -70,22 +70,19 @@ impl Parts {
     }
 
     /// Takes a mapping or a mapping word, if an element's line goes on with one.
-    pub fn take_mapping(&mut self, cursor: &mut Cursor) -> Result<bool, Problem> {
-        let word = match cursor.word_ahead(0) {
-            Some(word)
-                if word.starts_with(|c: char| c.is_ascii_digit() || c.is_ascii_hexdigit()) =>
-            {
-                word.to_string()
-            }
-            _ => return Ok(false),
+    pub fn take_mapping(&mut self, cursor: &mut Cursor) -> Result<(), Problem> {
+        let is_group = |word: &str| word.len() == 4 && word.bytes().all(|c| c.is_ascii_hexdigit());
+        let begins = |word: &str| word.starts_with(|c: char| c.is_ascii_digit()) || is_group(word);
+        let word = if is_word(cursor, 1, "at") {
+            mapping(cursor)?.to_u64()
+        } else if cursor.word_ahead(0).map_or(false, begins) {
+            mapping_word(cursor)?
+        } else {
+            return Ok(());
         };
-        if type_of_name(&word).is_some() {
-            return Ok(false);
-        }
         self.of = Some(ValueType::Unsigned64);
-        let bytes = typed_value(cursor, ValueType::Unsigned64)?;
-        self.bytes = Some(bytes);
-        Ok(true)
+        self.bytes = Some(word.to_le_bytes().to_vec());
+        Ok(())
     }
 
     /// The value that the parts say.
@@ -177,11 +174,30 @@ fn room(cursor: &mut Cursor) -> Result<usize, Problem> {
 
 /// A value; of an Unsigned64 also as a mapping.
 fn typed_value(cursor: &mut Cursor, of: ValueType) -> Result<Vec<u8>, Problem> {
-    let mapped = cursor.word_ahead(1).map_or(false, |word| word.eq_ignore_ascii_case("at"));
-    if of == ValueType::Unsigned64 && mapped {
+    if of == ValueType::Unsigned64 && is_word(cursor, 1, "at") {
         return mapping(cursor).map(|entry| entry.to_u64().to_le_bytes().to_vec());
     }
     literal::value(cursor, of)
+}
+
+/// `0010 0000 0000 6000h`, or its 16 digits in one. Fewer would be a mistake: an index alone maps nothing.
+fn mapping_word(cursor: &mut Cursor) -> Result<u64, Problem> {
+    let token = cursor.next();
+    let word = match &token {
+        Some(Token::Word(word)) => {
+            let whole =
+                numbers::hexadecimal(word).filter(|found| found.1 == 16).map(|found| found.0);
+            cursor.grouped_word(word).or(whole)
+        }
+        _ => None,
+    };
+    let wanted =
+        "a mapping, as in 6000h/0 at 0 length 2, or a mapping word, as in 0010 0000 0000 6000h";
+    word.ok_or_else(|| cursor.expected(wanted, token.as_ref()))
+}
+
+fn is_word(cursor: &Cursor, ahead: usize, wanted: &str) -> bool {
+    cursor.word_ahead(ahead).map_or(false, |word| word.eq_ignore_ascii_case(wanted))
 }
 
 /// `6000h/0 at 0 length 2`.

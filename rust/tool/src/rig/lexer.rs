@@ -19,7 +19,7 @@ impl Token {
         match self {
             Token::Word(word) => format!("'{}'", word.escape_debug()),
             Token::Text(text) => format!("the text \"{}\"", text.escape_debug()),
-            Token::Bytes(bytes) => format!("{} bytes in brackets", bytes.len()),
+            Token::Bytes(bytes) => format!("{} in brackets", crate::words::bytes(bytes.len())),
             Token::Equals => "'='".to_string(),
         }
     }

@@ -88,7 +88,7 @@ fn signed(word: &str, size: usize) -> Option<Vec<u8>> {
 
 /// A decimal number, or its bits in hexadecimal.
 fn real(word: &str, size: usize) -> Option<Vec<u8>> {
-    if word.ends_with(|c| c == 'h' || c == 'H') || word.starts_with("0x") {
+    if word.ends_with(['h', 'H']) || word.starts_with("0x") {
         return unsigned(word, size);
     }
     if !word.bytes().all(|c| c.is_ascii_digit() || b"+-.eE".contains(&c)) {
@@ -123,10 +123,9 @@ fn parts(cursor: &mut Cursor, first: &str, units: &[(&str, usize)]) -> Option<Ve
 
 fn separated(word: &str, mark: char, radix: u32, size: usize) -> Option<Vec<u8>> {
     let parts: Vec<&str> = word.split(mark).collect();
-    let digits = |part: &&str| {
-        !part.is_empty() && part.len() <= 3 && part.chars().all(|c| c.is_digit(radix))
-    };
-    if parts.len() != size || !parts.iter().all(|part| digits(part)) {
+    let is_number =
+        |part: &&str| (1..=3).contains(&part.len()) && part.chars().all(|c| c.is_digit(radix));
+    if parts.len() != size || !parts.iter().all(is_number) {
         return None;
     }
     parts.iter().map(|part| u8::from_str_radix(part, radix).ok()).collect()

@@ -9,6 +9,9 @@ mod parser;
 mod problem;
 mod types;
 
+#[cfg(test)]
+mod tests;
+
 use loomfinch::{AccessType, ValueType};
 use std::collections::BTreeMap;
 
@@ -60,7 +63,7 @@ pub enum Place<'a> {
     /// The object has no such sub-index.
     NoSub(&'a Object),
     /// A list's sub-index 0: the count of its elements.
-    Count(&'a Object),
+    Count,
     Value(&'a Object, &'a Value),
 }
 
@@ -102,7 +105,7 @@ impl Rig {
         let value = match (object.kind, sub_index) {
             (Kind::Variable, 0) => object.values.first(),
             (Kind::Variable, _) => None,
-            (_, 0) => return Place::Count(object),
+            (_, 0) => return Place::Count,
             (_, k) => object.values.get(usize::from(k) - 1),
         };
         value.map_or(Place::NoSub(object), |value| Place::Value(object, value))

@@ -2,12 +2,19 @@
 
 /// A number without sign.
 pub fn unsigned(word: &str) -> Option<u64> {
-    let digits = word.replace('_', "");
-    if let Some(hex) = hex_digits(&digits) {
-        return u64::from_str_radix(hex, 16).ok();
+    if let Some((number, _)) = hexadecimal(word) {
+        return Some(number);
     }
+    let digits = word.replace('_', "");
     let decimal = !digits.is_empty() && digits.bytes().all(|c| c.is_ascii_digit());
     digits.parse().ok().filter(|_| decimal)
+}
+
+/// A number that is marked as hexadecimal, and how many digits it has.
+pub fn hexadecimal(word: &str) -> Option<(u64, usize)> {
+    let word = word.replace('_', "");
+    let digits = hex_digits(&word)?;
+    u64::from_str_radix(digits, 16).ok().map(|number| (number, digits.len()))
 }
 
 /// A number with a sign before it, or none.

@@ -1,0 +1,61 @@
+//! What is no fault of a rig, and still worth knowing.
+
+use crate::explain::Element;
+use crate::rig::Rig;
+use crate::words::named_place;
+
+/// Mappings that no channel uses.
+pub fn of_rig(rig: &Rig) -> Vec<String> {
+    let mappings = rig.objects.range(0x1600..=0x16FF).map(|(index, _)| *index);
+    let unused = mappings.filter(|index| !rig.objects.contains_key(&(index - 0x200)));
+    let note = |index| {
+        format!(
+            "nothing uses the mapping {:04X}h: there is no {:04X}h that names its sender",
+            index,
+            index - 0x200
+        )
+    };
+    unused.map(note).collect()
+}
+
+/// Fields of a channel that share bytes, and targets that are mapped twice; each element with the first before it.
+pub fn of_channel(rig: &Rig, channel: u8, elements: &[Element]) -> Vec<String> {
+    let mut notes = Vec::new();
+    for (k, later) in elements.iter().enumerate() {
+        let earlier = &elements[..k];
+        let with = |one: &Element| {
+            format!("channel {}: elements {} and {}", channel, one.number, later.number)
+        };
+        let overlap = earlier.iter().find_map(|one| Some((one, shared(one, later)?)));
+        if let Some((one, bytes)) = overlap {
+            notes.push(format!("{} share {}", with(one), bytes));
+        }
+        let twice = earlier.iter().find_map(|one| Some((one, same_target(one, later)?)));
+        if let Some((one, (index, sub_index))) = twice {
+            let at = named_place(rig, index, sub_index);
+            notes.push(format!("{} both map onto {}: the later one stands", with(one), at));
+        }
+    }
+    notes
+}
+
+/// The bytes of the payload that two elements share.
+fn shared(one: &Element, other: &Element) -> Option<String> {
+    let (one, other) =
+        (one.mapped.as_ref()?.field.as_ref()?, other.mapped.as_ref()?.field.as_ref()?);
+    let (start, end) = (one.start.max(other.start), one.end.min(other.end));
+    match end.checked_sub(start) {
+        None | Some(0) => None,
+        Some(1) => Some(format!("byte {} of the payload", start)),
+        Some(_) => Some(format!("bytes {} to {} of the payload", start, end - 1)),
+    }
+}
+
+/// The place that two elements without fault both map onto.
+fn same_target(one: &Element, other: &Element) -> Option<(u16, u8)> {
+    let place = |element: &Element| {
+        let entry = element.mapped.as_ref()?.entry;
+        Some((entry.index, entry.sub_index)).filter(|_| element.fault.is_none())
+    };
+    place(one).filter(|found| place(other) == Some(*found))
+}

@@ -1,0 +1,66 @@
+//! The program's own help, its versions and its ends.
+
+mod common;
+
+use common::{rig, run};
+use std::io::Read;
+use std::process::{Command, Stdio};
+
+#[test]
+fn help_for_all_and_for_each_command() {
+    let all = run(&["--help"]);
+    assert_eq!((all.status, all.err.as_str()), (0, ""));
+    assert!(all.out.contains("loomfinch check RIG"), "{}", all.out);
+    for command in ["check", "consume", "replay"] {
+        let help = run(&[command, "--help"]);
+        assert_eq!(help.status, 0);
+        assert!(help.out.starts_with(&format!("loomfinch {} RIG", command)), "{}", help.out);
+        assert!(help.out.contains("Example:"), "{}", help.out);
+        assert_eq!(run(&["help", command]).out, help.out);
+    }
+    assert_eq!(run(&["help"]).out, all.out);
+    assert_eq!(run(&["--version"]).out, format!("loomfinch {}\n", env!("CARGO_PKG_VERSION")));
+}
+
+#[test]
+fn the_rig_of_the_help_is_a_rig() {
+    let help = run(&["--help"]).out;
+    let lines =
+        help.lines().skip_while(|line| !line.contains("1400h")).take_while(|line| !line.is_empty());
+    let text: Vec<&str> = lines.collect();
+    let path = common::file("help.rig", text.join("\n").as_bytes());
+    assert_eq!(run(&["check", &path]).out, "channel 0, from node 5, 1 element: pass\n");
+}
+
+#[test]
+fn errors_of_use() {
+    let nothing: [&str; 0] = [];
+    for (arguments, wanted) in [
+        (&nothing[..], "a command is missing"),
+        (&["chekc"], "there is no command 'chekc'"),
+        (&["help", "chekc"], "there is no command 'chekc'"),
+        (&["check"], "the rig file is missing"),
+        (&["check", "a", "b"], "'b' is one argument too many"),
+        (&["check", "--jsn", "a"], "there is no option '--jsn'"),
+        (&["replay", "a"], "the capture is missing"),
+        (&["check", "--", "--json"], "--json: "),
+    ] {
+        let run = run(arguments);
+        assert_eq!((run.status, run.out.as_str()), (2, ""), "{:?}", arguments);
+        assert!(run.err.starts_with(&format!("loomfinch: {}", wanted)), "{}", run.err);
+    }
+}
+
+#[test]
+fn a_closed_pipe_ends_quietly() {
+    let mut child = Command::new(env!("CARGO_BIN_EXE_loomfinch"))
+        .args(["check", "--explain", &rig("faults.rig")])
+        .stdout(Stdio::piped())
+        .stderr(Stdio::piped())
+        .spawn()
+        .unwrap();
+    drop(child.stdout.take());
+    let mut err = String::new();
+    child.stderr.take().unwrap().read_to_string(&mut err).unwrap();
+    assert_eq!((child.wait().unwrap().code(), err.as_str()), (Some(0), ""));
+}
