@@ -96,3 +96,8 @@ pub const MOST_PAYLOADS: usize = 1_024;
 
 /// The most bytes that a save takes: a store of so many is full by the bounds for saves only.
 pub const MOST_STORED: usize = 32_770;
+
+/// The samples of docs/MOVING.md, which are run with the examples here.
+#[cfg(doctest)]
+#[doc = include_str!("../../../docs/MOVING.md")]
+struct Moving;
