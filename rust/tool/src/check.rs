@@ -77,15 +77,15 @@ fn text(
 }
 
 fn explanation(rig: &Rig, channel: &Channel, out: &mut dyn Write) -> Result<(), Failure> {
-    writeln!(out)?;
-    for line in drawing::draw(rig, &channel.elements) {
-        writeln!(out, "{}", line)?;
+    let drawing = drawing::draw(rig, &channel.elements);
+    let words: Vec<String> =
+        channel.elements.iter().map(|element| element_words(rig, element)).collect();
+    if !drawing.is_empty() {
+        writeln!(out, "\n{}", drawing.join("\n"))?;
     }
-    writeln!(out)?;
-    for element in &channel.elements {
-        writeln!(out, "    {}", element_words(rig, element))?;
+    if !words.is_empty() {
+        writeln!(out, "\n    {}\n", words.join("\n    "))?;
     }
-    writeln!(out)?;
     Ok(())
 }
 

@@ -7,6 +7,7 @@ use crate::consume::give;
 use crate::frame::{self, Frame};
 use crate::rig::{self, Rig};
 use crate::words::Style;
+use loomfinch::Checked;
 use std::io::Cursor;
 
 #[path = "../tests/common/captures.rs"]
@@ -65,6 +66,7 @@ fn use_rig(text: &[u8]) -> bool {
             return false;
         }
     };
+    assert_explained(&mut console);
     let mut out = Vec::new();
     for json in [false, true] {
         let rig = crate::args::Named { path: "x".into(), shown: "x".to_string() };
@@ -77,6 +79,28 @@ fn use_rig(text: &[u8]) -> bool {
         assert!(!give(&mut console, received, Style::default()).lines.is_empty());
     }
     true
+}
+
+/// The explained elements have just the faults that the library names.
+fn assert_explained(console: &mut Console) {
+    for (channel, checked) in console.check().unwrap() {
+        let elements = console.elements(channel);
+        let first = elements.iter().find(|element| element.fault.is_some());
+        match checked {
+            Checked::Element { element, fault } => {
+                assert_eq!(
+                    first.map(|found| (found.number, found.fault)),
+                    Some((element, Some(fault)))
+                );
+            }
+            Checked::Pass | Checked::TooFar => assert!(first.is_none() && !elements.is_empty()),
+            Checked::NoList => assert!(elements.is_empty()),
+            Checked::NoSender => {
+                let sender = console.rig.named_sender(channel);
+                assert_ne!(sender.and_then(|sender| console.rig.channel_of(sender)), Some(channel));
+            }
+        }
+    }
 }
 
 #[test]

@@ -1,21 +1,37 @@
 //! What is no fault of a rig, and still worth knowing.
 
 use crate::explain::Element;
-use crate::rig::Rig;
+use crate::rig::{Place, Rig};
 use crate::words::named_place;
+use loomfinch::ValueType;
 
-/// Mappings that no channel uses.
+/// Mappings that no channel uses, and error objects that cannot note every node.
 pub fn of_rig(rig: &Rig) -> Vec<String> {
     let mappings = rig.objects.range(0x1600..=0x16FF).map(|(index, _)| *index);
-    let unused = mappings.filter(|index| !rig.objects.contains_key(&(index - 0x200)));
-    let note = |index| {
+    let unused =
+        mappings.filter(|index| !rig.objects.contains_key(&(index - 0x200))).map(|index| {
+            let record = index - 0x200;
+            format!(
+                "nothing uses the mapping {:04X}h: there is no {:04X}h that names its sender",
+                index, record
+            )
+        });
+    let lists = [0x1C80, 0x1C81].into_iter().filter(|index| rig.objects.contains_key(index));
+    let small = lists.filter(|index| !notes_every_node(rig, *index)).map(|index| {
         format!(
-            "nothing uses the mapping {:04X}h: there is no {:04X}h that names its sender",
-            index,
-            index - 0x200
+            "{:04X}h cannot note every node: that takes a Variable, an OctetString of 32 bytes",
+            index
         )
-    };
-    unused.map(note).collect()
+    });
+    unused.chain(small).collect()
+}
+
+/// Has an error object a bit for each of the nodes 1 to 239?
+fn notes_every_node(rig: &Rig, index: u16) -> bool {
+    match rig.place(index, 0) {
+        Place::Value(_, value) => value.of == ValueType::OctetString && value.bytes.len() >= 30,
+        _ => false,
+    }
 }
 
 /// Fields of a channel that share bytes, and targets that are mapped twice; each element with the first before it.

@@ -3,7 +3,7 @@
 use crate::console::{Change, Consumed, Outcome, Received, Step};
 use crate::explain::{Element, Mapped, Target};
 use crate::faults::last_bytes;
-use crate::rig::Rig;
+use crate::rig::{Rig, Value};
 use crate::words::{self, named_place, Style};
 use loomfinch::{Cause, Unwritten, ValueType};
 
@@ -119,11 +119,20 @@ fn changed(change: &Change, later: &[Step], style: Style) -> String {
     if let Some(step) = later.iter().find(same_target) {
         return format!("written, and again by element {}", step.element.number);
     }
-    let after = words::value(&change.after, style);
+    let after = shown(change.index, &change.after, style);
     if change.before.bytes == change.after.bytes {
         return format!("{}, as before", after);
     }
-    format!("{} -> {}", words::value(&change.before, style), after)
+    format!("{} -> {}", shown(change.index, &change.before, style), after)
+}
+
+/// A value; a mapping's element as the mapping that it says.
+fn shown(index: u16, value: &Value, style: Style) -> String {
+    let mapping = (0x1600..=0x16FF).contains(&index) && value.of == ValueType::Unsigned64;
+    match value.unsigned() {
+        Some(word) if mapping => words::mapping(word),
+        _ => words::value(value, style),
+    }
 }
 
 /// Tells of a field of which only the first bytes are kept.

@@ -1,7 +1,7 @@
 //! Plain words: numbers, places, types and values as a person reads them.
 
 use crate::rig::{is_unsigned, little_endian, Kind, Rig, Value};
-use loomfinch::ValueType;
+use loomfinch::{PdoMappingEntry, ValueType};
 
 /// How values are shown.
 #[derive(Clone, Copy, Debug, Default)]
@@ -84,6 +84,18 @@ pub fn as_type(of: ValueType, bytes: &[u8], milliseconds: bool, style: Style) ->
         MacAddress => joined(bytes, ":", |byte| format!("{:02X}", byte)),
         IpAddress => joined(bytes, ".", |byte| byte.to_string()),
         _ => number.to_string(),
+    }
+}
+
+/// A mapping word as a rig file writes it: `6000h/0 at 0 length 2`.
+pub fn mapping(word: u64) -> String {
+    let entry = PdoMappingEntry::from_u64(word);
+    let target = place(entry.index, entry.sub_index);
+    match entry.field() {
+        Some(field) => format!("{} at {} length {}", target, field.start, field.len()),
+        None => {
+            format!("{} at {} bits length {} bits", target, entry.offset_bits, entry.length_bits)
+        }
     }
 }
 

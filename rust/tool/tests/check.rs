@@ -141,18 +141,16 @@ fn long_payloads_are_drawn_in_bands() {
 
 #[test]
 fn a_rig_without_channels_says_so() {
-    let run = run(&["check", &file("none.rig", b"6000h Variable U8\n1601h Array\n")]);
+    let text = b"6000h Variable U8\n1601h Array\n1C81h Variable U8\n";
+    let run = run(&["check", &file("none.rig", text)]);
     assert_eq!(run.status, 0);
-    assert!(
-        run.out.contains("no channel: the rig has no object from 1400h to 14FFh"),
-        "{}",
-        run.out
-    );
-    assert!(
-        run.out.contains("note: nothing uses the mapping 1601h: there is no 1401h"),
-        "{}",
-        run.out
-    );
+    for wanted in [
+        "no channel: the rig has no object from 1400h to 14FFh",
+        "note: nothing uses the mapping 1601h: there is no 1401h",
+        "note: 1C81h cannot note every node",
+    ] {
+        assert!(run.out.contains(wanted), "{}", run.out);
+    }
 }
 
 #[test]

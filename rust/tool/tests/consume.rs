@@ -188,6 +188,11 @@ fn a_payload_may_change_its_own_mapping() {
         "0160000040000800 07",
         "0160000040000800 09",
     ]);
+    assert!(
+        run.out.contains("1600h/2: 6000h/0 at 8 length 1 -> 6001h/0 at 8 length 1\n"),
+        "{}",
+        run.out
+    );
     assert!(run.out.contains("6000h/0: 0 -> 7\n"), "{}", run.out);
     assert!(run.out.contains("6001h/0: 0 -> 9\n"), "{}", run.out);
 }

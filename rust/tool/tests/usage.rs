@@ -64,3 +64,32 @@ fn a_closed_pipe_ends_quietly() {
     child.stderr.take().unwrap().read_to_string(&mut err).unwrap();
     assert_eq!((child.wait().unwrap().code(), err.as_str()), (Some(0), ""));
 }
+
+/// The lines of a document that are indented as samples, from the first that contains some words on.
+fn sample(document: &str, from: &str) -> Vec<String> {
+    let path = format!("{}/../../docs/{}", env!("CARGO_MANIFEST_DIR"), document);
+    let text = std::fs::read_to_string(path).unwrap();
+    let lines = text.lines().skip_while(|line| !line.contains(from));
+    let sample = lines.take_while(|line| line.is_empty() || line.starts_with("    "));
+    sample.map(|line| line.strip_prefix("    ").unwrap_or("").to_string()).collect()
+}
+
+#[test]
+fn the_rig_of_the_document_is_a_rig() {
+    let text = sample("RIG.md", "# A winch, node 5").join("\n");
+    let path = common::file("document.rig", text.as_bytes());
+    assert_eq!(run(&["check", &path]).out, "channel 0, from node 5, 2 elements: pass\n");
+}
+
+#[test]
+fn the_document_shows_what_is_printed() {
+    for command in ["$ loomfinch check", "$ loomfinch consume"] {
+        let lines = sample("TOOL.md", command);
+        let arguments: Vec<String> = lines[0]
+            .split_whitespace()
+            .skip(2)
+            .map(|word| word.replace("rigs/ramp.rig", &rig("ramp.rig")))
+            .collect();
+        assert_eq!(run(&arguments).out.trim_end(), lines[1..].join("\n").trim_end());
+    }
+}
