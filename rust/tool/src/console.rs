@@ -2,6 +2,7 @@
 //! what a payload changed can be told.
 
 use crate::explain::{self, Element};
+use crate::memory::Memory;
 use crate::rig::{Kind, Object, Place, Problem, Rig, Value};
 use loomfinch::{
     decode, Capacity, Cause, Checked, Dictionary, Event, EventRecord, NodeId, ObjectEntry,
@@ -12,6 +13,7 @@ use std::collections::HashMap;
 pub struct Console {
     pub rig: Rig,
     dictionary: Dictionary,
+    memory: Memory,
     /// The explained mappings of channels, for as long as they stay.
     explained: HashMap<u8, Vec<Element>>,
 }
@@ -80,7 +82,8 @@ impl Console {
             };
             dictionary.insert(*index, entry(object).map_err(refused)?).map_err(refused)?;
         }
-        Ok(Console { rig, dictionary, explained: HashMap::new() })
+        let memory = Memory::of(&rig);
+        Ok(Console { rig, dictionary, memory, explained: HashMap::new() })
     }
 
     /// What the library's check says of each channel that has a record.
@@ -89,27 +92,25 @@ impl Console {
     }
 
     pub fn consume(&mut self, received: Received) -> Result<Consumed, Refusal> {
-        let node = NodeId(received.sender);
-        let version = PDOVersion(received.version);
+        let (node, version) = (NodeId(received.sender), PDOVersion(received.version));
         let channel = self.rig.channel_of(received.sender);
-        let elements = channel.map(|channel| self.elements(channel));
-        let events: Vec<EventRecord> = self
-            .dictionary
-            .consume_pdo_payload(node, received.payload, version, received.ready)?
-            .collect();
-        let (channel, elements) = match (channel, elements) {
+        let answer =
+            self.dictionary.consume_pdo_payload(node, received.payload, version, received.ready)?;
+        let events: Vec<EventRecord> = answer.collect();
+        let channel = match channel {
             _ if !received.ready => return Ok(Consumed::NotReady),
-            (Some(channel), Some(elements)) => (channel, elements),
-            _ => return Ok(Consumed::NoChannel),
+            None => return Ok(Consumed::NoChannel),
+            Some(channel) => channel,
         };
         if events.iter().any(|record| record.event == Event::MapVersion) {
             let expected = self.rig.record_u8(0x1400 + u16::from(channel), 2).unwrap_or(0);
-            let noted = self.noted(WRONG_VERSIONS)?;
+            let noted = self.noted(WRONG_VERSIONS);
             return Ok(Consumed::WrongVersion { channel, expected, noted });
         }
-        let steps = self.steps(elements, &events)?;
+        let elements = self.elements(channel);
+        let steps = self.steps(elements, &events);
         let short = events.iter().any(|record| record.event == Event::PayloadShort(Cause::Frame));
-        let noted = if short { self.noted(SHORT_PAYLOADS)? } else { None };
+        let noted = if short { self.noted(SHORT_PAYLOADS) } else { None };
         Ok(Consumed::Taken { channel, steps, noted })
     }
 
@@ -121,11 +122,7 @@ impl Console {
 
     /// Each element with its outcome. The old values are taken before the first is read again, since two elements may
     /// have one target.
-    fn steps(
-        &mut self,
-        elements: Vec<Element>,
-        events: &[EventRecord],
-    ) -> Result<Vec<Step>, Refusal> {
+    fn steps(&mut self, elements: Vec<Element>, events: &[EventRecord]) -> Vec<Step> {
         let before: Vec<Option<Value>> =
             elements.iter().map(|element| self.stored_at(element)).collect();
         let mut stopped = false;
@@ -137,12 +134,12 @@ impl Console {
                 Some(Event::PayloadShort(cause)) => Outcome::Stopped(cause),
                 Some(Event::Server { .. }) | Some(Event::Client { .. }) => Outcome::HandedOn,
                 Some(Event::WriteRefused(why)) => Outcome::Refused(why),
-                Some(Event::MapVersion) | None => self.quiet_outcome(&element, old)?,
+                Some(Event::MapVersion) | None => self.quiet_outcome(&element, old),
             };
             stopped = stopped || matches!(outcome, Outcome::Stopped(_));
             steps.push(Step { element, outcome });
         }
-        Ok(steps)
+        steps
     }
 
     /// The value that an element's field would be written to.
@@ -155,37 +152,45 @@ impl Console {
     }
 
     /// The outcome of an element that was reached and gave no event.
-    fn quiet_outcome(&mut self, element: &Element, old: Option<Value>) -> Result<Outcome, Refusal> {
-        match (&element.mapped, old) {
-            (Some(mapped), Some(before)) => {
-                let entry = mapped.entry;
-                Ok(Outcome::Written(self.read_again(entry.index, entry.sub_index, before)?))
-            }
-            _ => Ok(Outcome::PassedOver),
-        }
+    fn quiet_outcome(&mut self, element: &Element, old: Option<Value>) -> Outcome {
+        let entry = element.mapped.as_ref().map(|mapped| mapped.entry).zip(old);
+        let change =
+            entry.and_then(|(entry, old)| self.read_again(entry.index, entry.sub_index, old));
+        change.map_or(Outcome::PassedOver, Outcome::Written)
     }
 
     /// Reads a value from the dictionary, and brings the rig's copy up to date.
-    fn read_again(&mut self, index: u16, sub_index: u8, before: Value) -> Result<Change, Refusal> {
-        let bytes = self.dictionary.read(index, sub_index)?.serialize();
-        if let Some(value) = self.rig.value_mut(index, sub_index) {
-            value.bytes = bytes.clone();
-        }
+    fn read_again(&mut self, index: u16, sub_index: u8, before: Value) -> Option<Change> {
+        let object = self.rig.objects.get_mut(&index)?;
+        let place = object.value_place(sub_index)?;
+        let value = object.values.get_mut(place)?;
+        value.bytes = self.memory.read(self.dictionary.parts(), index, place, value.of)?;
         if (0x1600..=0x16FF).contains(&index) {
             self.explained.remove(&(index as u8));
         }
-        let after = Value { bytes, ..before.clone() };
-        Ok(Change { index, sub_index, before, after })
+        Some(Change { index, sub_index, before, after: value.clone() })
     }
 
     /// The change of an error object, where the rig has one and it changed.
-    fn noted(&mut self, index: u16) -> Result<Option<Change>, Refusal> {
+    fn noted(&mut self, index: u16) -> Option<Change> {
         let before = match self.rig.place(index, 0) {
             Place::Value(_, value) => value.clone(),
-            _ => return Ok(None),
+            _ => return None,
         };
         let change = self.read_again(index, 0, before)?;
-        Ok(Some(change).filter(|change| change.before.bytes != change.after.bytes))
+        Some(change).filter(|change| change.before.bytes != change.after.bytes)
+    }
+
+    /// Holds each value of the rig's copy against what the library reads.
+    #[cfg(test)]
+    pub fn assert_up_to_date(&self) {
+        for (index, object) in &self.rig.objects {
+            for (value, sub_index) in object.values.iter().zip(u8::from(object.is_list())..) {
+                let read = self.dictionary.read(*index, sub_index).unwrap();
+                assert_eq!(read.value_type(), value.of);
+                assert_eq!(read.serialize(), value.bytes, "{:04X}h/{}", index, sub_index);
+            }
+        }
     }
 }
 

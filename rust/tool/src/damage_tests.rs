@@ -2,12 +2,13 @@
 
 use crate::capture::Capture;
 use crate::check;
-use crate::console::{Console, Received};
+use crate::console::{Console, Consumed, Outcome, Received};
 use crate::consume::give;
 use crate::frame::{self, Frame};
 use crate::rig::{self, Rig};
 use crate::words::Style;
 use loomfinch::Checked;
+use std::collections::HashMap;
 use std::io::Cursor;
 
 #[path = "../tests/common/captures.rs"]
@@ -196,4 +197,72 @@ fn damaged_captures() {
             use_capture(&mut console, &damaged);
         }
     }
+}
+
+/// A rig of random objects, and a channel of random elements onto them and beside them.
+fn random_rig(chance: &mut Chance) -> String {
+    let mut text = "1400h Record\n1 U8 = 5\n1600h Array\n".to_string();
+    for element in 1..=1 + chance.below(8) {
+        let index = match chance.below(12) {
+            0 => 0x1200,
+            1 => 0x1600,
+            2 => 0x1C81,
+            _ => 0x6000 + chance.below(6),
+        };
+        let target = format!("{:04X}h/{}", index, chance.below(3));
+        let unit = if chance.below(20) == 0 { "bits" } else { "bytes" };
+        let (offset, length) = (chance.below(12), [1, 2, 4, 8, chance.below(12)][chance.below(5)]);
+        text += &format!("{} {} at {} {} length {}\n", element, target, offset, unit, length);
+    }
+    for index in 0..5 {
+        let of = loomfinch::ValueType::from_number(chance.below(21) as u8).unwrap();
+        let value = format!("{} room {}", of.name(), chance.below(10));
+        match chance.below(2) {
+            0 => text += &format!("{:04X}h Variable {}\n", 0x6000 + index, value),
+            _ => text += &format!("{:04X}h Array\n1..2 {}\n", 0x6000 + index, value),
+        }
+    }
+    text + "1C81h Variable OctetString = [00 * 32]\n"
+}
+
+/// What was told to be written is what the payload's fields say, and what the library reads.
+fn assert_written(console: &mut Console, payload: &[u8]) -> usize {
+    let consumed = console.consume(Received { sender: 5, version: 0, ready: true, payload });
+    let steps = match consumed {
+        Ok(Consumed::Taken { steps, .. }) => steps,
+        _ => panic!("the payload was not taken"),
+    };
+    console.assert_up_to_date();
+    let mut written = HashMap::new();
+    for step in &steps {
+        if let (Outcome::Written(change), Some(mapped)) = (&step.outcome, &step.element.mapped) {
+            let field = &payload[mapped.field.clone().unwrap()];
+            let kept = change.after.of.size().unwrap_or(field.len());
+            written.insert((change.index, change.sub_index), (field[..kept].to_vec(), change));
+        }
+    }
+    for ((index, _), (field, change)) in &written {
+        // A short payload sets a bit in 1C81h after it was written.
+        assert!(*index == 0x1C81 || change.after.bytes == *field, "{:04X}h", index);
+    }
+    written.len()
+}
+
+#[test]
+fn what_is_told_was_written() {
+    let mut chance = Chance(0x1C81);
+    let mut written = 0;
+    for _ in 0..400 {
+        let text = random_rig(&mut chance);
+        let rig = rig::parse(text.as_bytes())
+            .unwrap_or_else(|problem| panic!("{}\n{}", problem.text, text));
+        let mut console = Console::new(rig).unwrap_or_else(|problem| panic!("{}", problem.text));
+        assert_explained(&mut console);
+        for _ in 0..3 {
+            let payload: Vec<u8> =
+                (0..chance.below(24)).map(|_| chance.next() as u8 >> 1).collect();
+            written += assert_written(&mut console, &payload);
+        }
+    }
+    assert!(written > 300, "only {} fields were written", written);
 }

@@ -72,6 +72,15 @@ impl Object {
         self.kind != Kind::Variable
     }
 
+    /// Which of its values a sub-index names, from 0, if there are so many.
+    pub fn value_place(&self, sub_index: u8) -> Option<usize> {
+        match (self.is_list(), usize::from(sub_index)) {
+            (false, 0) => Some(0),
+            (true, k) if k > 0 => Some(k - 1),
+            _ => None,
+        }
+    }
+
     /// How many values the object takes in the dictionary, its default counted.
     pub fn value_count(&self) -> usize {
         self.values.len() + usize::from(self.default.is_some())
@@ -102,23 +111,11 @@ impl Rig {
             Some(object) => object,
             None => return Place::NoObject,
         };
-        let value = match (object.kind, sub_index) {
-            (Kind::Variable, 0) => object.values.first(),
-            (Kind::Variable, _) => None,
-            (_, 0) => return Place::Count,
-            (_, k) => object.values.get(usize::from(k) - 1),
-        };
-        value.map_or(Place::NoSub(object), |value| Place::Value(object, value))
-    }
-
-    pub fn value_mut(&mut self, index: u16, sub_index: u8) -> Option<&mut Value> {
-        let object = self.objects.get_mut(&index)?;
-        let place = match (object.kind, sub_index) {
-            (Kind::Variable, 0) => 0,
-            (Kind::Variable, _) | (_, 0) => return None,
-            (_, k) => usize::from(k) - 1,
-        };
-        object.values.get_mut(place)
+        match object.value_place(sub_index).and_then(|place| object.values.get(place)) {
+            Some(value) => Place::Value(object, value),
+            None if object.is_list() && sub_index == 0 => Place::Count,
+            None => Place::NoSub(object),
+        }
     }
 
     /// The name of an object, empty where it has none.
