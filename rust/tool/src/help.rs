@@ -48,8 +48,9 @@ Example:
   $ loomfinch check rigs/ramp.rig
   channel 0, from node 5, 2 elements: FAULT: element 1 maps 4 bytes onto
   6000h/0 \"Ramp time\", an Unsigned16 of 2 bytes: the last 2 bytes would be lost
+  note: channel 0: elements 1 and 2 share bytes 2 to 3 of the payload
 
-(on one line). So a ramp of 90000 ms would be stored as 24464.
+So a ramp of 90000 ms would be stored as 24464 ms.
 
 Exit status: 0 all channels pass, 1 some channel has a fault, 2 the command or
 the rig file could not be understood.
@@ -76,6 +77,11 @@ Numbers are decimal (16) or hexadecimal (10h, 0x10).
 Example:
 
   $ loomfinch consume rigs/ramp.rig --from 5 --version 12h 905F01000000
+  payload 1: 6 bytes from node 5, version 12h
+    6000h/0 \"Ramp time\": 0 ms = 0.000 s -> 24464 ms = 24.464 s
+      CUT: element 1's field is 90 5F 01 00, 90000 ms = 90.000 s; the last 2
+      bytes, 01 00, are lost
+    6200h/3 \"Move times\": 0 ms = 0.000 s -> 1 ms = 0.001 s
 
 Exit status: 0 all was written, 1 something was refused, cut or passed over, 2
 the command or the rig file could not be understood.
@@ -98,7 +104,13 @@ for the standard input.
 
 Example:
 
-  $ loomfinch replay rigs/ramp.rig rigs/rehearsal.pcap
+  $ loomfinch replay rigs/mended.rig rigs/rehearsal.pcap --quiet
+  sender  frames  not ready  fields written  stops  first fault
+       5       7          1               6      2  No. 7: stopped at element 1
+  (6000h/0 \"Ramp time\"): it needs 4 bytes of payload, and 3 came
+       9       1          0               0      0  none: no channel takes this
+  sender
+  other frames: 1 EtherType 0800h, 1 SoC
 
 Exit status: 0 all was written, 1 something was refused, cut or passed over, 2
 the command or a file could not be understood; a capture that is damaged is

@@ -32,6 +32,26 @@ fn the_rig_of_the_help_is_a_rig() {
     assert_eq!(run(&["check", &path]).out, "channel 0, from node 5, 1 element: pass\n");
 }
 
+/// The words of a text, however it is broken into lines.
+fn words_of(text: &str) -> Vec<&str> {
+    text.split_whitespace().collect()
+}
+
+#[test]
+fn the_help_shows_what_is_printed() {
+    for command in ["check", "consume", "replay"] {
+        let help = run(&["help", command]).out;
+        let example = help.split("\n  $ loomfinch ").nth(1).unwrap();
+        let (line, printed) = example.split_once('\n').unwrap();
+        let arguments: Vec<String> = line
+            .split_whitespace()
+            .map(|word| word.strip_prefix("rigs/").map_or(word.to_string(), rig))
+            .collect();
+        let wanted = words_of(printed.split("\n\n").next().unwrap());
+        assert_eq!(words_of(&run(&arguments).out), wanted, "{}", command);
+    }
+}
+
 #[test]
 fn errors_of_use() {
     let nothing: [&str; 0] = [];
