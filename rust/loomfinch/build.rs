@@ -6,7 +6,9 @@ use std::path::{Path, PathBuf};
 use std::process::{exit, Command};
 
 fn main() {
-    let repository = Path::new(env!("CARGO_MANIFEST_DIR")).join("../..");
+    let package = Path::new(env!("CARGO_MANIFEST_DIR"));
+    let repository =
+        package.ancestors().nth(2).expect("the package is rust/loomfinch of the repository");
     let folder = match env::var_os("LOOMFINCH_LIB") {
         Some(folder) => PathBuf::from(folder),
         None => repository.join("target/staticlib"),
@@ -16,7 +18,7 @@ fn main() {
     println!("cargo:rerun-if-changed={}", library.display());
     if !library.is_file() {
         stop(&format!(
-            "{} is missing: make it with `rt staticlib loomfinch`, or name its folder in LOOMFINCH_LIB",
+            "{} is missing: make it with `rt staticlib loomfinch`, or name its folder in LOOMFINCH_LIB, by an absolute path",
             library.display()
         ));
     }
@@ -24,7 +26,7 @@ fn main() {
         println!("cargo:rustc-link-search=native={}", folder.display());
         println!("cargo:rustc-link-lib=static=loomfinch");
     } else {
-        build_worker(&repository, &library);
+        build_worker(repository, &library);
     }
 }
 

@@ -61,6 +61,7 @@ impl Dictionary {
             &mut consumed,
             &mut count,
         ))?;
+        debug_assert_eq!(consumed, payloads.len() as u64);
         Ok(Events::of(self.events[..fit(count)].to_vec()))
     }
 

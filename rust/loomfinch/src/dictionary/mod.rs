@@ -85,6 +85,11 @@ impl Dictionary {
         &self.store
     }
 
+    /// The dictionary's store, to be changed: zeros keep nothing, and an empty one is none.
+    pub fn store_mut(&mut self) -> &mut Vec<u8> {
+        &mut self.store
+    }
+
     /// How much of its capacity the dictionary uses.
     pub fn used(&self) -> Capacity {
         self.parts.used()

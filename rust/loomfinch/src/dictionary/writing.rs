@@ -2,6 +2,7 @@
 
 use super::Dictionary;
 use crate::answer::done;
+use crate::parts::Parts;
 use crate::refusal::Refusal;
 use crate::sys;
 use crate::value::ObjectValue;
@@ -52,10 +53,7 @@ impl Dictionary {
         sub_index: u8,
         value: ObjectValue,
     ) -> Result<Written, Refusal> {
-        let mut store = std::mem::take(&mut self.store);
-        let written = self.write_with_store(index, sub_index, value, &mut store);
-        self.store = store;
-        written
+        write(&mut self.parts, &mut self.store, index, sub_index, &value)
     }
 
     /// Writes a value as [`write`](Dictionary::write) does, with a lent store instead of the dictionary's own.
@@ -66,12 +64,7 @@ impl Dictionary {
         value: ObjectValue,
         store: &mut [u8],
     ) -> Result<Written, Refusal> {
-        let type_number = value.value_type().number().into();
-        let data = value.serialize();
-        match sys::write(&mut self.parts, store, index, sub_index, type_number, &data) {
-            RESTORE_REQUESTED => Ok(Written::RestoreRequested),
-            answer => done(answer).map(|()| Written::Done),
-        }
+        write(&mut self.parts, store, index, sub_index, &value)
     }
 
     /// Saves a list into the dictionary's own store, as "save" written to 1010h does: list 1 is everything, 2 the indices
@@ -126,6 +119,21 @@ impl Dictionary {
     }
 }
 
+fn write(
+    parts: &mut Parts,
+    store: &mut [u8],
+    index: u16,
+    sub_index: u8,
+    value: &ObjectValue,
+) -> Result<Written, Refusal> {
+    let type_number = value.value_type().number().into();
+    match sys::write(parts, store, index, sub_index, type_number, &value.serialize()) {
+        RESTORE_REQUESTED => Ok(Written::RestoreRequested),
+        answer => done(answer).map(|()| Written::Done),
+    }
+}
+
+/// What is written to save.
 fn signature() -> ObjectValue {
     ObjectValue::VisibleString("save".to_owned())
 }

@@ -101,6 +101,15 @@ fn empty_strings_are_values() {
 }
 
 #[test]
+fn what_is_behind_an_encoding_stays() {
+    for (value, encoding) in samples() {
+        let mut out = vec![0xAA; encoding.len() + 2];
+        assert_eq!(encode(&value, &mut out), Ok(encoding.len()));
+        assert_eq!(out, [&encoding[..], &[0xAA, 0xAA]].concat());
+    }
+}
+
+#[test]
 fn a_real_keeps_its_bits() {
     let signalling = 0x7F80_0001_u32;
     let value = decode(ValueType::Real32, &signalling.to_le_bytes());

@@ -133,15 +133,18 @@ fn payload(start: usize, len: usize, node: u8) -> Payload {
 #[test]
 fn a_cycle_is_its_payloads_in_turn() -> Result<(), Refusal> {
     let delivered = [&MOVE[..], &[1, 0], &[2, 0, 3, 0, 0, 0]].concat();
-    let payloads = [payload(0, 6, 5), payload(6, 2, 5), payload(8, 6, 7), payload(8, 6, 5)];
+    let unready = Payload { is_ready: false, ..payload(0, 6, 5) };
+    let payloads =
+        [payload(0, 6, 5), payload(6, 2, 5), payload(8, 6, 5), payload(0, 6, 7), unready];
     let mut rig = rig(16)?;
     let mut apart = rig.clone();
     let events: Vec<_> = rig.consume_cycle(&delivered, &payloads)?.collect();
     let short = Event::PayloadShort(Cause::Frame);
     assert_eq!(events, [EventRecord { payload: 1, element: Some(2), event: short }]);
     for payload in payloads {
-        let bytes = &delivered[payload.start..][..payload.len];
-        apart.consume_pdo_payload(payload.source_node_id, bytes, VERSION, true)?;
+        let Payload { start, len, source_node_id, is_ready, .. } = payload;
+        let bytes = &delivered[start..][..len];
+        apart.consume_pdo_payload(source_node_id, bytes, VERSION, is_ready)?;
     }
     assert_eq!(rig.parts(), apart.parts());
     assert_eq!((rig.read_u16(0x6000, 0)?, rig.read_u32(0x6200, 3)?), (2, 3));

@@ -31,6 +31,10 @@ fn an_owned_store_keeps_what_was_saved() -> Result<(), Refusal> {
     assert_eq!(dictionary.read_u16(0x6000, 0)?, 2_500);
     assert_eq!(dictionary.read_str(0x6001, 0)?, "Act I");
     assert_eq!(dictionary.read_str(0x6002, 1)?, "!");
+    dictionary.store_mut().fill(0);
+    spoil(&mut dictionary)?;
+    dictionary.restore_power_on_values(0x0000, 0xFFFF)?;
+    assert_eq!(dictionary.read_u16(0x6000, 0)?, 0);
     Ok(())
 }
 
