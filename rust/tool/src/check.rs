@@ -147,7 +147,7 @@ fn json(file: &str, rig: &Rig, channels: &[Channel], explain: bool) -> Json {
 
 fn channel_json(rig: &Rig, channel: &Channel, explain: bool) -> Json {
     let fault = Json::Object(vec![
-        ("name", Json::text(answer_name(channel.checked))),
+        ("name", Json::text(channel.checked.name())),
         ("number", Json::number(channel.checked.number())),
         ("element", Json::or_null(channel.checked.element().map(Json::number))),
         ("text", Json::text(channel.sentence.as_str())),
@@ -163,13 +163,6 @@ fn channel_json(rig: &Rig, channel: &Channel, explain: bool) -> Json {
         members.push(("mapping", Json::List(channel.elements.iter().map(element_json).collect())));
     }
     Json::Object(members)
-}
-
-fn answer_name(checked: Checked) -> &'static str {
-    match checked {
-        Checked::Element { fault, .. } => fault.name(),
-        other => other.name(),
-    }
 }
 
 fn element_json(element: &Element) -> Json {

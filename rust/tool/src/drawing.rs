@@ -12,7 +12,7 @@ struct Field {
     bytes: Range<usize>,
     /// How many of its first bytes are kept.
     kept: usize,
-    /// The mark of bytes that are not.
+    /// The sign of those that are not.
     mark: char,
     target: String,
 }
@@ -23,7 +23,7 @@ const HANDED_ON: char = 's';
 const NOT_WHOLE: char = '?';
 const SHARED: char = '~';
 
-const MARKS: [(char, &str); 5] = [
+const SIGNS: [(char, &str); 5] = [
     (KEPT, "kept"),
     (LOST, "lost"),
     (HANDED_ON, "handed on to SDO"),
@@ -31,46 +31,41 @@ const MARKS: [(char, &str); 5] = [
     (SHARED, "in more than one element"),
 ];
 
-/// The drawing's lines; none where no element is a mapping word.
+/// The drawing's lines; none where no element takes a byte.
 pub fn draw(rig: &Rig, elements: &[Element]) -> Vec<String> {
     let fields: Vec<Field> = elements.iter().filter_map(|element| field(rig, element)).collect();
-    let end = end(&fields);
     if fields.is_empty() {
         return Vec::new();
     }
-    let sheet = Sheet::new(end);
+    let sheet = Sheet::new(&fields);
     let mut lines = Vec::new();
     let mut last: Option<Vec<String>> = None;
-    let mut repeated = false;
-    for band in sheet.bands(end) {
-        let rows = sheet.rows(&fields, &band);
+    let mut same_until = None;
+    for band in sheet.bands() {
+        let rows = sheet.rows(&band);
         if last.as_ref() == Some(&rows) {
-            repeated = true;
+            same_until = Some(band.end - 1);
             continue;
         }
-        if repeated {
-            lines.push(format!("{:>13} up to byte {}", "the same", band.start - 1));
-        }
-        repeated = false;
+        lines.extend(same_until.take().map(same));
         lines.push(sheet.header(&band));
-        if rows.is_empty() {
-            lines.push(format!("{:>13}", "no element"));
-        }
         lines.extend(rows.iter().cloned());
         last = Some(rows);
     }
-    if repeated {
-        lines.push(format!("{:>13} up to byte {}", "the same", end - 1));
-    }
-    lines.push(legend(&fields));
+    lines.extend(same_until.map(same));
+    lines.push(sheet.legend());
     lines
 }
 
+fn same(until: usize) -> String {
+    format!("{:>13}  up to byte {}", "the same", until)
+}
+
+/// An element's field; none where it is no mapping word, or empty.
 fn field(rig: &Rig, element: &Element) -> Option<Field> {
     let mapped = element.mapped.as_ref()?;
     let entry = mapped.entry;
-    let start = usize::from(entry.offset_bits) / 8;
-    let bytes = start..mapped.end.max(start);
+    let bytes = usize::from(entry.offset_bits) / 8..mapped.end;
     let (kept, mark) = match (element.fault, mapped.target) {
         (None, _) => (bytes.len(), LOST),
         (Some(Fault::Misaligned), _) => (0, NOT_WHOLE),
@@ -81,102 +76,95 @@ fn field(rig: &Rig, element: &Element) -> Option<Field> {
         (Some(_), _) => (0, LOST),
     };
     let label = format!("element {}", element.number);
-    Some(Field { label, bytes, kept, mark, target: named_place(rig, entry.index, entry.sub_index) })
+    let target = named_place(rig, entry.index, entry.sub_index);
+    Some(Field { label, bytes, kept, mark, target }).filter(|_| entry.length_bits > 0)
 }
 
-/// How wide a byte is drawn, and how many stand in a band.
-struct Sheet {
+/// How the fields are laid out: bands of bytes, each byte so many signs wide.
+struct Sheet<'a> {
+    fields: &'a [Field],
+    /// How many bytes the fields reach over.
+    end: usize,
     cell: usize,
     across: usize,
 }
 
-impl Sheet {
-    fn new(end: usize) -> Sheet {
+impl Sheet<'_> {
+    fn new(fields: &[Field]) -> Sheet<'_> {
+        let end = fields.iter().map(|field| field.bytes.end).max().unwrap_or(0);
         let digits = end.saturating_sub(1).to_string().len();
-        Sheet { cell: (digits + 1).max(3), across: if digits > 2 { 10 } else { 16 } }
+        Sheet { fields, end, cell: (digits + 1).max(3), across: if digits > 2 { 10 } else { 16 } }
     }
 
-    fn bands(&self, end: usize) -> Vec<Range<usize>> {
-        let across = self.across;
-        (0..end.max(1)).step_by(across).map(|from| from..(from + across).min(end.max(1))).collect()
+    fn bands(&self) -> impl Iterator<Item = Range<usize>> {
+        let (end, across) = (self.end, self.across);
+        (0..end).step_by(across).map(move |from| from..(from + across).min(end))
     }
 
     fn header(&self, band: &Range<usize>) -> String {
         let numbers: String = band.clone().map(|byte| format!("{:^1$}", byte, self.cell)).collect();
-        format!("{:>13}  {}", "byte", numbers).trim_end().to_string()
+        row("byte", &numbers, "")
     }
 
-    fn rows(&self, fields: &[Field], band: &Range<usize>) -> Vec<String> {
+    fn rows(&self, band: &Range<usize>) -> Vec<String> {
+        let touching =
+            |field: &&Field| field.bytes.start < band.end && band.start < field.bytes.end;
         let mut rows = Vec::new();
-        for field in fields {
-            if let Some(cells) = self.cells(field, band) {
-                let target =
-                    if band.contains(&field.bytes.start) { field.target.as_str() } else { "" };
-                rows.push(
-                    format!("{:>13}  {}  {}", field.label, cells, target).trim_end().to_string(),
-                );
-            }
+        for field in self.fields.iter().filter(touching) {
+            let target = if band.contains(&field.bytes.start) { field.target.as_str() } else { "" };
+            rows.push(row(&field.label, &self.cells(field, band), target));
         }
-        let shared = |byte: usize| is_shared(fields, byte);
-        if band.clone().any(shared) {
-            let mark = |byte| if shared(byte) { SHARED } else { ' ' };
+        if rows.is_empty() {
+            rows.push(row("no element", "", ""));
+        }
+        if band.clone().any(|byte| self.is_shared(byte)) {
+            let sign = |byte| if self.is_shared(byte) { SHARED } else { ' ' };
             let cells: String =
-                band.clone().map(|byte| mark(byte).to_string().repeat(self.cell)).collect();
-            rows.push(format!("{:>13}  {}", "overlap", cells).trim_end().to_string());
+                band.clone().map(|byte| sign(byte).to_string().repeat(self.cell)).collect();
+            rows.push(row("overlap", &cells, ""));
         }
         rows
     }
 
-    /// A field's part of a band; none where it has none.
-    fn cells(&self, field: &Field, band: &Range<usize>) -> Option<String> {
-        let bytes = &field.bytes;
-        let empty_here =
-            bytes.is_empty() && (band.contains(&bytes.start) || bytes.start == band.end);
-        if !empty_here && (bytes.is_empty() || bytes.end <= band.start || bytes.start >= band.end) {
-            return None;
-        }
+    /// A field's part of a band that it touches.
+    fn cells(&self, field: &Field, band: &Range<usize>) -> String {
         let mut cells: Vec<char> = Vec::new();
         for byte in band.clone() {
-            let mark = match byte {
-                byte if !bytes.contains(&byte) => ' ',
-                byte if byte - bytes.start < field.kept => KEPT,
-                _ => field.mark,
+            let sign = match byte.checked_sub(field.bytes.start) {
+                Some(place) if place < field.kept => KEPT,
+                Some(place) if place < field.bytes.len() => field.mark,
+                _ => ' ',
             };
-            cells.extend(std::iter::repeat(mark).take(self.cell));
+            cells.extend(std::iter::repeat(sign).take(self.cell));
         }
-        if empty_here {
-            cells.push(' ');
-            cells[(bytes.start - band.start) * self.cell] = '|';
-            cells.truncate(self.cell * band.len().max(1));
-            return Some(cells.into_iter().collect());
+        if band.contains(&field.bytes.start) {
+            cells[(field.bytes.start - band.start) * self.cell] = '[';
         }
-        if band.contains(&bytes.start) {
-            cells[(bytes.start - band.start) * self.cell] = '[';
+        if field.bytes.end <= band.end {
+            cells[(field.bytes.end - band.start) * self.cell - 1] = ']';
         }
-        if bytes.end <= band.end {
-            cells[(bytes.end - band.start) * self.cell - 1] = ']';
-        }
-        Some(cells.into_iter().collect())
+        cells.into_iter().collect()
+    }
+
+    fn is_shared(&self, byte: usize) -> bool {
+        self.fields.iter().filter(|field| field.bytes.contains(&byte)).count() > 1
+    }
+
+    /// What the signs that were used mean.
+    fn legend(&self) -> String {
+        let used = |sign: char| match sign {
+            KEPT => self.fields.iter().any(|field| field.kept > 0),
+            SHARED => (0..self.end).any(|byte| self.is_shared(byte)),
+            mark => {
+                self.fields.iter().any(|field| field.mark == mark && field.kept < field.bytes.len())
+            }
+        };
+        let signs = SIGNS.iter().filter(|entry| used(entry.0));
+        let words: Vec<String> = signs.map(|entry| format!("{} {}", entry.0, entry.1)).collect();
+        row("", &words.join("   "), "")
     }
 }
 
-/// What the marks that were used mean.
-fn legend(fields: &[Field]) -> String {
-    let used = |mark: char| match mark {
-        KEPT => fields.iter().any(|field| field.kept > 0),
-        SHARED => (0..end(fields)).any(|byte| is_shared(fields, byte)),
-        mark => fields.iter().any(|field| field.mark == mark && field.kept < field.bytes.len()),
-    };
-    let marks = MARKS.iter().filter(|entry| used(entry.0));
-    let words: Vec<String> = marks.map(|entry| format!("{} {}", entry.0, entry.1)).collect();
-    format!("{:>13}  {}", "", words.join("   ")).trim_end().to_string()
-}
-
-/// How many bytes the fields reach over.
-fn end(fields: &[Field]) -> usize {
-    fields.iter().map(|field| field.bytes.end).max().unwrap_or(0)
-}
-
-fn is_shared(fields: &[Field], byte: usize) -> bool {
-    fields.iter().filter(|field| field.bytes.contains(&byte)).count() > 1
+fn row(label: &str, cells: &str, target: &str) -> String {
+    format!("{:>13}  {}  {}", label, cells, target).trim_end().to_string()
 }

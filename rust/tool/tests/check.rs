@@ -122,7 +122,6 @@ fn long_payloads_are_drawn_in_bands() {
     let run = run(&["check", "--explain", &file("bands.rig", text.as_bytes())]);
     let wanted = r#"
          byte   0   1   2   3   4   5   6   7   8   9
-    element 2  |                                         6001h/0
     element 3  [ss]                                      1200h/0
     element 4  [??]                                      6002h/0
       overlap  ~~~~
@@ -132,7 +131,7 @@ fn long_payloads_are_drawn_in_bands() {
     element 1  [=======================================  6000h/0
          byte   30  31  32  33  34  35  36  37  38  39
     element 1  ========================================
-     the same up to byte 209
+     the same  up to byte 209
          byte  210 211 212 213 214 215 216 217 218 219
     element 1  =======================================]
 "#;

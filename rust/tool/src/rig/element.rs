@@ -168,7 +168,10 @@ fn room(cursor: &mut Cursor) -> Result<usize, Problem> {
     };
     match number {
         Some(number) => Ok(number as usize),
-        None => Err(cursor.expected("a room of 0 to 1490 bytes", token.as_ref())),
+        None => {
+            let wanted = format!("a room of 0 to {} bytes", MOST_ROOM);
+            Err(cursor.expected(&wanted, token.as_ref()))
+        }
     }
 }
 

@@ -56,10 +56,7 @@ impl Reader {
         let first = cursor.next();
         if let Some(Token::Word(word)) = &first {
             if let Some(index) = numbers::index(word) {
-                self.finish_object()?;
-                let object = object(cursor)?;
-                self.open = Some((index, object));
-                return Ok(());
+                return self.object(cursor, index);
             }
             if let Some((from, to)) = element_numbers(word) {
                 return self.element(cursor, from, to);
@@ -67,6 +64,19 @@ impl Reader {
         }
         Err(cursor
             .expected("an index, as in 6000h, or an element's number, as in 1", first.as_ref()))
+    }
+
+    fn object(&mut self, cursor: &mut Cursor, index: u16) -> Result<(), Problem> {
+        self.finish_object()?;
+        if let Some(earlier) = self.rig.objects.get(&index) {
+            let text = format!(
+                "expected each index once, found {:04X}h again (first on line {})",
+                index, earlier.line
+            );
+            return Err(Problem::at(cursor.line, text));
+        }
+        self.open = Some((index, object(cursor)?));
+        Ok(())
     }
 
     fn element(&mut self, cursor: &mut Cursor, from: usize, to: usize) -> Result<(), Problem> {
@@ -112,13 +122,6 @@ impl Reader {
         let line = object.line;
         self.values += object.value_count();
         self.bytes += object.weight();
-        if let Some(earlier) = self.rig.objects.get(&index) {
-            let text = format!(
-                "expected each index once, found {:04X}h again (first on line {})",
-                index, earlier.line
-            );
-            return Err(Problem::at(line, text));
-        }
         self.rig.objects.insert(index, object);
         for (what, count, most) in [
             ("objects", self.rig.objects.len(), MOST_OBJECTS),
