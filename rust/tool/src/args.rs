@@ -82,7 +82,8 @@ fn help_on(command: Option<&OsString>) -> Result<Command, String> {
 }
 
 fn check(arguments: Vec<OsString>) -> Result<Command, String> {
-    let mut given = Given::split("check", arguments, &["--json", "--explain"], &[])?;
+    let known = Known { flags: &["--json", "--explain"], settings: &[] };
+    let mut given = Given::split("check", arguments, known)?;
     if given.help {
         return Ok(Command::Help(help::CHECK));
     }
@@ -92,8 +93,9 @@ fn check(arguments: Vec<OsString>) -> Result<Command, String> {
 }
 
 fn consume(arguments: Vec<OsString>) -> Result<Command, String> {
-    let flags = ["--not-ready", "--times", "--comma"];
-    let mut given = Given::split("consume", arguments, &flags, &["--from", "--version"])?;
+    let flags = &["--not-ready", "--times", "--comma"];
+    let known = Known { flags, settings: &["--from", "--version"] };
+    let mut given = Given::split("consume", arguments, known)?;
     if given.help {
         return Ok(Command::Help(help::CONSUME));
     }
@@ -115,8 +117,8 @@ fn consume(arguments: Vec<OsString>) -> Result<Command, String> {
 }
 
 fn replay(arguments: Vec<OsString>) -> Result<Command, String> {
-    let mut given =
-        Given::split("replay", arguments, &["--quiet", "--times", "--comma"], &["--node"])?;
+    let known = Known { flags: &["--quiet", "--times", "--comma"], settings: &["--node"] };
+    let mut given = Given::split("replay", arguments, known)?;
     if given.help {
         return Ok(Command::Help(help::REPLAY));
     }
@@ -124,13 +126,8 @@ fn replay(arguments: Vec<OsString>) -> Result<Command, String> {
     let capture = given.file("the capture")?;
     given.no_more()?;
     let node = given.byte("--node")?;
-    Ok(Command::Replay(Replay {
-        rig,
-        capture,
-        node,
-        quiet: given.has("--quiet"),
-        style: given.style(),
-    }))
+    let (quiet, style) = (given.has("--quiet"), given.style());
+    Ok(Command::Replay(Replay { rig, capture, node, quiet, style }))
 }
 
 /// A command's arguments, options apart from the others.
@@ -142,47 +139,56 @@ struct Given {
     words: Vec<OsString>,
 }
 
+/// The options that a command knows: those that stand alone, and those with a value behind them.
+struct Known<'a> {
+    flags: &'a [&'a str],
+    settings: &'a [&'a str],
+}
+
 impl Given {
     fn split(
         command: &'static str,
         arguments: Vec<OsString>,
-        flags: &[&str],
-        settings: &[&str],
+        known: Known,
     ) -> Result<Given, String> {
-        let mut given = Given {
-            command,
-            help: false,
-            flags: Vec::new(),
-            settings: Vec::new(),
-            words: Vec::new(),
-        };
+        let (flags, settings, words) = (Vec::new(), Vec::new(), Vec::new());
+        let mut given = Given { command, help: false, flags, settings, words };
         let mut arguments = arguments.into_iter();
         while let Some(argument) = arguments.next() {
             let text = argument.to_string_lossy().into_owned();
-            let (name, value) = match text.split_once('=') {
-                Some((name, value)) => (name, Some(value.to_string())),
-                None => (text.as_str(), None),
-            };
-            if text == "--" {
-                given.words.extend(arguments);
-                break;
-            } else if text == "--help" || text == "-h" {
-                given.help = true;
-            } else if !text.starts_with('-') || text == "-" {
-                given.words.push(argument);
-            } else if flags.contains(&text.as_str()) {
-                given.flags.push(text);
-            } else if settings.contains(&name) {
-                let value = value
-                    .or_else(|| arguments.next().map(|value| value.to_string_lossy().into_owned()));
-                let value = value
-                    .ok_or_else(|| given.wrong(&format!("{} needs a value behind it", name)))?;
-                given.settings.push((name.to_string(), value));
-            } else {
-                return Err(given.wrong(&format!("there is no option '{}'", text.escape_debug())));
+            match text.as_str() {
+                "--" => given.words.extend(arguments.by_ref()),
+                "--help" | "-h" => given.help = true,
+                "-" => given.words.push(argument),
+                _ if text.starts_with('-') => given.option(&text, &known, &mut arguments)?,
+                _ => given.words.push(argument),
             }
         }
         Ok(given)
+    }
+
+    fn option(
+        &mut self,
+        text: &str,
+        known: &Known,
+        rest: &mut impl Iterator<Item = OsString>,
+    ) -> Result<(), String> {
+        let (name, value) = match text.split_once('=') {
+            Some((name, value)) => (name, Some(value.to_string())),
+            None => (text, None),
+        };
+        if known.flags.contains(&text) {
+            self.flags.push(text.to_string());
+        } else if known.settings.contains(&name) {
+            let behind = || rest.next().map(|value| value.to_string_lossy().into_owned());
+            let value = value.or_else(behind);
+            let missing = || self.wrong(&format!("{} needs a value behind it", name));
+            let value = value.ok_or_else(missing)?;
+            self.settings.push((name.to_string(), value));
+        } else {
+            return Err(self.wrong(&format!("there is no option '{}'", text.escape_debug())));
+        }
+        Ok(())
     }
 
     fn wrong(&self, text: &str) -> String {

@@ -7,7 +7,6 @@ use crate::consume::give;
 use crate::failure::{Failure, Status};
 use crate::frame::{self, Frame, Poll};
 use crate::progress::Progress;
-use crate::report::Told;
 use crate::table::Table;
 use crate::words;
 use std::collections::BTreeSet;
@@ -77,14 +76,13 @@ impl Player<'_> {
             Frame::Poll(poll) => self.poll(packet, &poll, out),
             Frame::Cut { request, sender, said, there } => {
                 let why = cut(packet, said, there);
-                if let Some(sender) = sender {
-                    self.table.damaged(sender, packet.number, &why);
-                } else {
-                    self.table.other("cut before its sender".to_string());
+                match sender {
+                    Some(sender) => self.table.damaged(sender, packet.number, &why),
+                    None => self.table.other("cut before its sender".to_string()),
                 }
                 let from = sender.map_or("an unknown node".to_string(), words::node);
-                self.head(packet, &format!("{} from {}", poll_name(request), from), out)?;
-                self.lines(&[why], out)
+                let head = format!("{} from {}", poll_name(request), from);
+                self.tell(packet, &head, &[why], out)
             }
             Frame::Message(kind) => self.count(frame::message_name(kind)),
             Frame::Foreign(ether_type) => self.count(format!("EtherType {:04X}h", ether_type)),
@@ -115,32 +113,21 @@ impl Player<'_> {
             words::version(version),
             words::bytes(payload.len())
         );
-        self.tell(packet, &head, &told, out)
+        self.tell(packet, &head, &told.lines, out)
     }
 
     fn tell(
         &self,
         packet: &Packet,
         head: &str,
-        told: &Told,
+        lines: &[String],
         out: &mut dyn Write,
     ) -> io::Result<()> {
-        self.head(packet, head, out)?;
-        self.lines(&told.lines, out)
-    }
-
-    fn head(&self, packet: &Packet, head: &str, out: &mut dyn Write) -> io::Result<()> {
         if self.options.quiet {
             return Ok(());
         }
-        writeln!(out, "No. {}{}  {}", packet.number, self.time(packet), head)
-    }
-
-    fn lines(&self, lines: &[String], out: &mut dyn Write) -> io::Result<()> {
-        for line in lines.iter().filter(|_| !self.options.quiet) {
-            writeln!(out, "    {}", line)?;
-        }
-        Ok(())
+        writeln!(out, "No. {}{}  {}", packet.number, self.time(packet), head)?;
+        lines.iter().try_for_each(|line| writeln!(out, "    {}", line))
     }
 
     /// Seconds since the first packet.

@@ -52,7 +52,7 @@ struct Block {
 
 impl Block {
     /// The part of the body that holds a packet's bytes.
-    fn part(&mut self, from: usize, count: usize) -> Result<Vec<u8>, Damage> {
+    fn part(&self, from: usize, count: usize) -> Result<Vec<u8>, Damage> {
         if count > self.body.len() - from {
             let text = format!(
                 "a packet says it has {} bytes; its block has {} for it",
@@ -118,12 +118,12 @@ impl Section {
         source: &mut Source,
         number: u64,
     ) -> Result<Option<Packet>, Damage> {
-        while let Some(mut block) = self.next_block(source)? {
+        while let Some(block) = self.next_block(source)? {
             match block.kind {
                 INTERFACE => self.interface(&block)?,
-                ENHANCED_PACKET => return self.enhanced(&mut block, number, false).map(Some),
-                OBSOLETE_PACKET => return self.enhanced(&mut block, number, true).map(Some),
-                SIMPLE_PACKET => return self.simple(&mut block, number).map(Some),
+                ENHANCED_PACKET => return self.enhanced(&block, number, false).map(Some),
+                OBSOLETE_PACKET => return self.enhanced(&block, number, true).map(Some),
+                SIMPLE_PACKET => return self.simple(&block, number).map(Some),
                 _ => (),
             }
         }
@@ -200,7 +200,7 @@ impl Section {
     }
 
     /// An enhanced packet block, or the packet block that it replaced: only the first word differs.
-    fn enhanced(&self, block: &mut Block, number: u64, obsolete: bool) -> Result<Packet, Damage> {
+    fn enhanced(&self, block: &Block, number: u64, obsolete: bool) -> Result<Packet, Damage> {
         block.at_least(20)?;
         let place = if obsolete {
             usize::from(self.order.u16(&block.body, 0))
@@ -217,7 +217,7 @@ impl Section {
         Ok(Packet { number, time, bytes, length, ethernet: interface.link == ETHERNET })
     }
 
-    fn simple(&self, block: &mut Block, number: u64) -> Result<Packet, Damage> {
+    fn simple(&self, block: &Block, number: u64) -> Result<Packet, Damage> {
         block.at_least(4)?;
         let interface = self.interface_at(0, block)?;
         let length = self.order.u32(&block.body, 0) as usize;
