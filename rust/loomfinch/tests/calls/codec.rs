@@ -92,6 +92,25 @@ fn bad_text_and_half_a_unit_are_refused() {
 }
 
 #[test]
+fn data_of_a_size_comes_back() {
+    let mut word = 1_u64;
+    for value_type in (0..=20).filter_map(ValueType::from_number) {
+        for _ in 0..20 {
+            word = word
+                .wrapping_mul(6_364_136_223_846_793_005)
+                .wrapping_add(1_442_695_040_888_963_407);
+            let data = (word ^ word >> 29).to_le_bytes();
+            let data = &data[..value_type.size().unwrap_or(8)];
+            // Eight bytes at random are hardly text.
+            if value_type != ValueType::VisibleString {
+                let value = decode(value_type, data).expect("a value");
+                assert_eq!((value.value_type(), &*value.serialize()), (value_type, data));
+            }
+        }
+    }
+}
+
+#[test]
 fn empty_strings_are_values() {
     assert_eq!(
         decode(ValueType::VisibleString, &[]),
