@@ -2,7 +2,7 @@
 
 use crate::explain::Element;
 use crate::rig::{Place, Rig};
-use crate::words::named_place;
+use crate::words::{named_place, place, type_with_article};
 use loomfinch::ValueType;
 
 /// Mappings that no channel uses, and error objects that cannot note every node.
@@ -34,9 +34,10 @@ fn notes_every_node(rig: &Rig, index: u16) -> bool {
     }
 }
 
-/// Fields of a channel that share bytes, and targets that are mapped twice; each element with the first before it.
+/// A version that is none; fields that share bytes, and targets that are mapped twice, each element with the first before
+/// it.
 pub fn of_channel(rig: &Rig, channel: u8, elements: &[Element]) -> Vec<String> {
-    let mut notes = Vec::new();
+    let mut notes: Vec<String> = unread_version(rig, channel).into_iter().collect();
     for (k, later) in elements.iter().enumerate() {
         let earlier = &elements[..k];
         let with = |one: &Element| {
@@ -55,6 +56,20 @@ pub fn of_channel(rig: &Rig, channel: u8, elements: &[Element]) -> Vec<String> {
     notes
 }
 
+/// Of a version of another type nothing is read, and that counts as 0.
+fn unread_version(rig: &Rig, channel: u8) -> Option<String> {
+    let index = 0x1400 + u16::from(channel);
+    match rig.place(index, 2) {
+        Place::Value(_, value) if value.of != ValueType::Unsigned8 => Some(format!(
+            "channel {}: {} is {}, not an Unsigned8: payloads of version 0 alone are taken",
+            channel,
+            place(index, 2),
+            type_with_article(value.of)
+        )),
+        _ => None,
+    }
+}
+
 /// The bytes of the payload that two elements share.
 fn shared(one: &Element, other: &Element) -> Option<String> {
     let (one, other) =
@@ -69,9 +84,9 @@ fn shared(one: &Element, other: &Element) -> Option<String> {
 
 /// The place that two elements without fault both map onto.
 fn same_target(one: &Element, other: &Element) -> Option<(u16, u8)> {
-    let place = |element: &Element| {
+    let target = |element: &Element| {
         let entry = element.mapped.as_ref()?.entry;
         Some((entry.index, entry.sub_index)).filter(|_| element.fault.is_none())
     };
-    place(one).filter(|found| place(other) == Some(*found))
+    target(one).filter(|found| target(other) == Some(*found))
 }

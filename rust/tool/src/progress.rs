@@ -16,8 +16,10 @@ pub struct Progress {
 }
 
 impl Progress {
-    pub fn new(size: u64) -> Progress {
-        let size = if size >= LARGE && is_terminal() { size } else { 0 };
+    /// Shown only where the lines of the replay do not go to the same terminal.
+    pub fn new(size: u64, quiet: bool) -> Progress {
+        let watched = is_terminal("/dev/stderr") && (quiet || !is_terminal("/dev/stdout"));
+        let size = if size >= LARGE && watched { size } else { 0 };
         Progress { size, last: Instant::now(), shown: false }
     }
 
@@ -39,14 +41,14 @@ impl Progress {
     }
 }
 
-/// Is the standard error a terminal? A character device is taken for one: what else is, drops what it is given.
+/// Is an output a terminal? A character device is taken for one: what else is, drops what it is given.
 #[cfg(unix)]
-fn is_terminal() -> bool {
+fn is_terminal(output: &str) -> bool {
     use std::os::unix::fs::FileTypeExt;
-    std::fs::metadata("/dev/stderr").map_or(false, |error| error.file_type().is_char_device())
+    std::fs::metadata(output).map_or(false, |found| found.file_type().is_char_device())
 }
 
 #[cfg(not(unix))]
-fn is_terminal() -> bool {
+fn is_terminal(_output: &str) -> bool {
     false
 }

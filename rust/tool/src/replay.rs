@@ -28,7 +28,7 @@ pub fn run(
     let mut capture = Capture::open(reader).map_err(damaged)?;
     let mut player =
         Player { options, console, table: Table::default(), first: None, asked: BTreeSet::new() };
-    let mut progress = Progress::new(size);
+    let mut progress = Progress::new(size, options.quiet);
     let ended = loop {
         match capture.next_packet() {
             Ok(Some(packet)) => player.packet(&packet, out)?,

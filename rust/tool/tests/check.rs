@@ -139,6 +139,19 @@ fn long_payloads_are_drawn_in_bands() {
 }
 
 #[test]
+fn what_is_no_fault_is_noted() {
+    let text = "1400h Record\n1 U8 = 5\n2 U16 = 10h\n1600h Array\n1 6000h at 0 length 1\n2 6000h at 0 length 1\n\
+                6000h Variable U8\n";
+    let run = run(&["check", &file("notes.rig", text.as_bytes())]);
+    let wanted = "channel 0, from node 5, 2 elements: pass
+note: channel 0: 1400h/2 is an Unsigned16, not an Unsigned8: payloads of version 0 alone are taken
+note: channel 0: elements 1 and 2 share byte 0 of the payload
+note: channel 0: elements 1 and 2 both map onto 6000h/0: the later one stands
+";
+    assert_eq!((run.status, run.out.as_str()), (0, wanted));
+}
+
+#[test]
 fn a_rig_without_channels_says_so() {
     let text = b"6000h Variable U8\n1601h Array\n1C81h Variable U8\n";
     let run = run(&["check", &file("none.rig", text)]);

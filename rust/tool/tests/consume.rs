@@ -78,6 +78,33 @@ fn case_11() {
 }
 
 #[test]
+fn a_cut_that_changes_the_value_is_told() {
+    let text =
+        "1400h Record\n1 U8 = 5\n1600h Array\n1 6000h at 0 length 4\n2 6001h at 0 length 8\n\
+                6000h Variable I16\n6001h Variable Real32\n";
+    let path = file("cuts.rig", text.as_bytes());
+    let run = run(&[
+        "consume",
+        &path,
+        "--from",
+        "5",
+        "--version",
+        "0",
+        "FEFFFFFF00000000",
+        "FEFFFF7F00000000",
+    ]);
+    let wanted = "payload 1: 8 bytes from node 5, version 00h
+  6000h/0: 0 -> -2
+  6001h/0: 0 -> NaN
+    CUT: element 2's field is FE FF FF FF 00 00 00 00; the last 4 bytes, 00 00 00 00, are lost
+payload 2: 8 bytes from node 5, version 00h
+  6000h/0: -2, as before
+    CUT: element 1's field is FE FF FF 7F, 2147483646; the last 2 bytes, FF 7F, are lost
+";
+    assert!(run.out.starts_with(wanted), "{}", run.out);
+}
+
+#[test]
 fn times_and_decimal_marks_are_asked_for() {
     let path = file("times.rig", CASES.as_bytes());
     let run = run(&[

@@ -131,12 +131,34 @@ fn errors_name_the_line_and_what_was_expected() {
         ("1 6000h", "expected a mapping, as in 6000h/0 at 0 length 2, or a mapping word"),
         ("1 2500", "expected a mapping, as in 6000h/0 at 0 length 2, or a mapping word"),
         ("1", "expected a type, such as Unsigned16"),
+        ("6000h Variable U16 ro rw", "expected one access, found a second"),
+        ("6000h Variable U16 ms ms", "expected one ms, found a second"),
+        ("6000h Variable U16 room 1 room 2", "expected one room, found a second"),
+        ("6000h Variable U16 default = 1 default = 2", "expected one default, found a second"),
+        ("6000h Variable IpAddress = 1.2.3", "expected an address, as in 192.168.100.5 for an IpAddress, found '1.2.3'"),
+        ("6000h Variable MacAddress = 1:2:3:4:5:G", "expected an address, as in 00:60:65:01:02:03 for a MacAddress"),
+        ("6000h Variable NetTime = 5 ns 1 s", "expected seconds and nanoseconds, as in 12 s 500 ns for a NetTime"),
+        ("6000h Variable Real32 = inf", "expected a decimal number, or its bits as 3F800000h for a Real32"),
+        ("6000h Variable Boolean = yes", "expected true, false or a number from 0 to 255 for a Boolean, found 'yes'"),
         ("6000h Variable U8 = 1 [", "expected a closing ]"),
     ] {
         let problem = error_of(line);
         assert_eq!(problem.line, Some(3), "{}: {}", line, problem.text);
         assert!(problem.text.starts_with(wanted), "{}: {}", line, problem.text);
     }
+}
+
+#[test]
+fn texts_that_no_room_holds() {
+    let text = "x".repeat(1491);
+    let value = error_of(&format!("6000h Variable VisibleString = \"{}\"", text));
+    assert_eq!(
+        (value.line, value.text.as_str()),
+        (Some(3), "expected at most 1490 bytes, found 1491")
+    );
+    let default = error_of(&format!("6000h Variable U8 default VisibleString = \"{}\"", text));
+    let wanted = "expected at most 1490 bytes in a default, found 1491";
+    assert_eq!((default.line, default.text.as_str()), (Some(3), wanted));
 }
 
 #[test]
