@@ -23,13 +23,9 @@ pub fn sentence(rig: &Rig, channel: u8, checked: Checked, elements: &[Element]) 
 
 fn no_sender(rig: &Rig, channel: u8) -> String {
     let index = 0x1400 + u16::from(channel);
-    if let Some(sender) = rig.named_sender(channel) {
-        return match rig.channel_of(sender) {
-            Some(earlier) => {
-                format!("no sender: channel {} takes {} before it", earlier, words::node(sender))
-            }
-            None => format!("no sender: no payload comes from {}", words::node(sender)),
-        };
+    let taken = |sender| rig.channel_of(sender).map(|earlier| (earlier, sender));
+    if let Some((earlier, sender)) = rig.named_sender(channel).and_then(taken) {
+        return format!("no sender: channel {} takes {} before it", earlier, words::node(sender));
     }
     let found = match rig.place(index, 1) {
         Place::Value(_, value) => {

@@ -151,6 +151,7 @@ fn damage_is_told_with_its_place() {
     for (name, capture, wanted) in [
         ("empty", &[][..], "byte 0: the capture is empty"),
         ("text", b"hello, this is no capture", "byte 0: the file is neither a pcap nor a pcapng capture"),
+        ("packed", &[0x1F, 0x8B, 8, 0, 0], "byte 0: the file is compressed (gzip)"),
         ("head", &good[..10], "byte 10: the file ends inside the capture's header that begins at byte 0"),
         ("packet-head", &good[..30], "byte 30: the file ends inside the header of packet 1 that begins at byte 24"),
         ("packet", &good[..60], "byte 60: the file ends inside packet 1 that begins at byte 24: 30 more needed, 20 there"),

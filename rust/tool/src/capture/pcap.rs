@@ -16,6 +16,9 @@ impl Header {
             [0xA1, 0xB2, 0xC3, 0xD4] => (Order::Big, 1000),
             [0x4D, 0x3C, 0xB2, 0xA1] => (Order::Little, 1),
             [0xA1, 0xB2, 0x3C, 0x4D] => (Order::Big, 1),
+            [0x1F, 0x8B, ..] => {
+                return Err(Damage::at(0, "the file is compressed (gzip): unpack it first"))
+            }
             _ => return Err(Damage::at(0, "the file is neither a pcap nor a pcapng capture")),
         };
         let rest = source.exactly(20, "the capture's header", 0)?;

@@ -1,6 +1,7 @@
 //! A place among the tokens of one line.
 
 use super::lexer::Token;
+use super::numbers;
 use super::problem::Problem;
 
 pub struct Cursor {
@@ -54,16 +55,16 @@ impl Cursor {
 
     /// A 64-bit word in four groups, as 0010 0000 0000 6000h, of which the first was taken already.
     pub fn grouped_word(&mut self, first: &str) -> Option<u64> {
-        let last = self.word_ahead(2)?.strip_suffix(['h', 'H'])?;
-        let groups = [first, self.word_ahead(0)?, self.word_ahead(1)?, last];
+        let groups = [first, self.word_ahead(0)?, self.word_ahead(1)?];
         let is_group =
             |group: &&str| group.len() == 4 && group.bytes().all(|c| c.is_ascii_hexdigit());
-        if !groups.iter().all(is_group) {
+        let (last, digits) = numbers::hexadecimal(self.word_ahead(2)?)?;
+        if digits != 4 || !groups.iter().all(is_group) {
             return None;
         }
-        let word = u64::from_str_radix(&groups.concat(), 16).ok()?;
+        let high = u64::from_str_radix(&groups.concat(), 16).ok()?;
         self.at += 3;
-        Some(word)
+        Some(high << 16 | last)
     }
 
     /// The error for something else than what was wanted; none found is the line's end.

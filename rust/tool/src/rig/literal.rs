@@ -88,7 +88,7 @@ fn signed(word: &str, size: usize) -> Option<Vec<u8>> {
 
 /// A decimal number, or its bits in hexadecimal.
 fn real(word: &str, size: usize) -> Option<Vec<u8>> {
-    if word.ends_with(['h', 'H']) || word.starts_with("0x") {
+    if numbers::hexadecimal(word).is_some() {
         return unsigned(word, size);
     }
     if !word.bytes().all(|c| c.is_ascii_digit() || b"+-.eE".contains(&c)) {
