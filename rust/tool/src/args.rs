@@ -182,7 +182,7 @@ impl Given {
         } else if known.settings.contains(&name) {
             let behind = || rest.next().map(|value| value.to_string_lossy().into_owned());
             let value = value.or_else(behind);
-            let missing = || self.wrong(&format!("{} needs a value behind it", name));
+            let missing = || self.wrong(&format!("{name} needs a value behind it"));
             let value = value.ok_or_else(missing)?;
             self.settings.push((name.to_string(), value));
         } else {
@@ -205,7 +205,7 @@ impl Given {
 
     fn file(&mut self, what: &str) -> Result<Named, String> {
         if self.words.is_empty() {
-            return Err(self.wrong(&format!("{} is missing", what)));
+            return Err(self.wrong(&format!("{what} is missing")));
         }
         let word = self.words.remove(0);
         let shown = word.to_string_lossy().into_owned();

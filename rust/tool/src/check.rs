@@ -65,7 +65,7 @@ fn text(
         }
     }
     for note in all_notes(rig, channels) {
-        writeln!(out, "note: {}", note)?;
+        writeln!(out, "note: {note}")?;
     }
     if channels.is_empty() {
         writeln!(

@@ -78,7 +78,7 @@ impl Console {
         let mut dictionary = Dictionary::new(capacity(&rig));
         for (index, object) in &rig.objects {
             let refused = |refusal: Refusal| {
-                Problem::at(object.line, format!("the library refuses this object: {}", refusal))
+                Problem::at(object.line, format!("the library refuses this object: {refusal}"))
             };
             dictionary.insert(*index, entry(object).map_err(refused)?).map_err(refused)?;
         }
@@ -188,7 +188,7 @@ impl Console {
             for (value, sub_index) in object.values.iter().zip(u8::from(object.is_list())..) {
                 let read = self.dictionary.read(*index, sub_index).unwrap();
                 assert_eq!(read.value_type(), value.of);
-                assert_eq!(read.serialize(), value.bytes, "{:04X}h/{}", index, sub_index);
+                assert_eq!(read.serialize(), value.bytes, "{index:04X}h/{sub_index}");
             }
         }
     }

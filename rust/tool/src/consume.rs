@@ -25,7 +25,7 @@ pub fn run(
             words::version(version)
         )?;
         for line in &told.lines {
-            writeln!(out, "  {}", line)?;
+            writeln!(out, "  {line}")?;
         }
         if told.fault.is_some() {
             status = Status::Faults;
@@ -45,6 +45,6 @@ pub fn run(
 pub fn give(console: &mut Console, received: Received, style: Style) -> Told {
     match console.consume(received) {
         Ok(consumed) => report::tell(&console.rig, &received, &consumed, style),
-        Err(refusal) => Told::refused(format!("refused: {}", refusal)),
+        Err(refusal) => Told::refused(format!("refused: {refusal}")),
     }
 }

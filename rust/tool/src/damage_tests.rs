@@ -113,7 +113,7 @@ fn damaged_rigs() {
         let twice = chance.damaged(&damaged);
         used += usize::from(use_rig(&damaged)) + usize::from(use_rig(&twice));
     }
-    assert!((100..1100).contains(&used), "{} of 1200 were still rigs", used);
+    assert!((100..1100).contains(&used), "{used} of 1200 were still rigs");
 }
 
 #[test]
@@ -212,7 +212,7 @@ fn random_rig(chance: &mut Chance) -> String {
         let target = format!("{:04X}h/{}", index, chance.below(3));
         let unit = if chance.below(20) == 0 { "bits" } else { "bytes" };
         let (offset, length) = (chance.below(12), [1, 2, 4, 8, chance.below(12)][chance.below(5)]);
-        text += &format!("{} {} at {} {} length {}\n", element, target, offset, unit, length);
+        text += &format!("{element} {target} at {offset} {unit} length {length}\n");
     }
     for index in 0..5 {
         let of = loomfinch::ValueType::from_number(chance.below(21) as u8).unwrap();
@@ -243,7 +243,7 @@ fn assert_written(console: &mut Console, payload: &[u8]) -> usize {
     }
     for ((index, _), (field, change)) in &written {
         // A short payload sets a bit in 1C81h after it was written.
-        assert!(*index == 0x1C81 || change.after.bytes == *field, "{:04X}h", index);
+        assert!(*index == 0x1C81 || change.after.bytes == *field, "{index:04X}h");
     }
     written.len()
 }
@@ -264,5 +264,5 @@ fn what_is_told_was_written() {
             written += assert_written(&mut console, &payload);
         }
     }
-    assert!(written > 300, "only {} fields were written", written);
+    assert!(written > 300, "only {written} fields were written");
 }

@@ -166,5 +166,5 @@ impl Sheet<'_> {
 }
 
 fn row(label: &str, cells: &str, target: &str) -> String {
-    format!("{:>13}  {}  {}", label, cells, target).trim_end().to_string()
+    format!("{label:>13}  {cells}  {target}").trim_end().to_string()
 }

@@ -14,7 +14,7 @@ pub fn sentence(rig: &Rig, channel: u8, checked: Checked, elements: &[Element]) 
         Checked::TooFar => too_far(elements),
         Checked::Element { element, fault } => {
             let named = elements.iter().find(|known| known.number == element);
-            named.map_or(format!("element {}: {}", element, fault), |known| {
+            named.map_or(format!("element {element}: {fault}"), |known| {
                 of_element(rig, known, fault)
             })
         }
@@ -32,9 +32,9 @@ fn no_sender(rig: &Rig, channel: u8) -> String {
             let of = words::type_with_article(value.of);
             return format!("no sender: {} is {}, not an Unsigned8", place(index, 1), of);
         }
-        Place::NoSub(object) if object.is_list() => format!("{:04X}h has no element", index),
-        Place::NoSub(_) => format!("{:04X}h is a Variable", index),
-        Place::NoObject | Place::Count => format!("there is no {:04X}h", index),
+        Place::NoSub(object) if object.is_list() => format!("{index:04X}h has no element"),
+        Place::NoSub(_) => format!("{index:04X}h is a Variable"),
+        Place::NoObject | Place::Count => format!("there is no {index:04X}h"),
     };
     format!("no sender: there is no Unsigned8 at {}: {}", place(index, 1), found)
 }
@@ -42,9 +42,9 @@ fn no_sender(rig: &Rig, channel: u8) -> String {
 fn no_list(rig: &Rig, channel: u8) -> String {
     let index = 0x1600 + u16::from(channel);
     match rig.objects.get(&index) {
-        None => format!("no mapping: there is no {:04X}h", index),
-        Some(object) if object.is_list() => format!("no mapping: {:04X}h has no element", index),
-        Some(_) => format!("no mapping: {:04X}h is a Variable, not an Array or a Record", index),
+        None => format!("no mapping: there is no {index:04X}h"),
+        Some(object) if object.is_list() => format!("no mapping: {index:04X}h has no element"),
+        Some(_) => format!("no mapping: {index:04X}h is a Variable, not an Array or a Record"),
     }
 }
 
@@ -54,8 +54,7 @@ fn too_far(elements: &[Element]) -> String {
         .filter_map(|known| known.mapped.as_ref().map(|mapped| (mapped.end, known.number)));
     let (end, element) = ends.max_by_key(|found| found.0).unwrap_or((0, 0));
     format!(
-        "element {} needs a payload of {} bytes, and none has more than {}: every payload stops there",
-        element, end, MOST_PAYLOAD_BYTES
+        "element {element} needs a payload of {end} bytes, and none has more than {MOST_PAYLOAD_BYTES}: every payload stops there"
     )
 }
 
@@ -83,13 +82,13 @@ fn of_mapping(rig: &Rig, mapped: &Mapped, fault: Fault) -> String {
             at
         ),
         Fault::HandOff => {
-            format!("maps onto {}, which belongs to SDO: it is handed on and not written", at)
+            format!("maps onto {at}, which belongs to SDO: it is handed on and not written")
         }
         Fault::NoTarget => {
             format!("maps onto {}, and {}: it is passed over", at, missing(rig, entry))
         }
         Fault::CountTarget => {
-            format!("maps onto {}, the count of the list's elements, which no payload changes", at)
+            format!("maps onto {at}, the count of the list's elements, which no payload changes")
         }
         Fault::WrongLength => wrong_length(&at, mapped),
     }
@@ -130,7 +129,7 @@ fn wrong_length(at: &str, mapped: &Mapped) -> String {
             words::bytes(room)
         ),
         Target::Text { value_type: ValueType::UnicodeString, .. } => {
-            format!("{}, a UnicodeString of 2 bytes a character: every payload stops there", maps)
+            format!("{maps}, a UnicodeString of 2 bytes a character: every payload stops there")
         }
         _ => maps,
     }
@@ -140,7 +139,7 @@ fn wrong_length(at: &str, mapped: &Mapped) -> String {
 pub fn last_bytes(count: usize) -> String {
     match count {
         1 => "the last byte".to_string(),
-        count => format!("the last {} bytes", count),
+        count => format!("the last {count} bytes"),
     }
 }
 

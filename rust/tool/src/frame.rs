@@ -97,7 +97,7 @@ pub fn message_name(kind: u8) -> String {
         1 => "SoC".to_string(),
         5 => "SoA".to_string(),
         6 => "ASnd".to_string(),
-        other => format!("POWERLINK message {:02X}h", other),
+        other => format!("POWERLINK message {other:02X}h"),
     }
 }
 

@@ -29,8 +29,8 @@ impl Json {
     fn lines(&self, f: &mut fmt::Formatter, indent: usize) -> fmt::Result {
         match self {
             Json::Null => f.write_str("null"),
-            Json::Bool(truth) => write!(f, "{}", truth),
-            Json::Number(number) => write!(f, "{}", number),
+            Json::Bool(truth) => write!(f, "{truth}"),
+            Json::Number(number) => write!(f, "{number}"),
             Json::Text(text) => quoted(f, text),
             Json::List(items) => {
                 let member = |f: &mut fmt::Formatter, item: &Json| item.lines(f, indent + 2);
@@ -81,7 +81,7 @@ fn quoted(f: &mut fmt::Formatter, text: &str) -> fmt::Result {
             '\r' => f.write_str("\\r")?,
             '\t' => f.write_str("\\t")?,
             c if u32::from(c) < 0x20 || c == '\u{7F}' => write!(f, "\\u{:04x}", u32::from(c))?,
-            c => write!(f, "{}", c)?,
+            c => write!(f, "{c}")?,
         }
     }
     f.write_str("\"")

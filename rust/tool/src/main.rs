@@ -48,16 +48,14 @@ fn main() -> ExitCode {
         Ok(Status::Faults) => ExitCode::from(1),
         // Whoever read the output has read enough.
         Err(Failure::Output(error)) if error.kind() == ErrorKind::BrokenPipe => ExitCode::SUCCESS,
-        Err(Failure::Output(error)) => {
-            complain(&format!("the output cannot be written: {}", error))
-        }
+        Err(Failure::Output(error)) => complain(&format!("the output cannot be written: {error}")),
         Err(Failure::Message(text)) => complain(&text),
     }
 }
 
 fn complain(text: &str) -> ExitCode {
     // There is no one left to tell if this fails.
-    let _ = writeln!(io::stderr(), "loomfinch: {}", text);
+    let _ = writeln!(io::stderr(), "loomfinch: {text}");
     ExitCode::from(2)
 }
 

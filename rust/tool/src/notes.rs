@@ -12,15 +12,13 @@ pub fn of_rig(rig: &Rig) -> Vec<String> {
         mappings.filter(|index| !rig.objects.contains_key(&(index - 0x200))).map(|index| {
             let record = index - 0x200;
             format!(
-                "nothing uses the mapping {:04X}h: there is no {:04X}h that names its sender",
-                index, record
+                "nothing uses the mapping {index:04X}h: there is no {record:04X}h that names its sender"
             )
         });
     let lists = [0x1C80, 0x1C81].into_iter().filter(|index| rig.objects.contains_key(index));
     let small = lists.filter(|index| !notes_every_node(rig, *index)).map(|index| {
         format!(
-            "{:04X}h cannot note every node: that takes a Variable, an OctetString of 32 bytes",
-            index
+            "{index:04X}h cannot note every node: that takes a Variable, an OctetString of 32 bytes"
         )
     });
     unused.chain(small).collect()
@@ -77,7 +75,7 @@ fn shared(one: &Element, other: &Element) -> Option<String> {
     let (start, end) = (one.start.max(other.start), one.end.min(other.end));
     match end.checked_sub(start) {
         None | Some(0) => None,
-        Some(1) => Some(format!("byte {} of the payload", start)),
+        Some(1) => Some(format!("byte {start} of the payload")),
         Some(_) => Some(format!("bytes {} to {} of the payload", start, end - 1)),
     }
 }

@@ -85,7 +85,7 @@ impl Player<'_> {
                 self.tell(packet, &head, &[why], out)
             }
             Frame::Message(kind) => self.count(frame::message_name(kind)),
-            Frame::Foreign(ether_type) => self.count(format!("EtherType {:04X}h", ether_type)),
+            Frame::Foreign(ether_type) => self.count(format!("EtherType {ether_type:04X}h")),
             Frame::Runt => self.count("too short for a frame".to_string()),
         }
     }
@@ -127,7 +127,7 @@ impl Player<'_> {
             return Ok(());
         }
         writeln!(out, "No. {}{}  {}", packet.number, self.time(packet), head)?;
-        lines.iter().try_for_each(|line| writeln!(out, "    {}", line))
+        lines.iter().try_for_each(|line| writeln!(out, "    {line}"))
     }
 
     /// Seconds since the first packet.

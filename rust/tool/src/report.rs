@@ -42,7 +42,7 @@ pub fn tell(rig: &Rig, received: &Received, consumed: &Consumed, style: Style) -
         Consumed::NotReady => teller.told.line("not ready: nothing happens".to_string()),
         Consumed::NoChannel => {
             let node = words::node(received.sender);
-            teller.told.line(format!("no channel of the rig takes {}: nothing happens", node));
+            teller.told.line(format!("no channel of the rig takes {node}: nothing happens"));
         }
         Consumed::WrongVersion { channel, expected, noted } => {
             teller.wrong_version(*channel, *expected);
@@ -50,7 +50,7 @@ pub fn tell(rig: &Rig, received: &Received, consumed: &Consumed, style: Style) -
         }
         Consumed::Taken { channel, steps, noted } => {
             if steps.is_empty() {
-                teller.told.line(format!("channel {} has no mapping: nothing happens", channel));
+                teller.told.line(format!("channel {channel} has no mapping: nothing happens"));
             }
             for (k, step) in steps.iter().enumerate() {
                 teller.step(step, &steps[k + 1..]);
@@ -93,19 +93,19 @@ impl Teller<'_> {
             }
             Outcome::PassedOver => {
                 let why = reasons::passed_over(&step.element);
-                self.told.fault(format!("{} is passed over: {}", element, why));
+                self.told.fault(format!("{element} is passed over: {why}"));
             }
-            Outcome::HandedOn => self.told.line(format!("{} is handed on to SDO", element)),
+            Outcome::HandedOn => self.told.line(format!("{element} is handed on to SDO")),
             Outcome::Refused(why) => {
                 let why = reasons::refused(*why, &step.element);
-                self.told.fault(format!("{} is not written: {}", element, why));
+                self.told.fault(format!("{element} is not written: {why}"));
             }
             Outcome::Stopped(cause) => {
                 self.told.stops += 1;
                 let why = reasons::stopped(*cause, &step.element, self.received);
-                self.told.fault(format!("stopped at {}: {}", element, why));
+                self.told.fault(format!("stopped at {element}: {why}"));
             }
-            Outcome::NotReached => self.told.line(format!("{} is not reached", element)),
+            Outcome::NotReached => self.told.line(format!("{element} is not reached")),
         }
     }
 
@@ -120,7 +120,7 @@ impl Teller<'_> {
         }
         let after = self.shown(change.index, &change.after);
         if change.before.bytes == change.after.bytes {
-            return format!("{}, as before", after);
+            return format!("{after}, as before");
         }
         format!("{} -> {}", self.shown(change.index, &change.before), after)
     }
@@ -178,8 +178,7 @@ impl Teller<'_> {
         for (k, (before, after)) in bytes.enumerate().filter(|(_, pair)| pair.0 != pair.1) {
             let node = 8 * k + (before ^ after).trailing_zeros() as usize + 1;
             self.told.line(format!(
-                "{}: the bit of node {} is set (byte {}: {:02X} -> {:02X})",
-                at, node, k, before, after
+                "{at}: the bit of node {node} is set (byte {k}: {before:02X} -> {after:02X})"
             ));
         }
     }

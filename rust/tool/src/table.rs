@@ -79,7 +79,7 @@ impl Table {
         }
         if !self.others.is_empty() {
             let kinds: Vec<String> =
-                self.others.iter().map(|(kind, count)| format!("{} {}", count, kind)).collect();
+                self.others.iter().map(|(kind, count)| format!("{count} {kind}")).collect();
             writeln!(out, "other frames: {}", kinds.join(", "))?;
         }
         Ok(())

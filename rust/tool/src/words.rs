@@ -33,7 +33,7 @@ pub fn kind_with_article(kind: Kind) -> String {
 
 /// `6000h/0`.
 pub fn place(index: u16, sub_index: u8) -> String {
-    format!("{:04X}h/{}", index, sub_index)
+    format!("{index:04X}h/{sub_index}")
 }
 
 /// `6000h/0 "Ramp time"`.
@@ -47,16 +47,16 @@ pub fn named_place(rig: &Rig, index: u16, sub_index: u8) -> String {
 pub fn node(node: u8) -> String {
     match node {
         240 => "the managing node (240)".to_string(),
-        node => format!("node {}", node),
+        node => format!("node {node}"),
     }
 }
 
 pub fn version(version: u8) -> String {
-    format!("{:02X}h", version)
+    format!("{version:02X}h")
 }
 
 pub fn hex(bytes: &[u8]) -> String {
-    let pairs: Vec<String> = bytes.iter().map(|byte| format!("{:02X}", byte)).collect();
+    let pairs: Vec<String> = bytes.iter().map(|byte| format!("{byte:02X}")).collect();
     pairs.join(" ")
 }
 
@@ -80,8 +80,8 @@ pub fn as_type(of: ValueType, bytes: &[u8], milliseconds: bool, style: Style) ->
         OctetString | Domain => format!("[{}]", hex(bytes)),
         TimeOfDay | TimeDifference => format!("{} ms {} days", number as u32, number >> 32),
         NetTime => format!("{} s {} ns", number as u32, number >> 32),
-        RelativeTime => format!("{} us", number),
-        MacAddress => joined(bytes, ":", |byte| format!("{:02X}", byte)),
+        RelativeTime => format!("{number} us"),
+        MacAddress => joined(bytes, ":", |byte| format!("{byte:02X}")),
         IpAddress => joined(bytes, ".", |byte| byte.to_string()),
         _ => number.to_string(),
     }

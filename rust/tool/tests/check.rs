@@ -45,7 +45,7 @@ fn every_fault_has_its_sentence() {
     ];
     assert_eq!(lines.len(), wanted.len());
     for (line, wanted) in lines.iter().zip(wanted) {
-        assert!(line.starts_with(wanted), "{}\nwanted {}", line, wanted);
+        assert!(line.starts_with(wanted), "{line}\nwanted {wanted}");
     }
 }
 
@@ -64,11 +64,11 @@ fn the_json_names_every_fault() {
         ("WrongLength", 38),
         ("TooFar", 39),
     ] {
-        let wanted = format!("\"name\": \"{}\",\n        \"number\": {},", name, number);
+        let wanted = format!("\"name\": \"{name}\",\n        \"number\": {number},");
         assert!(run.out.contains(&wanted), "{}", name);
     }
     for target in ["value", "string", "count", "no object", "no sub-index"] {
-        assert!(run.out.contains(&format!("\"kind\": \"{}\"", target)), "{}", target);
+        assert!(run.out.contains(&format!("\"kind\": \"{target}\"")), "{}", target);
     }
 }
 
@@ -172,8 +172,7 @@ fn rigs_that_are_damaged_missing_or_empty() {
         (
             damaged.clone(),
             format!(
-                "{}:2: expected a number from 0 to 65535 for an Unsigned16, found '65536'",
-                damaged
+                "{damaged}:2: expected a number from 0 to 65535 for an Unsigned16, found '65536'"
             ),
         ),
         (file("empty.rig", b""), "expected at least one object".to_string()),
@@ -187,7 +186,7 @@ fn rigs_that_are_damaged_missing_or_empty() {
         ),
     ] {
         let run = run(&["check", &path]);
-        assert_eq!((run.status, run.out.as_str()), (2, ""), "{}", path);
+        assert_eq!((run.status, run.out.as_str()), (2, ""), "{path}");
         assert!(run.err.contains(&wanted), "{}", run.err);
     }
 }

@@ -70,7 +70,7 @@ fn ramps() -> Vec<Vec<u8>> {
 
 fn assert_ramps(name: &str, capture: &[u8]) {
     let run = run(&["replay", &rig("ramp.rig"), &file(name, capture)]);
-    assert_eq!((run.status, run.err.as_str()), (0, ""), "{}", name);
+    assert_eq!((run.status, run.err.as_str()), (0, ""), "{name}");
     assert!(run.out.contains("0 ms = 0.000 s -> 2500 ms = 2.500 s"), "{}: {}", name, run.out);
     assert!(run.out.contains("2500 ms = 2.500 s -> 3000 ms = 3.000 s"), "{}: {}", name, run.out);
     assert!(
@@ -89,11 +89,11 @@ fn classic_captures_in_four_forms() {
         (false, true, "1.000500 s"),
         (true, true, "1.000500 s"),
     ] {
-        let name = format!("ramps-{}-{}.pcap", big, nanoseconds);
+        let name = format!("ramps-{big}-{nanoseconds}.pcap");
         let capture = pcap(big, nanoseconds, &ramps());
         assert_ramps(&name, &capture);
         let told = run(&["replay", &rig("ramp.rig"), &file(&name, &capture)]).out;
-        assert!(told.contains(&format!("No. 2  {}  PRes", time)), "{}", told);
+        assert!(told.contains(&format!("No. 2  {time}  PRes")), "{}", told);
     }
 }
 
@@ -104,13 +104,13 @@ fn newer_captures_in_both_orders() {
         let start = [section(big), interface(big, 1, 6)].concat();
         let enhanced = [packet(big, false, 0, 1, &frames[0]), packet(big, false, 0, 2, &frames[1])];
         assert_ramps(
-            &format!("enhanced-{}.pcapng", big),
+            &format!("enhanced-{big}.pcapng"),
             &[start.clone(), enhanced.concat()].concat(),
         );
         let simple = [simple_packet(big, &frames[0]), simple_packet(big, &frames[1])];
-        assert_ramps(&format!("simple-{}.pcapng", big), &[start.clone(), simple.concat()].concat());
+        assert_ramps(&format!("simple-{big}.pcapng"), &[start.clone(), simple.concat()].concat());
         let obsolete = [packet(big, true, 0, 1, &frames[0]), packet(big, true, 0, 2, &frames[1])];
-        assert_ramps(&format!("obsolete-{}.pcapng", big), &[start, obsolete.concat()].concat());
+        assert_ramps(&format!("obsolete-{big}.pcapng"), &[start, obsolete.concat()].concat());
     }
 }
 
@@ -161,8 +161,8 @@ fn damage_is_told_with_its_place() {
         ("trailer", &trailer, "the block that begins at byte 60 has length"),
         ("order", &order, "byte 8: expected the byte-order mark of a pcapng section"),
     ] {
-        let run = run(&["replay", &rig("ramp.rig"), &file(&format!("damaged-{}", name), capture)]);
-        assert_eq!(run.status, 2, "{}", name);
+        let run = run(&["replay", &rig("ramp.rig"), &file(&format!("damaged-{name}"), capture)]);
+        assert_eq!(run.status, 2, "{name}");
         assert!(run.err.contains(wanted), "{}: {}", name, run.err);
     }
 }

@@ -14,7 +14,7 @@ fn help_for_all_and_for_each_command() {
     for command in ["check", "consume", "replay"] {
         let help = run(&[command, "--help"]);
         assert_eq!(help.status, 0);
-        assert!(help.out.starts_with(&format!("loomfinch {} RIG", command)), "{}", help.out);
+        assert!(help.out.starts_with(&format!("loomfinch {command} RIG")), "{}", help.out);
         assert!(help.out.contains("Example:"), "{}", help.out);
         assert_eq!(run(&["help", command]).out, help.out);
     }
@@ -48,7 +48,7 @@ fn the_help_shows_what_is_printed() {
             .map(|word| word.strip_prefix("rigs/").map_or(word.to_string(), rig))
             .collect();
         let wanted = words_of(printed.split("\n\n").next().unwrap());
-        assert_eq!(words_of(&run(&arguments).out), wanted, "{}", command);
+        assert_eq!(words_of(&run(&arguments).out), wanted, "{command}");
     }
 }
 
@@ -66,8 +66,8 @@ fn errors_of_use() {
         (&["check", "--", "--json"], "--json: "),
     ] {
         let run = run(arguments);
-        assert_eq!((run.status, run.out.as_str()), (2, ""), "{:?}", arguments);
-        assert!(run.err.starts_with(&format!("loomfinch: {}", wanted)), "{}", run.err);
+        assert_eq!((run.status, run.out.as_str()), (2, ""), "{arguments:?}");
+        assert!(run.err.starts_with(&format!("loomfinch: {wanted}")), "{}", run.err);
     }
 }
 

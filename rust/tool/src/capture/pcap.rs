@@ -26,7 +26,7 @@ impl Header {
         if major != 2 {
             return Err(Damage::at(
                 4,
-                format!("expected version 2 of the pcap form, found {}", major),
+                format!("expected version 2 of the pcap form, found {major}"),
             ));
         }
         // The high half of the link type says how long the frames' check sequence is.
@@ -34,10 +34,7 @@ impl Header {
         if link != ETHERNET {
             return Err(Damage::at(
                 20,
-                format!(
-                    "expected a capture of an Ethernet (link type 1), found link type {}",
-                    link
-                ),
+                format!("expected a capture of an Ethernet (link type 1), found link type {link}"),
             ));
         }
         Ok(Header { order, unit })
@@ -51,22 +48,20 @@ impl Header {
         }
         if head.len() < 16 {
             let text = format!(
-                "the file ends inside the header of packet {} that begins at byte {}",
-                number, start
+                "the file ends inside the header of packet {number} that begins at byte {start}"
             );
             return Err(Damage::at(source.offset(), text));
         }
         let captured = self.order.u32(&head, 8) as usize;
         if captured > MOST_PACKET {
             let text = format!(
-                "packet {} says it has {} bytes; no packet has more than {}",
-                number, captured, MOST_PACKET
+                "packet {number} says it has {captured} bytes; no packet has more than {MOST_PACKET}"
             );
             return Err(Damage::at(start + 8, text));
         }
         let seconds = u128::from(self.order.u32(&head, 0));
         let fraction = u128::from(self.order.u32(&head, 4));
-        let bytes = source.exactly(captured, &format!("packet {}", number), start)?;
+        let bytes = source.exactly(captured, &format!("packet {number}"), start)?;
         Ok(Some(Packet {
             number,
             time: Some(seconds * 1_000_000_000 + fraction * self.unit),

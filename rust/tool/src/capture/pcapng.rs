@@ -97,7 +97,7 @@ impl Section {
         if length < 28 {
             return Err(Damage::at(
                 start + 4,
-                format!("a section's header has 28 bytes or more; this one says {}", length),
+                format!("a section's header has 28 bytes or more; this one says {length}"),
             ));
         }
         let version = source.exactly(4, what, start)?;
@@ -105,7 +105,7 @@ impl Section {
         if major != 1 {
             return Err(Damage::at(
                 start + 12,
-                format!("expected version 1 of the pcapng form, found {}", major),
+                format!("expected version 1 of the pcapng form, found {major}"),
             ));
         }
         source.pass_over(length - 20, what, start)?;
@@ -141,7 +141,7 @@ impl Section {
             if kind.len() < 4 {
                 return Err(Damage::at(
                     source.offset(),
-                    format!("the file ends inside the block that begins at byte {}", start),
+                    format!("the file ends inside the block that begins at byte {start}"),
                 ));
             }
             let kind = self.order.u32(&kind, 0);
@@ -161,7 +161,7 @@ impl Section {
             if inside > 2 * MOST_PACKET {
                 return Err(Damage::at(
                     start + 4,
-                    format!("a block says it has {} bytes, more than any packet needs", length),
+                    format!("a block says it has {length} bytes, more than any packet needs"),
                 ));
             }
             source.exactly(inside, "the block", start)?
@@ -248,10 +248,8 @@ fn resolution(power: u8) -> Ticks {
 
 fn block_length(length: u32, start: u64) -> Result<usize, Damage> {
     if length < 12 || length % 4 != 0 {
-        let text = format!(
-            "a block's length is a multiple of 4 from 12 on; the block here says {}",
-            length
-        );
+        let text =
+            format!("a block's length is a multiple of 4 from 12 on; the block here says {length}");
         return Err(Damage::at(start + 4, text));
     }
     Ok(length as usize)
@@ -264,8 +262,7 @@ fn trailer(source: &mut Source, order: Order, length: usize, start: u64) -> Resu
     let again = order.u32(&again, 0) as usize;
     if again != length {
         let text = format!(
-            "the block that begins at byte {} has length {} before it and {} behind it",
-            start, length, again
+            "the block that begins at byte {start} has length {length} before it and {again} behind it"
         );
         return Err(Damage::at(at, text));
     }

@@ -70,6 +70,6 @@ impl Cursor {
     /// The error for something else than what was wanted; none found is the line's end.
     pub fn expected(&self, wanted: &str, found: Option<&Token>) -> Problem {
         let found = found.map_or("the end of the line".to_string(), Token::shown);
-        Problem::at(self.line, format!("expected {}, found {}", wanted, found))
+        Problem::at(self.line, format!("expected {wanted}, found {found}"))
     }
 }

@@ -115,7 +115,7 @@ impl Parts {
         if room > MOST_ROOM {
             return Err(Problem::at(
                 line,
-                format!("expected at most {} bytes, found {}", MOST_ROOM, room),
+                format!("expected at most {MOST_ROOM} bytes, found {room}"),
             ));
         }
         Ok(Value { of, bytes, room, milliseconds: self.milliseconds })
@@ -146,7 +146,7 @@ pub fn default_value(cursor: &mut Cursor, like: Option<ValueType>) -> Result<Val
     if room > MOST_ROOM {
         return Err(Problem::at(
             cursor.line,
-            format!("expected at most {} bytes in a default, found {}", MOST_ROOM, room),
+            format!("expected at most {MOST_ROOM} bytes in a default, found {room}"),
         ));
     }
     Ok(Value { of, bytes, room, milliseconds: false })
@@ -156,7 +156,7 @@ fn once(cursor: &Cursor, first: bool, part: &str) -> Result<bool, Problem> {
     if first {
         Ok(true)
     } else {
-        Err(Problem::at(cursor.line, format!("expected one {}, found a second", part)))
+        Err(Problem::at(cursor.line, format!("expected one {part}, found a second")))
     }
 }
 
@@ -169,7 +169,7 @@ fn room(cursor: &mut Cursor) -> Result<usize, Problem> {
     match number {
         Some(number) => Ok(number as usize),
         None => {
-            let wanted = format!("a room of 0 to {} bytes", MOST_ROOM);
+            let wanted = format!("a room of 0 to {MOST_ROOM} bytes");
             Err(cursor.expected(&wanted, token.as_ref()))
         }
     }
@@ -243,6 +243,6 @@ fn extent(cursor: &mut Cursor, part: &str) -> Result<u16, Problem> {
     };
     let bits = number.and_then(|n| n.checked_mul(unit)).and_then(|bits| u16::try_from(bits).ok());
     let wanted =
-        format!("the field's {} as a number of bytes up to 8191, or of bits up to 65535", part);
+        format!("the field's {part} as a number of bytes up to 8191, or of bits up to 65535");
     bits.ok_or_else(|| cursor.expected(&wanted, token.as_ref()))
 }

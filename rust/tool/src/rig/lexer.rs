@@ -117,7 +117,7 @@ impl<'a> Scanner<'a> {
             if bytes.len() > MOST_BYTES {
                 return Err(Problem::at(
                     self.line,
-                    format!("expected at most {} bytes in brackets", MOST_BYTES),
+                    format!("expected at most {MOST_BYTES} bytes in brackets"),
                 ));
             }
         }
@@ -198,7 +198,7 @@ mod tests {
             ("\"a\\q\"", "expected \\\""),
         ] {
             let problem = tokens(line, 7).unwrap_err();
-            assert_eq!(problem.line, Some(7), "{}", line);
+            assert_eq!(problem.line, Some(7), "{line}");
             assert!(problem.text.starts_with(wanted), "{}: {}", line, problem.text);
         }
     }

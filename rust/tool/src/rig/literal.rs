@@ -142,7 +142,7 @@ fn expectation(of: ValueType) -> String {
         }
         Unsigned8 | Unsigned16 | Unsigned32 => {
             let most = (1u64 << (8 * of.size().unwrap_or(1))) - 1;
-            format!("a number from 0 to {}", most)
+            format!("a number from 0 to {most}")
         }
         Unsigned64 => {
             "a number, a mapping (6000h/0 at 0 length 2) or a mapping word (0010 0000 0000 6000h)"

@@ -56,10 +56,10 @@ mod tests {
     #[test]
     fn what_is_no_number() {
         for word in ["", "h", "0x", "+5", "1F", "1.5", "-1", "18446744073709551616", "_", "é"] {
-            assert_eq!(unsigned(word), None, "{}", word);
+            assert_eq!(unsigned(word), None, "{word}");
         }
         for word in ["6000", "16000h", "g000h"] {
-            assert_eq!(index(word), None, "{}", word);
+            assert_eq!(index(word), None, "{word}");
         }
     }
 }

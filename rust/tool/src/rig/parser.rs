@@ -97,15 +97,11 @@ impl Reader {
         };
         let next = object.values.len() + 1;
         if from != next {
-            return Err(Problem::at(
-                cursor.line,
-                format!("expected element {}, found {}", next, from),
-            ));
+            return Err(Problem::at(cursor.line, format!("expected element {next}, found {from}")));
         }
         if to < from || to > MOST_ELEMENTS {
             let text = format!(
-                "expected elements up to {} at most, rising, found {}..{}",
-                MOST_ELEMENTS, from, to
+                "expected elements up to {MOST_ELEMENTS} at most, rising, found {from}..{to}"
             );
             return Err(Problem::at(cursor.line, text));
         }
@@ -130,8 +126,7 @@ impl Reader {
         ] {
             if count > most {
                 let text = format!(
-                    "expected at most {} {} in a rig, found {} with this object",
-                    most, what, count
+                    "expected at most {most} {what} in a rig, found {count} with this object"
                 );
                 return Err(Problem::at(line, text));
             }
@@ -197,7 +192,7 @@ fn object_parts(kind: Kind) -> &'static str {
 fn set<T>(place: &mut Option<T>, found: T, line: usize, part: &str) -> Result<(), Problem> {
     match place.replace(found) {
         None => Ok(()),
-        Some(_) => Err(Problem::at(line, format!("expected one {}, found a second", part))),
+        Some(_) => Err(Problem::at(line, format!("expected one {part}, found a second"))),
     }
 }
 

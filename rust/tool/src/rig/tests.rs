@@ -3,7 +3,7 @@
 use super::*;
 
 fn value_of(line: &str) -> Value {
-    let rig = parse(format!("6000h Variable {}", line).as_bytes())
+    let rig = parse(format!("6000h Variable {line}").as_bytes())
         .unwrap_or_else(|p| panic!("{}: {}", line, p.text));
     rig.objects[&0x6000].values[0].clone()
 }
@@ -77,15 +77,15 @@ fn values_of_every_type() {
         ("IpAddress = 192.168.100.5", &[192, 168, 100, 5]),
         ("IpAddress = [01 02 03 04]", &[1, 2, 3, 4]),
     ] {
-        assert_eq!(value_of(line).bytes, bytes, "{}", line);
+        assert_eq!(value_of(line).bytes, bytes, "{line}");
     }
 }
 
 /// The error of a rig whose third line is the given one.
 fn error_of(line: &str) -> Problem {
-    let text = format!("# a rig\n1600h Array\n{}\n", line);
+    let text = format!("# a rig\n1600h Array\n{line}\n");
     match parse(text.as_bytes()) {
-        Ok(_) => panic!("{} was taken", line),
+        Ok(_) => panic!("{line} was taken"),
         Err(problem) => problem,
     }
 }
@@ -151,12 +151,12 @@ fn errors_name_the_line_and_what_was_expected() {
 #[test]
 fn texts_that_no_room_holds() {
     let text = "x".repeat(1491);
-    let value = error_of(&format!("6000h Variable VisibleString = \"{}\"", text));
+    let value = error_of(&format!("6000h Variable VisibleString = \"{text}\""));
     assert_eq!(
         (value.line, value.text.as_str()),
         (Some(3), "expected at most 1490 bytes, found 1491")
     );
-    let default = error_of(&format!("6000h Variable U8 default VisibleString = \"{}\"", text));
+    let default = error_of(&format!("6000h Variable U8 default VisibleString = \"{text}\""));
     let wanted = "expected at most 1490 bytes in a default, found 1491";
     assert_eq!((default.line, default.text.as_str()), (Some(3), wanted));
 }
@@ -195,13 +195,12 @@ fn line_ends_and_marks_of_other_systems() {
 
 #[test]
 fn the_bounds_of_a_rig() {
-    let objects: String = (0..=1024).map(|k| format!("{:04X}h Variable U8\n", k)).collect();
+    let objects: String = (0..=1024).map(|k| format!("{k:04X}h Variable U8\n")).collect();
     let problem = parse(objects.as_bytes()).unwrap_err();
     assert_eq!(problem.line, Some(1025));
     assert!(problem.text.starts_with("expected at most 1024 objects"), "{}", problem.text);
-    let lists: String = (0..25).map(|k| format!("{:04X}h Array\n1..254 U8\n", k)).collect();
+    let lists: String = (0..25).map(|k| format!("{k:04X}h Array\n1..254 U8\n")).collect();
     assert!(parse(lists.as_bytes()).unwrap_err().text.starts_with("expected at most 6144 values"));
-    let rooms: String =
-        (0..22).map(|k| format!("{:04X}h Variable Domain room 1490\n", k)).collect();
+    let rooms: String = (0..22).map(|k| format!("{k:04X}h Variable Domain room 1490\n")).collect();
     assert!(parse(rooms.as_bytes()).unwrap_err().text.starts_with("expected at most 32768 bytes"));
 }
