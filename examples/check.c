@@ -1,0 +1,76 @@
+/* Lays a rig with the calls of loomfinch.h, checks its channel and consumes a payload: once with a move time of two bytes
+ * mapped onto two, and once with four bytes mapped onto two. examples/build builds it. */
+#include "loomfinch.h"
+
+#include <stdio.h>
+
+enum { OBJECTS = 8, VALUES = 16, BYTES = 64, UNSIGNED8 = 5, UNSIGNED16 = 6, UNSIGNED32 = 7, UNSIGNED64 = 8 };
+enum { VARIABLE = 0, ARRAY = 1, RECORD = 2, NO_ACCESS = 7 };
+
+static uint64_t objects[LOOMFINCH_OBJECTS_WORDS(OBJECTS)];
+static uint64_t slots[LOOMFINCH_SLOTS_WORDS(VALUES)];
+static uint64_t words[LOOMFINCH_WORDS_WORDS(VALUES)];
+static uint8_t bytes[BYTES];
+
+#define LENGTH(slice) (sizeof(slice) / sizeof *(slice))
+#define DICTIONARY objects, LENGTH(objects), slots, LENGTH(slots), words, LENGTH(words), bytes, LENGTH(bytes)
+
+/* Inserts an object of up to three numbers of one type; 0 where it is in. */
+static uint64_t insert(uint16_t index, uint64_t kind, uint64_t type, const uint64_t *numbers, size_t count) {
+    uint64_t values[3 * 3], written;
+    uint8_t encodings[3 * 8];
+    size_t length = 0;
+    for (size_t k = 0; k < count; k++) {
+        uint8_t *to = encodings + length;
+        uint64_t answer = loomfinch_encode(type, numbers[k], bytes, 0, to, sizeof encodings - length, &written);
+        if (answer != LOOMFINCH_DONE) {
+            return answer;
+        }
+        values[3 * k] = type;
+        values[3 * k + 1] = 0; /* a number needs no room for text */
+        values[3 * k + 2] = written;
+        length += written;
+    }
+    return loomfinch_insert(DICTIONARY, index, kind, NO_ACCESS, 0, (const uint8_t *)"", 0, values, 3 * count, encodings,
+                            length);
+}
+
+/* Channel 0 takes the payloads of node 5: a time at 6000h, in a field of so many bits, and a position at 6200h/3. */
+static int lay_rig(uint16_t time_bits) {
+    const uint64_t sender[] = {5, 0x10};
+    const uint64_t mapping[] = {loomfinch_to_u64(0x6000, 0, 0, time_bits), loomfinch_to_u64(0x6200, 3, 16, 32)};
+    const uint64_t nothing[] = {0, 0, 0};
+    return loomfinch_new(objects, LENGTH(objects)) == LOOMFINCH_DONE &&
+           insert(0x1400, RECORD, UNSIGNED8, sender, 2) == LOOMFINCH_DONE &&
+           insert(0x1600, ARRAY, UNSIGNED64, mapping, 2) == LOOMFINCH_DONE &&
+           insert(0x6000, VARIABLE, UNSIGNED16, nothing, 1) == LOOMFINCH_DONE &&
+           insert(0x6200, ARRAY, UNSIGNED32, nothing, 3) == LOOMFINCH_DONE;
+}
+
+static int show(uint16_t time_bits, const uint8_t *payload, size_t length) {
+    uint64_t events[LOOMFINCH_MOST_EVENTS], element, count, time, position;
+    if (!lay_rig(time_bits)) {
+        return 0;
+    }
+    uint64_t answer = loomfinch_check(DICTIONARY, 0, &element);
+    if (loomfinch_consume_pdo_payload(DICTIONARY, payload, length, 5, 0x12, 1, events, LENGTH(events), &count) ||
+        loomfinch_read_u16(DICTIONARY, 0x6000, 0, &time) || loomfinch_read_u32(DICTIONARY, 0x6200, 3, &position)) {
+        return 0;
+    }
+    printf("a time field of %d bits\n", time_bits);
+    if (answer == LOOMFINCH_DONE) {
+        printf("  the check passes\n");
+    } else if (answer == LOOMFINCH_WRONG_LENGTH) {
+        printf("  the check says: wrong length at element %d\n", (int)element);
+    } else {
+        printf("  the check answers %d\n", (int)answer);
+    }
+    printf("  the payload gives %d events, the time %d and the position %d\n", (int)count, (int)time, (int)position);
+    return 1;
+}
+
+int main(void) {
+    const uint8_t two_and_a_half_seconds[] = {0xC4, 0x09, 0x10, 0x27, 0x00, 0x00};
+    const uint8_t ninety_seconds[] = {0x90, 0x5F, 0x01, 0x00, 0x00, 0x00};
+    return show(16, two_and_a_half_seconds, 6) && show(32, ninety_seconds, 6) ? 0 : 1;
+}

@@ -1,0 +1,85 @@
+//! Consuming received payloads.
+
+use super::Dictionary;
+use crate::answer::{done, fit};
+use crate::event::{Events, Payload};
+use crate::refusal::Refusal;
+use crate::sys;
+use crate::types::{NodeId, PDOVersion};
+use crate::MOST_PAYLOADS;
+
+/// The most events of a payload.
+const MOST_EVENTS: usize = 254;
+
+impl Dictionary {
+    /// Consumes a received payload: the sender's channel is found, its version compared, and each field that its mapping
+    /// has is written to its target, in order. Nothing happens for a payload that is not ready or whose sender has no
+    /// channel.
+    ///
+    /// A run that stops half-way is no refusal: the fields before the stop are written, and the last event says why.
+    ///
+    /// Refuses with [`PayloadTooLong`](Refusal::PayloadTooLong) a payload over 1,490 bytes.
+    pub fn consume_pdo_payload(
+        &mut self,
+        source_node_id: NodeId,
+        payload: &[u8],
+        received_version: PDOVersion,
+        is_ready: bool,
+    ) -> Result<Events, Refusal> {
+        self.make_event_room(1);
+        let mut count = 0;
+        done(sys::consume_pdo_payload(
+            &mut self.parts,
+            payload,
+            source_node_id.0,
+            received_version.0,
+            is_ready,
+            &mut self.events,
+            &mut count,
+        ))?;
+        Ok(Events::of(self.events[..fit(count)].to_vec()))
+    }
+
+    /// Consumes the payloads of a cycle, one after another, each as
+    /// [`consume_pdo_payload`](Dictionary::consume_pdo_payload) would; the dictionary is judged once.
+    ///
+    /// Refuses, before any is consumed, with [`BadValue`](Refusal::BadValue) more than 1,024 payloads and one that does
+    /// not lie within what was delivered, and with [`PayloadTooLong`](Refusal::PayloadTooLong) one over 1,490 bytes.
+    pub fn consume_cycle(
+        &mut self,
+        delivered: &[u8],
+        payloads: &[Payload],
+    ) -> Result<Events, Refusal> {
+        self.make_event_room(payloads.len().min(MOST_PAYLOADS));
+        let numbers: Vec<u64> = payloads.iter().flat_map(|payload| payload.numbers()).collect();
+        let (mut consumed, mut count) = (0, 0);
+        done(sys::consume_cycle(
+            &mut self.parts,
+            delivered,
+            &numbers,
+            &mut self.events,
+            &mut consumed,
+            &mut count,
+        ))?;
+        debug_assert_eq!(consumed, payloads.len() as u64);
+        Ok(Events::of(self.events[..fit(count)].to_vec()))
+    }
+
+    /// Sets the bit of a node, 1 to 239, in the error object at an index, where that is an OctetString Variable which now
+    /// has the byte of that bit; elsewhere nothing happens.
+    pub fn update_pdo_error_object(
+        &mut self,
+        object_index: u16,
+        source_node_id: NodeId,
+    ) -> Result<(), Refusal> {
+        done(sys::update_pdo_error_object(&mut self.parts, object_index, source_node_id.0))
+    }
+
+    /// Makes room for all events of so many payloads, so that none lacks it.
+    fn make_event_room(&mut self, payloads: usize) {
+        let room = MOST_EVENTS * payloads;
+        if self.events.len() < room {
+            self.events.resize(room, 0);
+        }
+    }
+}

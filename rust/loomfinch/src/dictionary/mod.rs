@@ -1,0 +1,124 @@
+//! The dictionary, and what is inserted into it; each other file has some of its calls.
+
+mod checking;
+mod consuming;
+mod reading;
+mod writing;
+
+pub use writing::Written;
+
+use crate::answer::done;
+use crate::entry::{Description, ObjectEntry};
+use crate::parts::{Capacity, Parts};
+use crate::refusal::Refusal;
+use crate::sys;
+use std::fmt;
+
+/// An object dictionary that owns its memory, and a store that saves go to where one was given.
+///
+/// Every call judges the whole dictionary first; one that was made by [`new`](Dictionary::new) is never
+/// [`Malformed`](Refusal::Malformed). A call that refuses changes nothing.
+///
+/// ```
+/// use loomfinch::{Capacity, Dictionary, Object, ObjectEntry, ObjectValue};
+///
+/// let mut dictionary = Dictionary::new(Capacity { objects: 8, values: 32, bytes: 512 });
+/// let speed = ObjectEntry {
+///     name: "Speed",
+///     ..ObjectEntry::new(Object::Variable(ObjectValue::Unsigned16(2_500)))
+/// };
+/// dictionary.insert(0x6000, speed)?;
+/// assert_eq!(dictionary.find_by_name("Speed")?, 0x6000);
+/// assert_eq!(dictionary.read_u16(0x6000, 0)?, 2_500);
+/// # Ok::<(), loomfinch::Refusal>(())
+/// ```
+#[derive(Clone)]
+pub struct Dictionary {
+    parts: Parts,
+    /// Empty where there is none.
+    store: Vec<u8>,
+    /// Room for the events of a call, kept so that consuming need not make it anew.
+    events: Vec<u64>,
+}
+
+impl Dictionary {
+    /// Makes an empty dictionary without a store.
+    pub fn new(capacity: Capacity) -> Self {
+        let mut parts = Parts::new(capacity);
+        done(sys::new(&mut parts.objects)).expect("loomfinch: there is room for the header");
+        Dictionary::from_parts(parts)
+    }
+
+    /// A dictionary of memory that was laid out before, by this crate or by the calls for C. Where it is no dictionary,
+    /// every call refuses with [`Malformed`](Refusal::Malformed).
+    ///
+    /// ```
+    /// use loomfinch::{Capacity, Dictionary, Refusal};
+    ///
+    /// let mut parts = Dictionary::new(Capacity::MOST).into_parts();
+    /// parts.objects[0] = 1; // an object that has no row
+    /// parts.objects.truncate(12);
+    /// assert_eq!(Dictionary::from_parts(parts).check(0), Err(Refusal::Malformed));
+    /// ```
+    pub fn from_parts(parts: Parts) -> Self {
+        Dictionary { parts, store: Vec::new(), events: Vec::new() }
+    }
+
+    /// The dictionary's memory.
+    pub fn parts(&self) -> &Parts {
+        &self.parts
+    }
+
+    /// The dictionary's memory, of which the dictionary is made again by [`from_parts`](Dictionary::from_parts).
+    pub fn into_parts(self) -> Parts {
+        self.parts
+    }
+
+    /// Gives the dictionary a store, in which saves are kept. Fewer than 2 bytes are no store, and
+    /// [`MOST_STORED`](crate::MOST_STORED) bytes are always enough.
+    pub fn with_store(self, store: Vec<u8>) -> Self {
+        Dictionary { store, ..self }
+    }
+
+    /// The dictionary's store, empty where it has none.
+    pub fn store(&self) -> &[u8] {
+        &self.store
+    }
+
+    /// The dictionary's store, to be changed: zeros keep nothing, and an empty one is none.
+    pub fn store_mut(&mut self) -> &mut Vec<u8> {
+        &mut self.store
+    }
+
+    /// How much of its capacity the dictionary uses.
+    pub fn used(&self) -> Capacity {
+        self.parts.used()
+    }
+
+    /// Inserts an object at an index. Every other object keeps its name, values and rooms.
+    ///
+    /// Refuses, in this order, with [`BadValue`](Refusal::BadValue) an object that breaks a rule for sizes: a name over 32
+    /// bytes, more than 254 elements, a room over 1,490 bytes, a string longer than its room; with
+    /// [`Occupied`](Refusal::Occupied) an index that is taken; with [`Full`](Refusal::Full) an object that the dictionary
+    /// has no room for.
+    ///
+    /// ```
+    /// use loomfinch::{Capacity, Dictionary, Object, ObjectEntry, ObjectValue, Refusal};
+    ///
+    /// let mut dictionary = Dictionary::new(Capacity { objects: 1, values: 4, bytes: 64 });
+    /// let entry = ObjectEntry::new(Object::Variable(ObjectValue::Unsigned8(1)));
+    /// assert_eq!(dictionary.insert(0x6000, entry.clone()), Ok(()));
+    /// assert_eq!(dictionary.insert(0x6000, entry.clone()), Err(Refusal::Occupied));
+    /// assert_eq!(dictionary.insert(0x6001, entry), Err(Refusal::Full));
+    /// ```
+    pub fn insert(&mut self, index: u16, entry: ObjectEntry<'_>) -> Result<(), Refusal> {
+        let given = Description::of(&entry);
+        done(sys::insert(&mut self.parts, index, entry.name.as_bytes(), &given))
+    }
+}
+
+impl fmt::Debug for Dictionary {
+    fn fmt(&self, f: &mut fmt::Formatter<'_>) -> fmt::Result {
+        f.debug_struct("Dictionary").field("used", &self.used()).finish_non_exhaustive()
+    }
+}

@@ -1,0 +1,139 @@
+//! What is inserted: objects with their names, access and rooms.
+
+use crate::value::ObjectValue;
+use std::iter::repeat;
+
+/// An object's values.
+#[derive(Debug, Clone, PartialEq)]
+pub enum Object {
+    /// One value, at sub-index 0.
+    Variable(ObjectValue),
+    /// Elements at the sub-indices from 1 on; sub-index 0 is their count.
+    Array(Vec<ObjectValue>),
+    /// Elements at the sub-indices from 1 on; sub-index 0 is their count.
+    Record(Vec<ObjectValue>),
+}
+
+impl Object {
+    /// The values, in order.
+    pub fn values(&self) -> &[ObjectValue] {
+        match self {
+            Object::Variable(value) => std::slice::from_ref(value),
+            Object::Array(values) | Object::Record(values) => values,
+        }
+    }
+
+    pub(crate) fn kind(&self) -> u64 {
+        match self {
+            Object::Variable(_) => 0,
+            Object::Array(_) => 1,
+            Object::Record(_) => 2,
+        }
+    }
+}
+
+/// Who may write an object, and whether a save keeps it.
+#[derive(Debug, Clone, Copy, PartialEq, Eq, Hash)]
+#[repr(u8)]
+pub enum AccessType {
+    /// May be read.
+    ReadOnly,
+    /// May be written.
+    WriteOnly,
+    /// May be written, and is saved.
+    WriteOnlyStore,
+    /// May be read and written.
+    ReadWrite,
+    /// May be read and written, and is saved.
+    ReadWriteStore,
+    /// May be read and does not change.
+    Constant,
+    /// Controlled by the device.
+    Conditional,
+}
+
+impl AccessType {
+    pub(crate) fn number(access: Option<Self>) -> u64 {
+        access.map_or(7, |access| access as u64)
+    }
+}
+
+/// An object with its name, access, default and rooms, as [`insert`](crate::Dictionary::insert) takes it.
+///
+/// ```
+/// use loomfinch::{AccessType, Object, ObjectEntry, ObjectValue};
+///
+/// let cue = ObjectEntry {
+///     name: "Cue",
+///     access: Some(AccessType::ReadWriteStore),
+///     rooms: vec![40],
+///     ..ObjectEntry::new(Object::Variable(ObjectValue::VisibleString("Act I".into())))
+/// };
+/// assert_eq!(cue.default_value, None);
+/// ```
+#[derive(Debug, Clone, PartialEq)]
+pub struct ObjectEntry<'n> {
+    /// The values.
+    pub object: Object,
+    /// The name, of at most 32 bytes.
+    pub name: &'n str,
+    /// Who may write the object; an object without access may be written and is not saved.
+    pub access: Option<AccessType>,
+    /// What a restore puts where nothing was saved.
+    pub default_value: Option<ObjectValue>,
+    /// How many bytes each value, in order, has room for, for good. A value behind the last has just the room that it takes.
+    /// More rooms than values are refused.
+    pub rooms: Vec<usize>,
+}
+
+impl ObjectEntry<'_> {
+    /// An object without a name, access and default, each value with just the room that it takes.
+    pub fn new(object: Object) -> Self {
+        ObjectEntry { object, name: "", access: None, default_value: None, rooms: Vec::new() }
+    }
+}
+
+/// An object as the library takes it.
+pub struct Description {
+    pub kind: u64,
+    pub access: u64,
+    pub has_default: u64,
+    /// Of each value, the default last: its type, its room and the length of its encoding.
+    pub values: Vec<u64>,
+    /// The encodings back to back.
+    pub encodings: Vec<u8>,
+}
+
+impl Description {
+    pub fn of(entry: &ObjectEntry<'_>) -> Self {
+        let mut description = Description {
+            kind: entry.object.kind(),
+            access: AccessType::number(entry.access),
+            has_default: entry.default_value.is_some().into(),
+            values: Vec::new(),
+            encodings: Vec::new(),
+        };
+        let values = entry.object.values();
+        let rooms = entry.rooms.iter().map(|&room| Some(room)).chain(repeat(None));
+        for (value, room) in values.iter().zip(rooms) {
+            description.add(value, room);
+        }
+        if let Some(value) = &entry.default_value {
+            description.add(value, None);
+        }
+        if entry.rooms.len() > values.len() {
+            // A number that belongs to no value: the library refuses the description.
+            description.values.push(0);
+        }
+        description
+    }
+
+    /// Adds a value with a room, or with just the room that it takes.
+    fn add(&mut self, value: &ObjectValue, room: Option<usize>) {
+        let encoding = value.serialize();
+        let room = room.unwrap_or_else(|| value.part().len());
+        let numbers = [value.value_type().number().into(), room as u64, encoding.len() as u64];
+        self.values.extend(numbers);
+        self.encodings.extend(encoding);
+    }
+}

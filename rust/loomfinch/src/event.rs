@@ -1,0 +1,137 @@
+//! What happened while payloads were consumed.
+
+use crate::types::{NodeId, PDOVersion};
+
+/// Why a field stopped the run of its payload.
+#[derive(Debug, Clone, Copy, PartialEq, Eq, Hash)]
+pub enum Cause {
+    /// The field ends past the payload.
+    Frame,
+    /// The field has fewer bytes than the value's type.
+    Value,
+    /// The field is no UTF-8.
+    Text,
+    /// The field has an odd number of bytes for units of 16 bits.
+    Odd,
+}
+
+/// Why a field was not written; the run of its payload went on.
+#[derive(Debug, Clone, Copy, PartialEq, Eq, Hash)]
+pub enum Unwritten {
+    /// The target is a list's count.
+    CountNotWritable,
+    /// The field is longer than the room of its target.
+    TooLong,
+}
+
+/// What happened.
+#[derive(Debug, Clone, Copy, PartialEq, Eq, Hash)]
+pub enum Event {
+    /// The payload has the wrong mapping version, and nothing of it was written.
+    MapVersion,
+    /// A field stopped the run; those before it are written.
+    PayloadShort(Cause),
+    /// A field is for the SDO server, and not written.
+    Server {
+        /// The index of the server's channel, 1200h to 127Fh.
+        index: u16,
+        /// Where the field starts in the payload, in bytes.
+        start: u16,
+        /// The length of the field in bytes.
+        len: u16,
+    },
+    /// A field is for the SDO client, and not written.
+    Client {
+        /// The index of the client's channel, 1280h to 12FFh.
+        index: u16,
+        /// Where the field starts in the payload, in bytes.
+        start: u16,
+        /// The length of the field in bytes.
+        len: u16,
+    },
+    /// A field was not written.
+    WriteRefused(Unwritten),
+}
+
+/// An event and where it happened.
+#[derive(Debug, Clone, Copy, PartialEq, Eq, Hash)]
+pub struct EventRecord {
+    /// The number of the payload in its cycle, from 0; 0 for a single payload.
+    pub payload: u16,
+    /// The place of the element in the mapping, from 1; none with [`Event::MapVersion`].
+    pub element: Option<u8>,
+    /// What happened.
+    pub event: Event,
+}
+
+impl EventRecord {
+    /// Takes an event's number apart, as docs/RULES.md puts it together.
+    fn from_number(number: u64) -> Self {
+        let bits = |first: u32, count: u32| (number >> first & ((1 << count) - 1)) as u16;
+        let (index, start, len) = (bits(12, 16), bits(28, 13), bits(41, 13));
+        let event = match bits(0, 4) {
+            1 => Event::MapVersion,
+            2 => Event::PayloadShort(Cause::Frame),
+            3 => Event::PayloadShort(Cause::Value),
+            4 => Event::PayloadShort(Cause::Text),
+            5 => Event::PayloadShort(Cause::Odd),
+            6 => Event::Server { index, start, len },
+            7 => Event::Client { index, start, len },
+            8 => Event::WriteRefused(Unwritten::CountNotWritable),
+            9 => Event::WriteRefused(Unwritten::TooLong),
+            _ => panic!("loomfinch: the library has no event {number}"),
+        };
+        let element = bits(4, 8) as u8;
+        EventRecord { payload: bits(54, 10), element: (element > 0).then_some(element), event }
+    }
+}
+
+/// The events of a payload or of a cycle, in order.
+#[derive(Debug, Clone)]
+pub struct Events {
+    numbers: std::vec::IntoIter<u64>,
+}
+
+impl Events {
+    pub(crate) fn of(numbers: Vec<u64>) -> Self {
+        Events { numbers: numbers.into_iter() }
+    }
+}
+
+impl Iterator for Events {
+    type Item = EventRecord;
+
+    fn next(&mut self) -> Option<EventRecord> {
+        self.numbers.next().map(EventRecord::from_number)
+    }
+
+    fn size_hint(&self) -> (usize, Option<usize>) {
+        self.numbers.size_hint()
+    }
+}
+
+impl ExactSizeIterator for Events {}
+
+/// A payload of a cycle, which lies somewhere in the bytes that the cycle delivered.
+#[derive(Debug, Clone, Copy, PartialEq, Eq, Hash)]
+pub struct Payload {
+    /// Where the payload starts in the delivered bytes.
+    pub start: usize,
+    /// Its length in bytes.
+    pub len: usize,
+    /// The node that sent it.
+    pub source_node_id: NodeId,
+    /// The mapping version that came with it.
+    pub received_version: PDOVersion,
+    /// Whether its data is valid, as the frame's RD flag says.
+    pub is_ready: bool,
+}
+
+impl Payload {
+    /// The five numbers that the library takes for a payload.
+    pub(crate) fn numbers(&self) -> [u64; 5] {
+        let (start, len) = (self.start as u64, self.len as u64);
+        let (sender, version) = (self.source_node_id.0, self.received_version.0);
+        [start, len, sender.into(), version.into(), self.is_ready.into()]
+    }
+}

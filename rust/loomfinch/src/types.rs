@@ -1,0 +1,55 @@
+//! Small types with the names that powerlink-rs gives them.
+
+use std::fmt;
+
+/// The number of a node: 1 to 239 controlled nodes, 240 the managing node.
+#[derive(Debug, Clone, Copy, PartialEq, Eq, PartialOrd, Ord, Hash)]
+pub struct NodeId(pub u8);
+
+impl fmt::Display for NodeId {
+    fn fmt(&self, f: &mut fmt::Formatter<'_>) -> fmt::Result {
+        write!(f, "{}", self.0)
+    }
+}
+
+/// The version of a mapping: the high half is the main version, the low half the sub version; 0 is none.
+#[derive(Debug, Clone, Copy, PartialEq, Eq, Hash)]
+pub struct PDOVersion(pub u8);
+
+/// The address of a network interface, in the order of transmission.
+#[derive(Debug, Clone, Copy, PartialEq, Eq, Hash)]
+pub struct MacAddress(pub [u8; 6]);
+
+/// An Internet address of version 4, in the order of transmission.
+pub type IpAddress = [u8; 4];
+
+/// A time of the day. The four highest bits of `ms` are reserved and kept.
+#[derive(Debug, Clone, Copy, PartialEq, Eq, Hash, Default)]
+pub struct TimeOfDay {
+    /// Milliseconds after midnight.
+    pub ms: u32,
+    /// Days since 1 January 1984.
+    pub days: u16,
+}
+
+/// A difference of two times of the day. The four highest bits of `ms` are reserved and kept.
+#[derive(Debug, Clone, Copy, PartialEq, Eq, Hash, Default)]
+pub struct TimeDifference {
+    /// Milliseconds.
+    pub ms: u32,
+    /// Days.
+    pub days: u16,
+}
+
+/// A time as IEEE 1588 has it.
+#[derive(Debug, Clone, Copy, PartialEq, Eq, Hash, Default)]
+pub struct NetTime {
+    /// Seconds.
+    pub seconds: u32,
+    /// Nanoseconds within the second.
+    pub nanoseconds: u32,
+}
+
+/// A relative time, in microseconds.
+#[derive(Debug, Clone, Copy, PartialEq, Eq, Hash, Default)]
+pub struct RelativeTime(pub u64);

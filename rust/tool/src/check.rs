@@ -1,0 +1,205 @@
+//! The command `check`: what is wrong with a rig's channels.
+
+use crate::args::Check;
+use crate::console::Console;
+use crate::drawing;
+use crate::explain::{Element, Mapped, Target};
+use crate::failure::{Failure, Status};
+use crate::faults;
+use crate::json::Json;
+use crate::notes;
+use crate::rig::Rig;
+use crate::words::{self, named_place};
+use loomfinch::Checked;
+use std::io::Write;
+
+/// A channel with what the check says of it.
+struct Channel {
+    number: u8,
+    checked: Checked,
+    elements: Vec<Element>,
+    sentence: String,
+}
+
+pub fn run(options: &Check, console: &mut Console, out: &mut dyn Write) -> Result<Status, Failure> {
+    let answers = console.check().map_err(|refusal| Failure::Message(refusal.to_string()))?;
+    let channels: Vec<Channel> = answers
+        .into_iter()
+        .map(|(number, checked)| {
+            let elements = console.elements(number);
+            let sentence = faults::sentence(&console.rig, number, checked, &elements);
+            Channel { number, checked, elements, sentence }
+        })
+        .collect();
+    if options.json {
+        writeln!(out, "{}", json(&options.rig.shown, &console.rig, &channels, options.explain))?;
+    } else {
+        text(&console.rig, &channels, options.explain, out)?;
+    }
+    let clean = channels.iter().all(|channel| channel.checked.is_pass());
+    Ok(if clean { Status::Clean } else { Status::Faults })
+}
+
+fn text(
+    rig: &Rig,
+    channels: &[Channel],
+    explain: bool,
+    out: &mut dyn Write,
+) -> Result<(), Failure> {
+    for channel in channels {
+        let verdict = if channel.checked.is_pass() {
+            "pass".to_string()
+        } else {
+            format!("FAULT: {}", channel.sentence)
+        };
+        writeln!(
+            out,
+            "channel {}, from {}, {}: {}",
+            channel.number,
+            sender_words(rig, channel),
+            words::counted(channel.elements.len(), "element"),
+            verdict
+        )?;
+        if explain {
+            explanation(rig, channel, out)?;
+        }
+    }
+    for note in all_notes(rig, channels) {
+        writeln!(out, "note: {note}")?;
+    }
+    if channels.is_empty() {
+        writeln!(
+            out,
+            "no channel: the rig has no object from 1400h to 14FFh, so nothing is received"
+        )?;
+    }
+    Ok(())
+}
+
+fn explanation(rig: &Rig, channel: &Channel, out: &mut dyn Write) -> Result<(), Failure> {
+    let drawing = drawing::draw(rig, &channel.elements);
+    let words: Vec<String> =
+        channel.elements.iter().map(|element| element_words(rig, element)).collect();
+    if !drawing.is_empty() {
+        writeln!(out, "\n{}", drawing.join("\n"))?;
+    }
+    if !words.is_empty() {
+        writeln!(out, "\n    {}\n", words.join("\n    "))?;
+    }
+    Ok(())
+}
+
+fn element_words(rig: &Rig, element: &Element) -> String {
+    match (element.fault, &element.mapped) {
+        (Some(fault), _) => faults::of_element(rig, element, fault),
+        (None, Some(mapped)) => format!(
+            "element {} maps {} onto {}, {}: whole",
+            element.number,
+            words::bytes(mapped.length()),
+            named_place(rig, mapped.entry.index, mapped.entry.sub_index),
+            target_words(mapped.target)
+        ),
+        (None, None) => format!("element {} maps nothing", element.number),
+    }
+}
+
+fn target_words(target: Target) -> String {
+    match target {
+        Target::Fixed { value_type, size } => {
+            format!("{} of {}", words::type_with_article(value_type), words::bytes(size))
+        }
+        Target::Text { value_type, room } => {
+            format!("{} with room for {}", words::type_with_article(value_type), words::bytes(room))
+        }
+        Target::Count => "a list's count".to_string(),
+        Target::NoObject | Target::NoSubIndex => "nothing".to_string(),
+    }
+}
+
+/// The sender whose payloads the channel takes.
+fn sender(rig: &Rig, channel: &Channel) -> Option<u8> {
+    rig.named_sender(channel.number).filter(|_| channel.checked != Checked::NoSender)
+}
+
+fn sender_words(rig: &Rig, channel: &Channel) -> String {
+    sender(rig, channel).map_or("no node".to_string(), words::node)
+}
+
+/// What is no fault, of the channels and of the rig.
+fn all_notes(rig: &Rig, channels: &[Channel]) -> Vec<String> {
+    let of_channel = |channel: &Channel| notes::of_channel(rig, channel.number, &channel.elements);
+    channels.iter().flat_map(of_channel).chain(notes::of_rig(rig)).collect()
+}
+
+fn json(file: &str, rig: &Rig, channels: &[Channel], explain: bool) -> Json {
+    Json::Object(vec![
+        ("rig", Json::text(file)),
+        ("pass", Json::Bool(channels.iter().all(|channel| channel.checked.is_pass()))),
+        (
+            "channels",
+            Json::List(
+                channels.iter().map(|channel| channel_json(rig, channel, explain)).collect(),
+            ),
+        ),
+        ("notes", Json::List(all_notes(rig, channels).into_iter().map(Json::Text).collect())),
+    ])
+}
+
+fn channel_json(rig: &Rig, channel: &Channel, explain: bool) -> Json {
+    let fault = Json::Object(vec![
+        ("name", Json::text(channel.checked.name())),
+        ("number", Json::number(channel.checked.number())),
+        ("element", Json::or_null(channel.checked.element().map(Json::number))),
+        ("text", Json::text(channel.sentence.as_str())),
+    ]);
+    let mut members = vec![
+        ("channel", Json::number(channel.number)),
+        ("sender", Json::or_null(sender(rig, channel).map(Json::number))),
+        ("elements", Json::Number(channel.elements.len() as u64)),
+        ("pass", Json::Bool(channel.checked.is_pass())),
+        ("fault", if channel.checked.is_pass() { Json::Null } else { fault }),
+    ];
+    if explain {
+        members.push(("mapping", Json::List(channel.elements.iter().map(element_json).collect())));
+    }
+    Json::Object(members)
+}
+
+fn element_json(element: &Element) -> Json {
+    let mapped = element.mapped.as_ref();
+    let number =
+        |of: fn(&Mapped) -> u64| Json::or_null(mapped.map(|mapped| Json::Number(of(mapped))));
+    Json::Object(vec![
+        ("element", Json::number(element.number)),
+        ("type", Json::text(element.element_type.name())),
+        ("fault", Json::or_null(element.fault.map(|fault| Json::text(fault.name())))),
+        ("index", number(|mapped| mapped.entry.index.into())),
+        ("sub_index", number(|mapped| mapped.entry.sub_index.into())),
+        ("offset_bits", number(|mapped| mapped.entry.offset_bits.into())),
+        ("length_bits", number(|mapped| mapped.entry.length_bits.into())),
+        ("target", Json::or_null(mapped.map(|mapped| target_json(mapped.target)))),
+    ])
+}
+
+fn target_json(target: Target) -> Json {
+    let kind = |name: &str| ("kind", Json::text(name));
+    Json::Object(match target {
+        Target::NoObject => vec![kind("no object")],
+        Target::NoSubIndex => vec![kind("no sub-index")],
+        Target::Count => vec![kind("count")],
+        Target::Fixed { value_type, size } => {
+            vec![
+                kind("value"),
+                ("type", Json::text(value_type.name())),
+                ("size", Json::Number(size as u64)),
+            ]
+        }
+        Target::Text { value_type, room } => {
+            vec![
+                kind("string"),
+                ("type", Json::text(value_type.name())),
+                ("room", Json::Number(room as u64)),
+            ]
+        }
+    })
+}

@@ -1,0 +1,224 @@
+//! A rig laid into a dictionary of the library, which checks and consumes; the rig keeps a copy of each value, so that
+//! what a payload changed can be told.
+
+use crate::explain::{self, Element};
+use crate::memory::Memory;
+use crate::rig::{Kind, Object, Place, Problem, Rig, Value};
+use loomfinch::{
+    decode, Capacity, Cause, Checked, Dictionary, Event, EventRecord, NodeId, ObjectEntry,
+    ObjectValue, PDOVersion, Refusal, Unwritten,
+};
+use std::collections::HashMap;
+
+pub struct Console {
+    pub rig: Rig,
+    dictionary: Dictionary,
+    memory: Memory,
+    /// The explained mappings of channels, for as long as they stay.
+    explained: HashMap<u8, Vec<Element>>,
+}
+
+/// A payload with what came along with it.
+#[derive(Clone, Copy, Debug)]
+pub struct Received<'a> {
+    pub sender: u8,
+    pub version: u8,
+    pub ready: bool,
+    pub payload: &'a [u8],
+}
+
+/// What consuming a payload came to.
+pub enum Consumed {
+    NotReady,
+    NoChannel,
+    /// The version is wrong; the one that the channel expects.
+    WrongVersion {
+        channel: u8,
+        expected: u8,
+        noted: Option<Change>,
+    },
+    Taken {
+        channel: u8,
+        steps: Vec<Step>,
+        noted: Option<Change>,
+    },
+}
+
+/// An element of the mapping, and what became of its field.
+pub struct Step {
+    pub element: Element,
+    pub outcome: Outcome,
+}
+
+pub enum Outcome {
+    Written(Change),
+    /// Neither written nor reported by the library: misaligned, no mapping word, no target, a mapping's count.
+    PassedOver,
+    HandedOn,
+    Refused(Unwritten),
+    Stopped(Cause),
+    /// An earlier element stopped the payload.
+    NotReached,
+}
+
+/// A value before and after a payload.
+pub struct Change {
+    pub index: u16,
+    pub sub_index: u8,
+    pub before: Value,
+    pub after: Value,
+}
+
+/// The objects that note senders whose payloads had a wrong version, or were short.
+const WRONG_VERSIONS: u16 = 0x1C80;
+const SHORT_PAYLOADS: u16 = 0x1C81;
+
+impl Console {
+    pub fn new(rig: Rig) -> Result<Console, Problem> {
+        let mut dictionary = Dictionary::new(capacity(&rig));
+        for (index, object) in &rig.objects {
+            let refused = |refusal: Refusal| {
+                Problem::at(object.line, format!("the library refuses this object: {refusal}"))
+            };
+            dictionary.insert(*index, entry(object).map_err(refused)?).map_err(refused)?;
+        }
+        let memory = Memory::of(&rig);
+        Ok(Console { rig, dictionary, memory, explained: HashMap::new() })
+    }
+
+    /// What the library's check says of each channel that has a record.
+    pub fn check(&self) -> Result<Vec<(u8, Checked)>, Refusal> {
+        self.dictionary.check_all()
+    }
+
+    pub fn consume(&mut self, received: Received) -> Result<Consumed, Refusal> {
+        let (node, version) = (NodeId(received.sender), PDOVersion(received.version));
+        let channel = self.rig.channel_of(received.sender);
+        let answer =
+            self.dictionary.consume_pdo_payload(node, received.payload, version, received.ready)?;
+        let events: Vec<EventRecord> = answer.collect();
+        let channel = match channel {
+            _ if !received.ready => return Ok(Consumed::NotReady),
+            None => return Ok(Consumed::NoChannel),
+            Some(channel) => channel,
+        };
+        if events.iter().any(|record| record.event == Event::MapVersion) {
+            let expected = self.rig.record_u8(0x1400 + u16::from(channel), 2).unwrap_or(0);
+            let noted = self.noted(WRONG_VERSIONS);
+            return Ok(Consumed::WrongVersion { channel, expected, noted });
+        }
+        let elements = self.elements(channel);
+        let steps = self.steps(elements, &events);
+        let short = events.iter().any(|record| record.event == Event::PayloadShort(Cause::Frame));
+        let noted = if short { self.noted(SHORT_PAYLOADS) } else { None };
+        Ok(Consumed::Taken { channel, steps, noted })
+    }
+
+    /// The explained mapping of a channel.
+    pub fn elements(&mut self, channel: u8) -> Vec<Element> {
+        let rig = &self.rig;
+        self.explained.entry(channel).or_insert_with(|| explain::mapping(rig, channel)).clone()
+    }
+
+    /// Each element with its outcome. The old values are taken before the first is read again, since two elements may
+    /// have one target.
+    fn steps(&mut self, elements: Vec<Element>, events: &[EventRecord]) -> Vec<Step> {
+        let before: Vec<Option<Value>> =
+            elements.iter().map(|element| self.stored_at(element)).collect();
+        let mut stopped = false;
+        let mut steps = Vec::new();
+        for (element, old) in elements.into_iter().zip(before) {
+            let event = events.iter().find(|record| record.element == Some(element.number));
+            let outcome = match event.map(|record| record.event) {
+                _ if stopped => Outcome::NotReached,
+                Some(Event::PayloadShort(cause)) => Outcome::Stopped(cause),
+                Some(Event::Server { .. }) | Some(Event::Client { .. }) => Outcome::HandedOn,
+                Some(Event::WriteRefused(why)) => Outcome::Refused(why),
+                Some(Event::MapVersion) | None => self.quiet_outcome(&element, old),
+            };
+            stopped = stopped || matches!(outcome, Outcome::Stopped(_));
+            steps.push(Step { element, outcome });
+        }
+        steps
+    }
+
+    /// The value that an element's field would be written to.
+    fn stored_at(&self, element: &Element) -> Option<Value> {
+        let mapped = element.mapped.as_ref()?;
+        match self.rig.place(mapped.entry.index, mapped.entry.sub_index) {
+            Place::Value(_, value) if mapped.field.is_some() => Some(value.clone()),
+            _ => None,
+        }
+    }
+
+    /// The outcome of an element that was reached and gave no event.
+    fn quiet_outcome(&mut self, element: &Element, old: Option<Value>) -> Outcome {
+        let entry = element.mapped.as_ref().map(|mapped| mapped.entry).zip(old);
+        let change =
+            entry.and_then(|(entry, old)| self.read_again(entry.index, entry.sub_index, old));
+        change.map_or(Outcome::PassedOver, Outcome::Written)
+    }
+
+    /// Reads a value from the dictionary, and brings the rig's copy up to date.
+    fn read_again(&mut self, index: u16, sub_index: u8, before: Value) -> Option<Change> {
+        let object = self.rig.objects.get_mut(&index)?;
+        let place = object.value_place(sub_index)?;
+        let value = object.values.get_mut(place)?;
+        value.bytes = self.memory.read(self.dictionary.parts(), index, place, value.of)?;
+        if (0x1600..=0x16FF).contains(&index) {
+            self.explained.remove(&(index as u8));
+        }
+        Some(Change { index, sub_index, before, after: value.clone() })
+    }
+
+    /// The change of an error object, where the rig has one and it changed.
+    fn noted(&mut self, index: u16) -> Option<Change> {
+        let before = match self.rig.place(index, 0) {
+            Place::Value(_, value) => value.clone(),
+            _ => return None,
+        };
+        let change = self.read_again(index, 0, before)?;
+        Some(change).filter(|change| change.before.bytes != change.after.bytes)
+    }
+
+    /// Holds each value of the rig's copy against what the library reads.
+    #[cfg(test)]
+    pub fn assert_up_to_date(&self) {
+        for (index, object) in &self.rig.objects {
+            for (value, sub_index) in object.values.iter().zip(u8::from(object.is_list())..) {
+                let read = self.dictionary.read(*index, sub_index).unwrap();
+                assert_eq!(read.value_type(), value.of);
+                assert_eq!(read.serialize(), value.bytes, "{index:04X}h/{sub_index}");
+            }
+        }
+    }
+}
+
+fn capacity(rig: &Rig) -> Capacity {
+    let objects = rig.objects.len();
+    let values = rig.objects.values().map(Object::value_count).sum();
+    let bytes = rig.objects.values().map(Object::weight).sum();
+    Capacity { objects, values, bytes }
+}
+
+fn entry(object: &Object) -> Result<ObjectEntry<'_>, Refusal> {
+    let values: Result<Vec<ObjectValue>, Refusal> =
+        object.values.iter().map(object_value).collect();
+    let mut values = values?;
+    let inner = match object.kind {
+        Kind::Variable => loomfinch::Object::Variable(values.pop().ok_or(Refusal::BadValue)?),
+        Kind::Array => loomfinch::Object::Array(values),
+        Kind::Record => loomfinch::Object::Record(values),
+    };
+    Ok(ObjectEntry {
+        object: inner,
+        name: &object.name,
+        access: object.access,
+        default_value: object.default.as_ref().map(object_value).transpose()?,
+        rooms: object.values.iter().map(|value| value.room).collect(),
+    })
+}
+
+fn object_value(value: &Value) -> Result<ObjectValue, Refusal> {
+    decode(value.of, &value.bytes)
+}

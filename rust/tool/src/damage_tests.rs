@@ -1,0 +1,268 @@
+//! Damaged rigs and captures end with a clear error or a right result: nothing here may panic.
+
+use crate::capture::Capture;
+use crate::check;
+use crate::console::{Console, Consumed, Outcome, Received};
+use crate::consume::give;
+use crate::frame::{self, Frame};
+use crate::rig::{self, Rig};
+use crate::words::Style;
+use loomfinch::Checked;
+use std::collections::HashMap;
+use std::io::Cursor;
+
+#[path = "../tests/common/captures.rs"]
+mod captures;
+
+const RIGS: [&[u8]; 3] = [
+    include_bytes!("../../../rigs/ramp.rig"),
+    include_bytes!("../../../rigs/mended.rig"),
+    include_bytes!("../../../rigs/faults.rig"),
+];
+const REHEARSAL: &[u8] = include_bytes!("../../../rigs/rehearsal.pcap");
+
+/// Numbers that are the same in each run (Marsaglia's xorshift).
+struct Chance(u64);
+
+impl Chance {
+    fn next(&mut self) -> u64 {
+        self.0 ^= self.0 << 13;
+        self.0 ^= self.0 >> 7;
+        self.0 ^= self.0 << 17;
+        self.0
+    }
+
+    fn below(&mut self, bound: usize) -> usize {
+        (self.next() % bound.max(1) as u64) as usize
+    }
+
+    /// The bytes with one damage: cut, a flipped bit, another byte, a part left out or said twice.
+    fn damaged(&mut self, bytes: &[u8]) -> Vec<u8> {
+        let mut damaged = bytes.to_vec();
+        let at = self.below(bytes.len());
+        let until = (at + 1 + self.below(12)).min(bytes.len());
+        match self.below(5) {
+            0 => damaged.truncate(at),
+            1 => damaged[at] ^= 1 << self.below(8),
+            2 => damaged[at] = self.next() as u8,
+            3 => drop(damaged.drain(at..until)),
+            _ => drop(damaged.splice(at..at, bytes[at..until].iter().copied())),
+        }
+        damaged
+    }
+}
+
+/// Checks and uses a rig if it is one; else its error has words, and a line of the file if any.
+fn use_rig(text: &[u8]) -> bool {
+    let lines = text.iter().filter(|byte| **byte == b'\n').count() + 1;
+    let mut console = match rig::parse(text).and_then(Console::new) {
+        Ok(console) => console,
+        Err(problem) => {
+            assert!(!problem.text.is_empty());
+            assert!(
+                problem.line.map_or(true, |line| (1..=lines).contains(&line)),
+                "{}",
+                problem.text
+            );
+            return false;
+        }
+    };
+    assert_explained(&mut console);
+    let mut out = Vec::new();
+    for json in [false, true] {
+        let rig = crate::args::Named { path: "x".into(), shown: "x".to_string() };
+        let options = crate::args::Check { rig, json, explain: true };
+        assert!(check::run(&options, &mut console, &mut out).is_ok());
+    }
+    assert!(!out.is_empty());
+    for sender in [0, 5, 240] {
+        let received = Received { sender, version: 0x12, ready: true, payload: &[0xFF; 50] };
+        assert!(!give(&mut console, received, Style::default()).lines.is_empty());
+    }
+    true
+}
+
+/// The explained elements have just the faults that the library names.
+fn assert_explained(console: &mut Console) {
+    for (channel, checked) in console.check().unwrap() {
+        let elements = console.elements(channel);
+        let first = elements.iter().find(|element| element.fault.is_some());
+        match checked {
+            Checked::Element { element, fault } => {
+                assert_eq!(
+                    first.map(|found| (found.number, found.fault)),
+                    Some((element, Some(fault)))
+                );
+            }
+            Checked::Pass | Checked::TooFar => assert!(first.is_none() && !elements.is_empty()),
+            Checked::NoList => assert!(elements.is_empty()),
+            Checked::NoSender => {
+                let sender = console.rig.named_sender(channel);
+                assert_ne!(sender.and_then(|sender| console.rig.channel_of(sender)), Some(channel));
+            }
+        }
+    }
+}
+
+#[test]
+fn damaged_rigs() {
+    let mut chance = Chance(0x1400_1600);
+    let mut used = 0;
+    for round in 0..600 {
+        let damaged = chance.damaged(RIGS[round % 3]);
+        let twice = chance.damaged(&damaged);
+        used += usize::from(use_rig(&damaged)) + usize::from(use_rig(&twice));
+    }
+    assert!((100..1100).contains(&used), "{used} of 1200 were still rigs");
+}
+
+#[test]
+fn random_bytes_as_rigs() {
+    let mut chance = Chance(0x6000);
+    for _ in 0..2000 {
+        let text: Vec<u8> = (0..chance.below(200)).map(|_| chance.next() as u8).collect();
+        use_rig(&text);
+        let signs = b"0123456789ABCDEFh/. \n\"[]=*#";
+        let likely: Vec<u8> =
+            text.iter().map(|byte| signs[usize::from(*byte) % signs.len()]).collect();
+        use_rig(&likely);
+    }
+}
+
+/// Reads a capture to its end or its damage, and gives what it holds to the console.
+fn use_capture(console: &mut Console, bytes: &[u8]) -> usize {
+    let size = bytes.len() as u64;
+    let mut packets = 0;
+    let mut capture = match Capture::open(Box::new(Cursor::new(bytes.to_vec()))) {
+        Ok(capture) => capture,
+        Err(damage) => {
+            assert!(damage.offset <= size && !damage.text.is_empty());
+            return packets;
+        }
+    };
+    loop {
+        match capture.next_packet() {
+            Ok(Some(packet)) => {
+                packets += 1;
+                assert!(packets <= bytes.len() && packet.bytes.len() <= bytes.len());
+                if let Frame::Poll(poll) = frame::dissect(&packet.bytes) {
+                    let (sender, version, ready, payload) =
+                        (poll.sender, poll.version, poll.ready, poll.payload);
+                    give(console, Received { sender, version, ready, payload }, Style::default());
+                }
+            }
+            Ok(None) => return packets,
+            Err(damage) => {
+                assert!(damage.offset <= size && !damage.text.is_empty(), "{}", damage.text);
+                return packets;
+            }
+        }
+    }
+}
+
+fn newer_capture(big: bool) -> Vec<u8> {
+    let frame = captures::response(5, 0x12, &[0x90, 0x5F, 1, 0, 0, 0]);
+    [
+        captures::section(big),
+        captures::interface(big, 1, 0x86),
+        captures::packet(big, false, 0, 7, &frame),
+        captures::packet(big, true, 0, 8, &frame),
+        captures::simple_packet(big, &frame),
+    ]
+    .concat()
+}
+
+#[test]
+fn damaged_captures() {
+    let rig: Rig = rig::parse(RIGS[0]).unwrap();
+    let mut console = Console::new(rig).unwrap_or_else(|problem| panic!("{}", problem.text));
+    let frames = [captures::response(5, 0x12, &[1, 2, 3, 4, 5, 6]), captures::request(1, 0, &[7])];
+    let whole = [
+        REHEARSAL.to_vec(),
+        newer_capture(false),
+        newer_capture(true),
+        captures::pcap(true, true, &frames),
+    ];
+    assert_eq!(
+        whole.iter().map(|bytes| use_capture(&mut console, bytes)).collect::<Vec<_>>(),
+        [10, 3, 3, 2]
+    );
+    let mut chance = Chance(0x88AB);
+    for bytes in &whole {
+        for length in 0..bytes.len() {
+            use_capture(&mut console, &bytes[..length]);
+        }
+        for _ in 0..1000 {
+            let damaged = chance.damaged(bytes);
+            use_capture(&mut console, &damaged);
+        }
+    }
+}
+
+/// A rig of random objects, and a channel of random elements onto them and beside them.
+fn random_rig(chance: &mut Chance) -> String {
+    let mut text = "1400h Record\n1 U8 = 5\n1600h Array\n".to_string();
+    for element in 1..=1 + chance.below(8) {
+        let index = match chance.below(12) {
+            0 => 0x1200,
+            1 => 0x1600,
+            2 => 0x1C81,
+            _ => 0x6000 + chance.below(6),
+        };
+        let target = format!("{:04X}h/{}", index, chance.below(3));
+        let unit = if chance.below(20) == 0 { "bits" } else { "bytes" };
+        let (offset, length) = (chance.below(12), [1, 2, 4, 8, chance.below(12)][chance.below(5)]);
+        text += &format!("{element} {target} at {offset} {unit} length {length}\n");
+    }
+    for index in 0..5 {
+        let of = loomfinch::ValueType::from_number(chance.below(21) as u8).unwrap();
+        let value = format!("{} room {}", of.name(), chance.below(10));
+        match chance.below(2) {
+            0 => text += &format!("{:04X}h Variable {}\n", 0x6000 + index, value),
+            _ => text += &format!("{:04X}h Array\n1..2 {}\n", 0x6000 + index, value),
+        }
+    }
+    text + "1C81h Variable OctetString = [00 * 32]\n"
+}
+
+/// What was told to be written is what the payload's fields say, and what the library reads.
+fn assert_written(console: &mut Console, payload: &[u8]) -> usize {
+    let consumed = console.consume(Received { sender: 5, version: 0, ready: true, payload });
+    let steps = match consumed {
+        Ok(Consumed::Taken { steps, .. }) => steps,
+        _ => panic!("the payload was not taken"),
+    };
+    console.assert_up_to_date();
+    let mut written = HashMap::new();
+    for step in &steps {
+        if let (Outcome::Written(change), Some(mapped)) = (&step.outcome, &step.element.mapped) {
+            let field = &payload[mapped.field.clone().unwrap()];
+            let kept = change.after.of.size().unwrap_or(field.len());
+            written.insert((change.index, change.sub_index), (field[..kept].to_vec(), change));
+        }
+    }
+    for ((index, _), (field, change)) in &written {
+        // A short payload sets a bit in 1C81h after it was written.
+        assert!(*index == 0x1C81 || change.after.bytes == *field, "{index:04X}h");
+    }
+    written.len()
+}
+
+#[test]
+fn what_is_told_was_written() {
+    let mut chance = Chance(0x1C81);
+    let mut written = 0;
+    for _ in 0..400 {
+        let text = random_rig(&mut chance);
+        let rig = rig::parse(text.as_bytes())
+            .unwrap_or_else(|problem| panic!("{}\n{}", problem.text, text));
+        let mut console = Console::new(rig).unwrap_or_else(|problem| panic!("{}", problem.text));
+        assert_explained(&mut console);
+        for _ in 0..3 {
+            let payload: Vec<u8> =
+                (0..chance.below(24)).map(|_| chance.next() as u8 >> 1).collect();
+            written += assert_written(&mut console, &payload);
+        }
+    }
+    assert!(written > 300, "only {written} fields were written");
+}

@@ -1,0 +1,167 @@
+//! What an Ethernet frame carries: a POWERLINK payload, or something else.
+
+use crate::rig::MANAGING_NODE;
+
+/// The EtherType of POWERLINK.
+const POWERLINK: u16 = 0x88AB;
+
+/// EtherTypes of tags that stand before the frame's own.
+const TAGS: [u16; 2] = [0x8100, 0x88A8];
+
+const POLL_REQUEST: u8 = 3;
+const POLL_RESPONSE: u8 = 4;
+
+/// The RD flag: the payload's data is valid.
+const READY: u8 = 0x01;
+
+/// Bytes of a poll frame before its payload, counted from the message type.
+const HEAD: usize = 10;
+
+#[derive(Debug, PartialEq, Eq)]
+pub enum Frame<'a> {
+    Poll(Poll<'a>),
+    /// A poll frame whose size goes past its end, or that ends inside its head.
+    Cut {
+        request: bool,
+        sender: Option<u8>,
+        said: Option<usize>,
+        there: usize,
+    },
+    /// Another POWERLINK message, by its type.
+    Message(u8),
+    /// Another protocol, by its EtherType.
+    Foreign(u16),
+    /// Too short for an EtherType.
+    Runt,
+}
+
+/// A poll request or response: the frames that carry process data.
+#[derive(Debug, PartialEq, Eq)]
+pub struct Poll<'a> {
+    pub request: bool,
+    /// The node that the frame is addressed to.
+    pub destination: u8,
+    pub sender: u8,
+    pub version: u8,
+    pub ready: bool,
+    pub payload: &'a [u8],
+}
+
+pub fn dissect(bytes: &[u8]) -> Frame<'_> {
+    let mut at = 12;
+    loop {
+        let ether_type = match bytes.get(at..at + 2) {
+            Some(pair) => u16::from_be_bytes([pair[0], pair[1]]),
+            None => return Frame::Runt,
+        };
+        match ether_type {
+            POWERLINK => return message(&bytes[at + 2..]),
+            tag if TAGS.contains(&tag) => at += 4,
+            other => return Frame::Foreign(other),
+        }
+    }
+}
+
+/// A POWERLINK message, from its message type on.
+fn message(bytes: &[u8]) -> Frame<'_> {
+    let kind = match bytes.first() {
+        Some(byte) => byte & 0x7F,
+        None => return Frame::Runt,
+    };
+    let request = kind == POLL_REQUEST;
+    if !request && kind != POLL_RESPONSE {
+        return Frame::Message(kind);
+    }
+    let sender = if request { Some(MANAGING_NODE) } else { bytes.get(2).copied() };
+    let there = bytes.len().saturating_sub(HEAD);
+    if bytes.len() < HEAD {
+        return Frame::Cut { request, sender, said: None, there: bytes.len() };
+    }
+    let said = usize::from(u16::from_le_bytes([bytes[8], bytes[9]]));
+    match bytes.get(HEAD..HEAD + said) {
+        Some(payload) => Frame::Poll(Poll {
+            request,
+            destination: bytes[1],
+            sender: sender.unwrap_or(0),
+            version: bytes[6],
+            ready: bytes[4] & READY != 0,
+            payload,
+        }),
+        None => Frame::Cut { request, sender, said: Some(said), there },
+    }
+}
+
+/// The name of a POWERLINK message type.
+pub fn message_name(kind: u8) -> String {
+    match kind {
+        1 => "SoC".to_string(),
+        5 => "SoA".to_string(),
+        6 => "ASnd".to_string(),
+        other => format!("POWERLINK message {other:02X}h"),
+    }
+}
+
+#[cfg(test)]
+mod tests {
+    use super::*;
+
+    fn frame(tags: &[u8], message: &[u8]) -> Vec<u8> {
+        let mut bytes = vec![0; 12];
+        bytes.extend(tags);
+        bytes.extend([0x88, 0xAB]);
+        bytes.extend(message);
+        bytes
+    }
+
+    const RESPONSE: [u8; 13] = [0x04, 255, 5, 0xFD, 0x01, 0, 0x12, 0, 2, 0, 0xC4, 0x09, 0];
+
+    #[test]
+    fn a_response_has_its_source_as_sender() {
+        let wanted = Poll {
+            request: false,
+            destination: 255,
+            sender: 5,
+            version: 0x12,
+            ready: true,
+            payload: &[0xC4, 9],
+        };
+        assert_eq!(dissect(&frame(&[], &RESPONSE)), Frame::Poll(wanted));
+    }
+
+    #[test]
+    fn a_request_comes_from_the_managing_node() {
+        let mut request = RESPONSE;
+        request[0] = 3;
+        request[4] = 0x20;
+        let wanted = Poll {
+            request: true,
+            destination: 255,
+            sender: 240,
+            version: 0x12,
+            ready: false,
+            payload: &[0xC4, 9],
+        };
+        assert_eq!(dissect(&frame(&[], &request)), Frame::Poll(wanted));
+    }
+
+    #[test]
+    fn tags_are_passed_over() {
+        let plain = frame(&[], &RESPONSE);
+        let tagged = frame(&[0x88, 0xA8, 0, 2, 0x81, 0x00, 0, 3], &RESPONSE);
+        assert_eq!(dissect(&plain), dissect(&tagged));
+    }
+
+    #[test]
+    fn what_is_cut_or_foreign() {
+        let mut long = RESPONSE;
+        long[8] = 4;
+        let cut = Frame::Cut { request: false, sender: Some(5), said: Some(4), there: 3 };
+        assert_eq!(dissect(&frame(&[], &long)), cut);
+        let head = Frame::Cut { request: false, sender: Some(5), said: None, there: 9 };
+        assert_eq!(dissect(&frame(&[], &RESPONSE[..9])), head);
+        assert_eq!(dissect(&frame(&[], &[0x01, 255, 240])), Frame::Message(1));
+        assert_eq!(dissect(&frame(&[0x08, 0x00], &RESPONSE)), Frame::Foreign(0x0800));
+        assert_eq!(dissect(&[0; 13]), Frame::Runt);
+        assert_eq!(dissect(&frame(&[], &[])), Frame::Runt);
+    }
+}

@@ -1,0 +1,118 @@
+//! The help texts.
+
+pub const MORE: &str = "'loomfinch --help' says more.";
+
+pub const ALL: &str = "\
+loomfinch says why a drive did not get the time that was sent to it.
+
+A console receives times and positions from the drives as process data over
+Ethernet POWERLINK. Its object dictionary says which bytes of a payload go to
+which object. You describe that dictionary in a text file, the rig file, and
+loomfinch tells you whether each channel writes what it maps, and what given
+payloads change.
+
+  loomfinch check RIG                 is something wrong with the mappings?
+  loomfinch consume RIG --from NODE --version V HEX...
+                                      what do these payloads change?
+  loomfinch replay RIG CAPTURE        what did a network capture change?
+
+  loomfinch COMMAND --help            more on a command, with an example
+  loomfinch --version                 the version of this program
+
+A rig file looks like this (docs/RIG.md has all of it):
+
+  1400h Record \"From the winch\"
+    1 Unsigned8 = 5                   # the node that sends
+    2 Unsigned8 = 10h                 # the mapping version it must have
+  1600h Array \"What the winch sends\"
+    1 6000h/0 at 0 length 2           # bytes 0 and 1 go to 6000h
+  6000h Variable Unsigned16 \"Ramp time\" = 2500 ms
+
+Exit status: 0 nothing is wrong, 1 something is, 2 the command or a file could
+not be understood.
+";
+
+pub const CHECK: &str = "\
+loomfinch check RIG [--explain] [--json]
+
+Checks every channel of a rig: is each mapped field written whole, by every
+payload that the channel accepts? Each channel has a line: who sends, how many
+elements its mapping has, and 'pass' or what is wrong, in words.
+
+  --explain   draws the payload of each channel: which bytes go to which
+              object, where fields overlap, what is lost
+  --json      writes one JSON object for programs (docs/TOOL.md has its shape)
+
+Example:
+
+  $ loomfinch check rigs/ramp.rig
+  channel 0, from node 5, 2 elements: FAULT: element 1 maps 4 bytes onto
+  6000h/0 \"Ramp time\", an Unsigned16 of 2 bytes: the last 2 bytes would be lost
+  note: channel 0: elements 1 and 2 share bytes 2 to 3 of the payload
+
+So a ramp of 90000 ms would be stored as 24464 ms.
+
+Exit status: 0 all channels pass, 1 some channel has a fault, 2 the command or
+the rig file could not be understood.
+";
+
+pub const CONSUME: &str = "\
+loomfinch consume RIG --from NODE --version V HEX... [options]
+
+Gives payloads to the rig, one after another, and says what each of them
+changes: old value and new value, what was refused and why, and the error bits
+in 1C80h and 1C81h.
+
+  HEX           a payload as hexadecimal digits: C40910270000, or with spaces
+                in quotes: 'C4 09 10 27 00 00'; each HEX is one payload
+  --from NODE   the node that sends: 1 to 239, or 240 for the managing node
+  --version V   the mapping version that comes with the payloads; 0 is none
+  --not-ready   the payloads come without the RD flag
+  --times       show every Unsigned16 and Unsigned32 as a time in ms and s,
+                also where the rig file has no 'ms' beside it
+  --comma       write seconds with a comma: 2,500 s
+
+Numbers are decimal (16) or hexadecimal (10h, 0x10).
+
+Example:
+
+  $ loomfinch consume rigs/ramp.rig --from 5 --version 12h 905F01000000
+  payload 1: 6 bytes from node 5, version 12h
+    6000h/0 \"Ramp time\": 0 ms = 0.000 s -> 24464 ms = 24.464 s
+      CUT: element 1's field is 90 5F 01 00, 90000 ms = 90.000 s; the last 2
+      bytes, 01 00, are lost
+    6200h/3 \"Move times\": 0 ms = 0.000 s -> 1 ms = 0.001 s
+
+Exit status: 0 all was written, 1 something was refused, cut or passed over, 2
+the command or the rig file could not be understood.
+";
+
+pub const REPLAY: &str = "\
+loomfinch replay RIG CAPTURE [options]
+
+Reads a network capture (pcap or pcapng, of an Ethernet), gives the payloads of
+its POWERLINK frames to the rig in their order, and says for each frame what it
+changed, what was refused and why. A table by sender follows. CAPTURE may be -
+for the standard input.
+
+  --node N      the console's own node: requests of the managing node (PReq)
+                to other nodes are left out
+  --quiet       write the table alone
+  --times       show every Unsigned16 and Unsigned32 as a time in ms and s,
+                also where the rig file has no 'ms' beside it
+  --comma       write seconds with a comma: 2,500 s
+
+Example:
+
+  $ loomfinch replay rigs/mended.rig rigs/rehearsal.pcap --quiet
+  sender  frames  not ready  fields written  stops  first fault
+       5       7          1               6      2  No. 7: stopped at element 1
+  (6000h/0 \"Ramp time\"): it needs 4 bytes of payload, and 3 came
+       9       1          0               0      0  none: no channel takes this
+  sender
+  other frames: 1 EtherType 0800h, 1 SoC
+
+Exit status: 0 all was written, 1 something was refused, cut or passed over, 2
+the command or a file could not be understood; a capture that is damaged is
+told up to the damage.
+";

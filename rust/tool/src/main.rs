@@ -1,0 +1,92 @@
+//! `loomfinch`: checks a rig's POWERLINK mappings, and shows what received payloads change in it.
+
+#![forbid(unsafe_code)]
+
+mod args;
+mod capture;
+mod check;
+mod console;
+mod consume;
+mod drawing;
+mod explain;
+mod failure;
+mod faults;
+mod frame;
+mod help;
+mod json;
+mod memory;
+mod notes;
+mod progress;
+mod reasons;
+mod replay;
+mod report;
+mod rig;
+mod table;
+mod words;
+
+#[cfg(test)]
+mod damage_tests;
+
+use args::{Command, Named};
+use console::Console;
+use failure::{Failure, Status};
+use std::fs::File;
+use std::io::{self, BufWriter, ErrorKind, Read, Write};
+use std::process::ExitCode;
+
+/// No rig needs more; what is larger was not meant to be one.
+const MOST_RIG_BYTES: u64 = 4 << 20;
+
+fn main() -> ExitCode {
+    let mut out = BufWriter::new(io::stdout().lock());
+    let done = args::parse(std::env::args_os().skip(1).collect())
+        .map_err(Failure::Message)
+        .and_then(|command| run(&command, &mut out));
+    let flushed = out.flush();
+    match done.and_then(|status| flushed.map(|()| status).map_err(Failure::Output)) {
+        Ok(Status::Clean) => ExitCode::SUCCESS,
+        Ok(Status::Faults) => ExitCode::from(1),
+        // Whoever read the output has read enough.
+        Err(Failure::Output(error)) if error.kind() == ErrorKind::BrokenPipe => ExitCode::SUCCESS,
+        Err(Failure::Output(error)) => complain(&format!("the output cannot be written: {error}")),
+        Err(Failure::Message(text)) => complain(&text),
+    }
+}
+
+fn complain(text: &str) -> ExitCode {
+    // There is no one left to tell if this fails.
+    let _ = writeln!(io::stderr(), "loomfinch: {text}");
+    ExitCode::from(2)
+}
+
+fn run(command: &Command, out: &mut dyn Write) -> Result<Status, Failure> {
+    match command {
+        Command::Help(text) => out.write_all(text.as_bytes())?,
+        Command::Version => writeln!(out, "loomfinch {}", env!("CARGO_PKG_VERSION"))?,
+        Command::Check(options) => return check::run(options, &mut console(&options.rig)?, out),
+        Command::Consume(options) => {
+            return consume::run(options, &mut console(&options.rig)?, out)
+        }
+        Command::Replay(options) => return replay::run(options, &mut console(&options.rig)?, out),
+    }
+    Ok(Status::Clean)
+}
+
+/// The console that a rig file describes.
+fn console(file: &Named) -> Result<Console, Failure> {
+    let failed = |error: io::Error| Failure::Message(format!("{}: {}", file.shown, error));
+    let mut text = Vec::new();
+    File::open(&file.path)
+        .map_err(failed)?
+        .take(MOST_RIG_BYTES + 1)
+        .read_to_end(&mut text)
+        .map_err(failed)?;
+    if text.len() as u64 > MOST_RIG_BYTES {
+        let text =
+            format!("{}: expected a rig file of at most {} bytes", file.shown, MOST_RIG_BYTES);
+        return Err(Failure::Message(text));
+    }
+    rig::parse(&text)
+        .and_then(Console::new)
+        .map_err(|problem| Failure::Message(problem.shown(&file.shown)))
+}

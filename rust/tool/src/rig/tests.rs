@@ -1,0 +1,206 @@
+//! The rig form: what it says, and what it says is wrong.
+
+use super::*;
+
+fn value_of(line: &str) -> Value {
+    let rig = parse(format!("6000h Variable {line}").as_bytes())
+        .unwrap_or_else(|p| panic!("{}: {}", line, p.text));
+    rig.objects[&0x6000].values[0].clone()
+}
+
+#[test]
+fn the_set_up_of_the_cases() {
+    let text = "
+        1400h Record          # who sends
+          1 Unsigned8 = 5
+          2 Unsigned8 = 10h
+        1600h Array
+          1 0010 0000 0000 6000h
+          2 6200h/3 at 2 length 4
+          3 0020_0010_0003_6200h
+        6000h Variable Unsigned16
+        6200h Array
+          1..3 Unsigned32
+        1C81h Variable OctetString = [00 * 32]
+    ";
+    let rig = parse(text.as_bytes()).unwrap();
+    assert_eq!(rig.objects.len(), 5);
+    let words: Vec<Option<u64>> =
+        rig.mapping_list(0).unwrap().iter().map(Value::unsigned).collect();
+    assert_eq!(
+        words,
+        [0x0010_0000_0000_6000, 0x0020_0010_0003_6200, 0x0020_0010_0003_6200].map(Some)
+    );
+    assert_eq!(rig.objects[&0x6200].values.len(), 3);
+    assert_eq!(rig.objects[&0x1C81].values[0].room, 32);
+    assert_eq!((rig.channel_of(5), rig.channel_of(6), rig.channel_of(0)), (Some(0), None, None));
+}
+
+#[test]
+fn all_parts_of_an_object_in_any_order() {
+    let line = "6000h var rws \"Ramp\" u16 default = 7 ms = 2500 room 3";
+    let rig = parse(line.as_bytes()).unwrap();
+    let object = &rig.objects[&0x6000];
+    assert_eq!((object.name.as_str(), object.access), ("Ramp", Some(AccessType::ReadWriteStore)));
+    assert_eq!(object.default.as_ref().unwrap().bytes, [7, 0]);
+    let value = &object.values[0];
+    assert_eq!((value.bytes.as_slice(), value.room, value.milliseconds), (&[0xC4, 9][..], 3, true));
+}
+
+#[test]
+fn values_of_every_type() {
+    for (line, bytes) in [
+        ("Boolean = true", &[1][..]),
+        ("Boolean = 255", &[255]),
+        ("Integer8 = -128", &[0x80]),
+        ("INTEGER16 = -1", &[0xFF, 0xFF]),
+        ("Integer32 = +5", &[5, 0, 0, 0]),
+        ("Integer64 = -2", &[0xFE, 255, 255, 255, 255, 255, 255, 255]),
+        ("Unsigned8", &[0]),
+        ("Unsigned16 = 0x0102", &[2, 1]),
+        ("Unsigned32 = 90_000", &[0x90, 0x5F, 1, 0]),
+        ("Unsigned64 = 6000h at 1 length 2", &[0, 0x60, 0, 0, 8, 0, 16, 0]),
+        ("Real32 = 1.0", &[0, 0, 0x80, 0x3F]),
+        ("Real32 = 7FC00001h", &[1, 0, 0xC0, 0x7F]),
+        ("Real64 = -2", &[0, 0, 0, 0, 0, 0, 0, 0xC0]),
+        ("VISIBLE_STRING = \"Acte 1 é\"", "Acte 1 é".as_bytes()),
+        ("VisibleString = [41 42]", b"AB"),
+        ("OctetString = []", &[]),
+        ("UnicodeString = \"é!\"", &[0xE9, 0, 0x21, 0]),
+        ("Domain = [00*2 FF]", &[0, 0, 255]),
+        ("TimeOfDay = 1 ms 2 days", &[1, 0, 0, 0, 2, 0]),
+        ("TimeDifference = 3 days", &[0, 0, 0, 0, 3, 0]),
+        ("NetTime = 1 s 2 ns", &[1, 0, 0, 0, 2, 0, 0, 0]),
+        ("RelativeTime = 9 us", &[9, 0, 0, 0, 0, 0, 0, 0]),
+        ("RelativeTime = 9", &[9, 0, 0, 0, 0, 0, 0, 0]),
+        ("MacAddress = 00:60:65:01:02:0A", &[0, 0x60, 0x65, 1, 2, 10]),
+        ("IpAddress = 192.168.100.5", &[192, 168, 100, 5]),
+        ("IpAddress = [01 02 03 04]", &[1, 2, 3, 4]),
+    ] {
+        assert_eq!(value_of(line).bytes, bytes, "{line}");
+    }
+}
+
+/// The error of a rig whose third line is the given one.
+fn error_of(line: &str) -> Problem {
+    let text = format!("# a rig\n1600h Array\n{line}\n");
+    match parse(text.as_bytes()) {
+        Ok(_) => panic!("{line} was taken"),
+        Err(problem) => problem,
+    }
+}
+
+#[test]
+fn errors_name_the_line_and_what_was_expected() {
+    for (line, wanted) in [
+        ("Variable", "expected an index, as in 6000h, or an element's number, as in 1, found 'Variable'"),
+        ("\"6000h\"", "expected an index, as in 6000h, or an element's number, as in 1, found the text \"6000h\""),
+        ("6000h", "expected Variable, Array or Record, found the end of the line"),
+        ("6000h Varible", "expected Variable, Array or Record, found 'Varible'"),
+        ("6000h Variable", "expected a type, such as Unsigned16"),
+        ("6000h Variable U16 rww", "expected a type, a \"name\", an access, '=', 'room', 'ms' or 'default', found 'rww'"),
+        ("6000h Variable U16 U8", "expected one type, found a second"),
+        ("6000h Variable U16 = 1 = 2", "expected one value, found a second"),
+        ("6000h Variable U16 \"a\" \"b\"", "expected one name, found a second"),
+        ("6000h Variable = 5", "expected a type before '=', as in Unsigned16 = 2500"),
+        ("6000h Variable U16 = 65536", "expected a number from 0 to 65535 for an Unsigned16, found '65536'"),
+        ("6000h Variable U16 = -1", "expected a number from 0 to 65535 for an Unsigned16, found '-1'"),
+        ("6000h Variable I8 = 128", "expected a number from -128 to 127 for an Integer8, found '128'"),
+        ("6000h Variable U16 =", "expected a number from 0 to 65535 for an Unsigned16, found the end of the line"),
+        ("6000h Variable U16 = [00]", "expected 2 bytes in brackets for an Unsigned16, found 1 byte in brackets"),
+        ("6000h Variable VisibleString", "expected a room for a VisibleString, as in room 40"),
+        ("6000h Variable VisibleString = 5", "expected text in double quotes for a VisibleString, found '5'"),
+        ("6000h Variable VisibleString room 2 = \"abc\"", "the value has 3 bytes, its room only 2"),
+        ("6000h Variable VisibleString = [FF]", "expected text in UTF-8 in the brackets for a VisibleString"),
+        ("6000h Variable UnicodeString = [FF]", "expected an even number of bytes in the brackets"),
+        ("6000h Variable U16 room 1491", "expected a room of 0 to 1490 bytes, found '1491'"),
+        ("6000h Variable Real32 ms", "expected 'ms' only beside an Unsigned type, found it beside a Real32"),
+        ("6000h Variable U16 default 5", "expected '=' and the default's value, found '5'"),
+        ("6000h Array default = 5", "expected a type behind 'default', as in default Unsigned16 = 2500"),
+        ("6000h Array Unsigned16", "expected elements on their own lines, as in 1 Unsigned16: an Array has no value"),
+        ("6000h Variable U8 \"a name of thirty-three characters\"", "expected a name of at most 32 bytes, found 33"),
+        ("1600h Array", "expected each index once, found 1600h again (first on line 2)"),
+        ("2 Unsigned16", "expected element 1, found 2"),
+        ("1..255 Unsigned16", "expected elements up to 254 at most, rising, found 1..255"),
+        ("1 Unsignd16", "expected a type, as in Unsigned16, or a mapping, as in 6000h/0 at 0 length 2, found 'Unsignd16'"),
+        ("1 6000h/0 at 0", "expected 'length' and the field's length in bytes, found the end of the line"),
+        ("1 6000h/256 at 0 length 2", "expected a target, as in 6000h/0, found '6000h/256'"),
+        ("1 6000h/0 at 9000 length 2", "expected the field's offset as a number of bytes up to 8191"),
+        ("1 6000h/0 at 0 length two", "expected the field's length as a number of bytes up to 8191"),
+        ("1 0010 0000 6000h", "expected a mapping, as in 6000h/0 at 0 length 2, or a mapping word, as in 0010 0000 0000 6000h, found '0010'"),
+        ("1 6000h", "expected a mapping, as in 6000h/0 at 0 length 2, or a mapping word"),
+        ("1 2500", "expected a mapping, as in 6000h/0 at 0 length 2, or a mapping word"),
+        ("1", "expected a type, such as Unsigned16"),
+        ("6000h Variable U16 ro rw", "expected one access, found a second"),
+        ("6000h Variable U16 ms ms", "expected one ms, found a second"),
+        ("6000h Variable U16 room 1 room 2", "expected one room, found a second"),
+        ("6000h Variable U16 default = 1 default = 2", "expected one default, found a second"),
+        ("6000h Variable IpAddress = 1.2.3", "expected an address, as in 192.168.100.5 for an IpAddress, found '1.2.3'"),
+        ("6000h Variable MacAddress = 1:2:3:4:5:G", "expected an address, as in 00:60:65:01:02:03 for a MacAddress"),
+        ("6000h Variable NetTime = 5 ns 1 s", "expected seconds and nanoseconds, as in 12 s 500 ns for a NetTime"),
+        ("6000h Variable Real32 = inf", "expected a decimal number, or its bits as 3F800000h for a Real32"),
+        ("6000h Variable Boolean = yes", "expected true, false or a number from 0 to 255 for a Boolean, found 'yes'"),
+        ("6000h Variable U8 = 1 [", "expected a closing ]"),
+    ] {
+        let problem = error_of(line);
+        assert_eq!(problem.line, Some(3), "{}: {}", line, problem.text);
+        assert!(problem.text.starts_with(wanted), "{}: {}", line, problem.text);
+    }
+}
+
+#[test]
+fn texts_that_no_room_holds() {
+    let text = "x".repeat(1491);
+    let value = error_of(&format!("6000h Variable VisibleString = \"{text}\""));
+    assert_eq!(
+        (value.line, value.text.as_str()),
+        (Some(3), "expected at most 1490 bytes, found 1491")
+    );
+    let default = error_of(&format!("6000h Variable U8 default VisibleString = \"{text}\""));
+    let wanted = "expected at most 1490 bytes in a default, found 1491";
+    assert_eq!((default.line, default.text.as_str()), (Some(3), wanted));
+}
+
+#[test]
+fn elements_need_a_list() {
+    let first = parse(b"1 Unsigned16").unwrap_err();
+    assert_eq!(
+        (first.line, first.text.as_str()),
+        (Some(1), "expected an object, as in 1600h Array, before its elements")
+    );
+    let variable = parse(b"6000h Variable U8\n1 U8").unwrap_err();
+    assert_eq!(
+        (variable.line, variable.text.as_str()),
+        (Some(2), "expected a new object: a Variable has no elements")
+    );
+}
+
+#[test]
+fn files_that_are_empty_or_no_text() {
+    for text in ["", "\n\n# nothing\n", "\u{FEFF}"] {
+        assert_eq!(parse(text.as_bytes()).unwrap_err().line, None);
+    }
+    let problem = parse(b"# one\n# two \xFF\n").unwrap_err();
+    assert_eq!(
+        (problem.line, problem.shown("x.rig").as_str()),
+        (Some(2), "x.rig:2: expected text in UTF-8, found a byte that is none")
+    );
+}
+
+#[test]
+fn line_ends_and_marks_of_other_systems() {
+    let rig = parse("\u{FEFF}6000h Variable U8\r\n6001h Variable U8\r\n".as_bytes()).unwrap();
+    assert_eq!(rig.objects.len(), 2);
+}
+
+#[test]
+fn the_bounds_of_a_rig() {
+    let objects: String = (0..=1024).map(|k| format!("{k:04X}h Variable U8\n")).collect();
+    let problem = parse(objects.as_bytes()).unwrap_err();
+    assert_eq!(problem.line, Some(1025));
+    assert!(problem.text.starts_with("expected at most 1024 objects"), "{}", problem.text);
+    let lists: String = (0..25).map(|k| format!("{k:04X}h Array\n1..254 U8\n")).collect();
+    assert!(parse(lists.as_bytes()).unwrap_err().text.starts_with("expected at most 6144 values"));
+    let rooms: String = (0..22).map(|k| format!("{k:04X}h Variable Domain room 1490\n")).collect();
+    assert!(parse(rooms.as_bytes()).unwrap_err().text.starts_with("expected at most 32768 bytes"));
+}

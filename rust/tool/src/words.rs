@@ -1,0 +1,158 @@
+//! Plain words: numbers, places, types and values as a person reads them.
+
+use crate::rig::{is_unsigned, little_endian, Kind, Rig, Value};
+use loomfinch::{PdoMappingEntry, ValueType};
+
+/// How values are shown.
+#[derive(Clone, Copy, Debug, Default)]
+pub struct Style {
+    /// Show every Unsigned16 and Unsigned32 as a time, marked in the rig or not.
+    pub times: bool,
+    /// Write the decimal mark as a comma.
+    pub comma: bool,
+}
+
+pub fn bytes(count: usize) -> String {
+    counted(count, "byte")
+}
+
+/// `1 byte`, `2 bytes`.
+pub fn counted(count: usize, thing: &str) -> String {
+    format!("{} {}{}", count, thing, if count == 1 { "" } else { "s" })
+}
+
+/// A type's name with its article.
+pub fn type_with_article(of: ValueType) -> String {
+    let vowel = matches!(of.name().as_bytes()[0], b'I' | b'O') || is_unsigned(of);
+    format!("{} {}", if vowel { "an" } else { "a" }, of.name())
+}
+
+pub fn kind_with_article(kind: Kind) -> String {
+    format!("{} {}", if kind == Kind::Array { "an" } else { "a" }, kind.name())
+}
+
+/// `6000h/0`.
+pub fn place(index: u16, sub_index: u8) -> String {
+    format!("{index:04X}h/{sub_index}")
+}
+
+/// `6000h/0 "Ramp time"`.
+pub fn named_place(rig: &Rig, index: u16, sub_index: u8) -> String {
+    match rig.name(index) {
+        "" => place(index, sub_index),
+        name => format!("{} \"{}\"", place(index, sub_index), name.escape_debug()),
+    }
+}
+
+pub fn node(node: u8) -> String {
+    match node {
+        240 => "the managing node (240)".to_string(),
+        node => format!("node {node}"),
+    }
+}
+
+pub fn version(version: u8) -> String {
+    format!("{version:02X}h")
+}
+
+pub fn hex(bytes: &[u8]) -> String {
+    let pairs: Vec<String> = bytes.iter().map(|byte| format!("{byte:02X}")).collect();
+    pairs.join(" ")
+}
+
+/// The value in the form in which a rig file writes it, and as a time where it is one.
+pub fn value(value: &Value, style: Style) -> String {
+    as_type(value.of, &value.bytes, value.milliseconds, style)
+}
+
+/// Bytes as a value of a type; longer fields of numbers are read whole.
+pub fn as_type(of: ValueType, bytes: &[u8], milliseconds: bool, style: Style) -> String {
+    use ValueType::*;
+    let number = little_endian(bytes);
+    let timed = style.times && matches!(of, Unsigned16 | Unsigned32);
+    match of {
+        _ if is_unsigned(of) && (milliseconds || timed) => time(number, style),
+        Integer8 | Integer16 | Integer32 | Integer64 => signed(number, bytes.len()).to_string(),
+        Real32 => f32::from_bits(number as u32).to_string(),
+        Real64 => f64::from_bits(number).to_string(),
+        VisibleString => format!("\"{}\"", String::from_utf8_lossy(bytes).escape_debug()),
+        UnicodeString => format!("\"{}\"", String::from_utf16_lossy(&units(bytes)).escape_debug()),
+        OctetString | Domain => format!("[{}]", hex(bytes)),
+        TimeOfDay | TimeDifference => format!("{} ms {} days", number as u32, number >> 32),
+        NetTime => format!("{} s {} ns", number as u32, number >> 32),
+        RelativeTime => format!("{number} us"),
+        MacAddress => joined(bytes, ":", |byte| format!("{byte:02X}")),
+        IpAddress => joined(bytes, ".", |byte| byte.to_string()),
+        _ => number.to_string(),
+    }
+}
+
+/// A mapping word as a rig file writes it: `6000h/0 at 0 length 2`.
+pub fn mapping(word: u64) -> String {
+    let entry = PdoMappingEntry::from_u64(word);
+    let target = place(entry.index, entry.sub_index);
+    match entry.field() {
+        Some(field) => format!("{} at {} length {}", target, field.start, field.len()),
+        None => {
+            format!("{} at {} bits length {} bits", target, entry.offset_bits, entry.length_bits)
+        }
+    }
+}
+
+/// `2500 ms = 2.500 s`.
+fn time(milliseconds: u64, style: Style) -> String {
+    let mark = if style.comma { ',' } else { '.' };
+    format!("{} ms = {}{}{:03} s", milliseconds, milliseconds / 1000, mark, milliseconds % 1000)
+}
+
+/// The number that so many bytes of two's complement say.
+fn signed(number: u64, size: usize) -> i64 {
+    let unused = 64 - 8 * size.clamp(1, 8) as u32;
+    (number << unused) as i64 >> unused
+}
+
+fn units(bytes: &[u8]) -> Vec<u16> {
+    bytes.chunks(2).map(|pair| little_endian(pair) as u16).collect()
+}
+
+fn joined(bytes: &[u8], mark: &str, part: impl Fn(&u8) -> String) -> String {
+    bytes.iter().map(part).collect::<Vec<_>>().join(mark)
+}
+
+#[cfg(test)]
+mod tests {
+    use super::*;
+
+    #[test]
+    fn times_have_three_decimals() {
+        let comma = Style { comma: true, ..Style::default() };
+        assert_eq!(time(2500, Style::default()), "2500 ms = 2.500 s");
+        assert_eq!(time(90_000, comma), "90000 ms = 90,000 s");
+        assert_eq!(time(7, Style::default()), "7 ms = 0.007 s");
+    }
+
+    #[test]
+    fn cases_3_and_4() {
+        let plain = Style::default();
+        assert_eq!(as_type(ValueType::Integer16, &[0xFF, 0xFF], false, plain), "-1");
+        assert_eq!(as_type(ValueType::Integer16, &[0x00, 0x80], false, plain), "-32768");
+        assert_eq!(as_type(ValueType::Integer64, &[0xFF; 8], false, plain), "-1");
+    }
+
+    #[test]
+    fn every_type_is_shown() {
+        let plain = Style::default();
+        for number in 0..=20 {
+            let of = ValueType::from_number(number).unwrap();
+            assert!(!as_type(of, &[1; 8][..of.size().unwrap_or(8)], false, plain).is_empty());
+        }
+        assert_eq!(
+            as_type(ValueType::IpAddress, &[192, 168, 100, 5], false, plain),
+            "192.168.100.5"
+        );
+        assert_eq!(
+            as_type(ValueType::MacAddress, &[0, 0x60, 0x65, 1, 2, 3], false, plain),
+            "00:60:65:01:02:03"
+        );
+    }
+}

@@ -1,0 +1,192 @@
+//! `loomfinch check`.
+
+mod common;
+
+use common::{file, rig, run};
+
+#[test]
+fn the_ramp_is_cut() {
+    let run = run(&["check", &rig("ramp.rig")]);
+    assert_eq!(run.status, 1);
+    let wanted = "channel 0, from node 5, 2 elements: FAULT: element 1 maps 4 bytes onto 6000h/0 \"Ramp time\", an \
+                  Unsigned16 of 2 bytes: the last 2 bytes would be lost\n\
+                  note: channel 0: elements 1 and 2 share bytes 2 to 3 of the payload\n";
+    assert_eq!(run.out, wanted);
+}
+
+#[test]
+fn the_mended_ramp_passes() {
+    let run = run(&["check", &rig("mended.rig")]);
+    assert_eq!((run.status, run.out.as_str()), (0, "channel 0, from node 5, 2 elements: pass\n"));
+}
+
+#[test]
+fn every_fault_has_its_sentence() {
+    let run = run(&["check", &rig("faults.rig")]);
+    assert_eq!(run.status, 1);
+    let lines: Vec<&str> = run.out.lines().collect();
+    let wanted = [
+        "channel 0, from node 1, 2 elements: pass",
+        "channel 1, from no node, 1 element: FAULT: no sender: channel 0 takes node 1 before it",
+        "channel 2, from no node, 0 elements: FAULT: no sender: 1402h/1 is an Unsigned16, not an Unsigned8",
+        "channel 3, from node 3, 0 elements: FAULT: no mapping: there is no 1603h",
+        "channel 4, from node 4, 2 elements: FAULT: element 2 is an Unsigned32, not an Unsigned64, and maps nothing",
+        "channel 5, from node 5, 1 element: FAULT: element 1 maps 12 bits from bit 4 on onto 6000h/0 \"Ramp time\": ",
+        "channel 6, from node 6, 1 element: FAULT: element 1 maps onto 1200h/1, which belongs to SDO: ",
+        "channel 7, from node 7, 1 element: FAULT: element 1 maps onto 6200h/4 \"Move times\", and 6200h has 3 elements",
+        "channel 8, from node 8, 1 element: FAULT: element 1 maps onto 6200h/0 \"Move times\", the count of the list's",
+        "channel 9, from node 9, 1 element: FAULT: element 1 maps 4 bytes onto 6000h/0 \"Ramp time\", an Unsigned16",
+        "channel 10, from node 10, 1 element: FAULT: element 1 maps 1 byte onto 6000h/0 \"Ramp time\", an Unsigned16 of \
+         2 bytes: 1 byte is missing, so every payload stops there",
+        "channel 11, from node 11, 1 element: FAULT: element 1 maps 41 bytes onto 6100h/0 \"Caption\", a VisibleString \
+         with room for 40 bytes",
+        "channel 12, from node 12, 1 element: FAULT: element 1 maps 7 bytes onto 6101h/0 \"Titre\", a UnicodeString",
+        "channel 13, from the managing node (240), 2 elements: FAULT: element 2 needs a payload of 1491 bytes",
+    ];
+    assert_eq!(lines.len(), wanted.len());
+    for (line, wanted) in lines.iter().zip(wanted) {
+        assert!(line.starts_with(wanted), "{line}\nwanted {wanted}");
+    }
+}
+
+#[test]
+fn the_json_names_every_fault() {
+    let run = run(&["check", &rig("faults.rig"), "--json", "--explain"]);
+    assert_eq!(run.status, 1);
+    for (name, number) in [
+        ("NoSender", 31),
+        ("NoList", 32),
+        ("NotMapping", 33),
+        ("Misaligned", 34),
+        ("HandOff", 35),
+        ("NoTarget", 36),
+        ("CountTarget", 37),
+        ("WrongLength", 38),
+        ("TooFar", 39),
+    ] {
+        let wanted = format!("\"name\": \"{name}\",\n        \"number\": {number},");
+        assert!(run.out.contains(&wanted), "{}", name);
+    }
+    for target in ["value", "string", "count", "no object", "no sub-index"] {
+        assert!(run.out.contains(&format!("\"kind\": \"{target}\"")), "{}", target);
+    }
+}
+
+#[test]
+fn the_json_of_the_ramp() {
+    let text = "6000h Variable U16 \"a \\\"b\\\" \\\\ é\"\n1400h Record\n1 U8 = 5\n1600h Array\n1 6000h at 0 length 4\n";
+    let path = file("quotes.rig", text.as_bytes());
+    let run = run(&["check", "--json", &path]);
+    let wanted = r#"  "pass": false,
+  "channels": [
+    {
+      "channel": 0,
+      "sender": 5,
+      "elements": 1,
+      "pass": false,
+      "fault": {
+        "name": "WrongLength",
+        "number": 38,
+        "element": 1,
+        "text": "element 1 maps 4 bytes onto 6000h/0 \"a \\\"b\\\" \\\\ é\", an Unsigned16 of 2 bytes: the last 2 bytes would be lost"
+      }
+    }
+  ],
+  "notes": []
+}
+"#;
+    assert!(run.out.ends_with(wanted), "{}", run.out);
+    assert_eq!(run.status, 1);
+}
+
+#[test]
+fn the_drawing_shows_what_is_cut_and_shared() {
+    let run = run(&["check", "--explain", &rig("ramp.rig")]);
+    let wanted = r#"
+         byte   0  1  2  3  4  5
+    element 1  [=====xxxxx]        6000h/0 "Ramp time"
+    element 2        [==========]  6200h/3 "Move times"
+      overlap        ~~~~~~
+               = kept   x lost   ~ in more than one element
+
+    element 1 maps 4 bytes onto 6000h/0 "Ramp time", an Unsigned16 of 2 bytes: the last 2 bytes would be lost
+    element 2 maps 4 bytes onto 6200h/3 "Move times", an Unsigned32 of 4 bytes: whole
+"#;
+    assert!(run.out.contains(wanted), "{}", run.out);
+}
+
+#[test]
+fn long_payloads_are_drawn_in_bands() {
+    let text = "1400h Record\n1 U8 = 5\n1600h Array\n1 6000h at 20 length 200\n2 6001h at 0 length 0\n3 1200h at 0 length 1\n\
+                4 6002h at 1 bits length 3 bits\n6000h Variable Domain room 200\n6001h Variable Domain room 1\n";
+    let run = run(&["check", "--explain", &file("bands.rig", text.as_bytes())]);
+    let wanted = r#"
+         byte   0   1   2   3   4   5   6   7   8   9
+    element 3  [ss]                                      1200h/0
+    element 4  [??]                                      6002h/0
+      overlap  ~~~~
+         byte   10  11  12  13  14  15  16  17  18  19
+   no element
+         byte   20  21  22  23  24  25  26  27  28  29
+    element 1  [=======================================  6000h/0
+         byte   30  31  32  33  34  35  36  37  38  39
+    element 1  ========================================
+     the same  up to byte 209
+         byte  210 211 212 213 214 215 216 217 218 219
+    element 1  =======================================]
+"#;
+    assert!(run.out.contains(wanted), "{}", run.out);
+}
+
+#[test]
+fn what_is_no_fault_is_noted() {
+    let text = "1400h Record\n1 U8 = 5\n2 U16 = 10h\n1600h Array\n1 6000h at 0 length 1\n2 6000h at 0 length 1\n\
+                6000h Variable U8\n";
+    let run = run(&["check", &file("notes.rig", text.as_bytes())]);
+    let wanted = "channel 0, from node 5, 2 elements: pass
+note: channel 0: 1400h/2 is an Unsigned16, not an Unsigned8: payloads of version 0 alone are taken
+note: channel 0: elements 1 and 2 share byte 0 of the payload
+note: channel 0: elements 1 and 2 both map onto 6000h/0: the later one stands
+";
+    assert_eq!((run.status, run.out.as_str()), (0, wanted));
+}
+
+#[test]
+fn a_rig_without_channels_says_so() {
+    let text = b"6000h Variable U8\n1601h Array\n1C81h Variable U8\n";
+    let run = run(&["check", &file("none.rig", text)]);
+    assert_eq!(run.status, 0);
+    for wanted in [
+        "no channel: the rig has no object from 1400h to 14FFh",
+        "note: nothing uses the mapping 1601h: there is no 1401h",
+        "note: 1C81h cannot note every node",
+    ] {
+        assert!(run.out.contains(wanted), "{}", run.out);
+    }
+}
+
+#[test]
+fn rigs_that_are_damaged_missing_or_empty() {
+    let damaged = file("damaged.rig", b"# one\n6000h Variable Unsigned16 = 65536\n");
+    for (path, wanted) in [
+        (
+            damaged.clone(),
+            format!(
+                "{damaged}:2: expected a number from 0 to 65535 for an Unsigned16, found '65536'"
+            ),
+        ),
+        (file("empty.rig", b""), "expected at least one object".to_string()),
+        (file("bytes.rig", &[0xFF, 0xFE, 0]), ":1: expected text in UTF-8".to_string()),
+        (rig("no-such.rig"), "No such file".to_string()),
+        (rig("."), "irectory".to_string()),
+        (rig("rehearsal.pcap"), ":1: expected text in UTF-8".to_string()),
+        (
+            file("large.rig", &vec![b'#'; (4 << 20) + 1]),
+            "expected a rig file of at most".to_string(),
+        ),
+    ] {
+        let run = run(&["check", &path]);
+        assert_eq!((run.status, run.out.as_str()), (2, ""), "{path}");
+        assert!(run.err.contains(&wanted), "{}", run.err);
+    }
+}

@@ -1,0 +1,221 @@
+//! `loomfinch replay`.
+
+mod common;
+
+use common::captures::{interface, packet, pcap, request, response, section, simple_packet};
+use common::{file, rig, run};
+use std::process::Command;
+
+#[test]
+fn the_rehearsal_is_made_by_its_script() {
+    let made = Command::new("bash").arg(rig("make-capture")).output().unwrap();
+    assert!(made.status.success(), "{}", String::from_utf8_lossy(&made.stderr));
+    assert_eq!(made.stdout, std::fs::read(rig("rehearsal.pcap")).unwrap());
+}
+
+#[test]
+fn the_rehearsal_tells_its_story() {
+    let run = run(&["replay", &rig("ramp.rig"), &rig("rehearsal.pcap")]);
+    assert_eq!(run.status, 1);
+    let wanted = r#"No. 2  0.000400 s  PRes from node 5, version 12h, 8 bytes
+    6000h/0 "Ramp time": 0 ms = 0.000 s -> 2500 ms = 2.500 s
+    6200h/3 "Move times": 0 ms = 0.000 s, as before
+No. 3  0.010400 s  PRes from node 5, version 12h, 8 bytes
+    not ready: nothing happens
+No. 4  0.020400 s  PRes from node 5, version 12h, 8 bytes
+    6000h/0 "Ramp time": 2500 ms = 2.500 s -> 3000 ms = 3.000 s
+    6200h/3 "Move times": 0 ms = 0.000 s, as before
+No. 5  0.020700 s  PRes from node 9, version 12h, 8 bytes
+    no channel of the rig takes node 9: nothing happens
+No. 6  0.030400 s  PRes from node 5, version 12h, 8 bytes
+    6000h/0 "Ramp time": 3000 ms = 3.000 s -> 24464 ms = 24.464 s
+      CUT: element 1's field is 90 5F 01 00, 90000 ms = 90.000 s; the last 2 bytes, 01 00, are lost
+    6200h/3 "Move times": 0 ms = 0.000 s -> 1 ms = 0.001 s
+No. 7  0.040400 s  PRes from node 5, version 12h, 3 bytes
+    stopped at element 1 (6000h/0 "Ramp time"): it needs 4 bytes of payload, and 3 came
+    element 2 (6200h/3 "Move times") is not reached
+    1C81h/0 "Short payloads": the bit of node 5 is set (byte 0: 00 -> 10)
+No. 8  0.050400 s  PRes from node 5, version 22h, 8 bytes
+    refused: the payload has version 22h, channel 0 expects 10h
+    1C80h/0 "Wrong versions": the bit of node 5 is set (byte 0: 00 -> 10)
+No. 9  0.060400 s  PRes from node 5
+    not consumed: its size field says 100 bytes of payload, and the frame has 36
+
+sender  frames  not ready  fields written  stops  first fault
+     5       7          1               6      2  No. 6: CUT: element 1's field is 90 5F 01 00, 90000 ms = 90.000 s; the last 2 bytes, 01 00, are lost
+     9       1          0               0      0  none: no channel takes this sender
+other frames: 1 EtherType 0800h, 1 SoC
+"#;
+    assert_eq!(run.out, wanted);
+}
+
+#[test]
+fn the_mended_rig_keeps_the_ramp() {
+    let run = run(&["replay", &rig("mended.rig"), &rig("rehearsal.pcap"), "--comma"]);
+    assert!(run.out.contains("3000 ms = 3,000 s -> 90000 ms = 90,000 s\n"), "{}", run.out);
+    assert!(!run.out.contains("CUT"), "{}", run.out);
+}
+
+#[test]
+fn quiet_writes_the_table_alone() {
+    let run = run(&["replay", "--quiet", &rig("ramp.rig"), &rig("rehearsal.pcap")]);
+    assert!(run.out.starts_with("sender  frames"), "{}", run.out);
+    assert_eq!(run.out.lines().count(), 4);
+}
+
+/// Two frames of a ramp each, in all forms of capture.
+fn ramps() -> Vec<Vec<u8>> {
+    vec![response(5, 0x12, &[0xC4, 9, 0, 0, 0, 0]), response(5, 0x12, &[0xB8, 0xB, 0, 0, 0, 0])]
+}
+
+fn assert_ramps(name: &str, capture: &[u8]) {
+    let run = run(&["replay", &rig("ramp.rig"), &file(name, capture)]);
+    assert_eq!((run.status, run.err.as_str()), (0, ""), "{name}");
+    assert!(run.out.contains("0 ms = 0.000 s -> 2500 ms = 2.500 s"), "{}: {}", name, run.out);
+    assert!(run.out.contains("2500 ms = 2.500 s -> 3000 ms = 3.000 s"), "{}: {}", name, run.out);
+    assert!(
+        run.out.contains("     5       2          0               4      0  none\n"),
+        "{}: {}",
+        name,
+        run.out
+    );
+}
+
+#[test]
+fn classic_captures_in_four_forms() {
+    for (big, nanoseconds, time) in [
+        (false, false, "1.500000 s"),
+        (true, false, "1.500000 s"),
+        (false, true, "1.000500 s"),
+        (true, true, "1.000500 s"),
+    ] {
+        let name = format!("ramps-{big}-{nanoseconds}.pcap");
+        let capture = pcap(big, nanoseconds, &ramps());
+        assert_ramps(&name, &capture);
+        let told = run(&["replay", &rig("ramp.rig"), &file(&name, &capture)]).out;
+        assert!(told.contains(&format!("No. 2  {time}  PRes")), "{}", told);
+    }
+}
+
+#[test]
+fn newer_captures_in_both_orders() {
+    let frames = ramps();
+    for big in [false, true] {
+        let start = [section(big), interface(big, 1, 6)].concat();
+        let enhanced = [packet(big, false, 0, 1, &frames[0]), packet(big, false, 0, 2, &frames[1])];
+        assert_ramps(
+            &format!("enhanced-{big}.pcapng"),
+            &[start.clone(), enhanced.concat()].concat(),
+        );
+        let simple = [simple_packet(big, &frames[0]), simple_packet(big, &frames[1])];
+        assert_ramps(&format!("simple-{big}.pcapng"), &[start.clone(), simple.concat()].concat());
+        let obsolete = [packet(big, true, 0, 1, &frames[0]), packet(big, true, 0, 2, &frames[1])];
+        assert_ramps(&format!("obsolete-{big}.pcapng"), &[start, obsolete.concat()].concat());
+    }
+}
+
+#[test]
+fn several_sections_interfaces_and_unknown_blocks() {
+    let frames = ramps();
+    let capture = [
+        section(false),
+        common::captures::block(false, 0x0BAD, &[1, 2, 3]),
+        interface(false, 113, 6),
+        interface(false, 1, 9),
+        packet(false, false, 0, 0, &frames[1]),
+        packet(false, false, 1, 1_000_000, &frames[0]),
+        section(true),
+        interface(true, 1, 6),
+        packet(true, false, 0, 3_000, &frames[1]),
+    ];
+    let path = file("sections.pcapng", &capture.concat());
+    let run = run(&["replay", &rig("ramp.rig"), &path]);
+    assert!(run.out.contains("No. 2  0.001000 s  PRes"), "{}", run.out);
+    assert!(run.out.contains("No. 3  0.003000 s  PRes"), "{}", run.out);
+    assert!(run.out.contains("other frames: 1 not Ethernet\n"), "{}", run.out);
+}
+
+#[test]
+fn damage_is_told_with_its_place() {
+    let good = pcap(false, false, &ramps());
+    let newer =
+        [section(false), interface(false, 1, 6), packet(false, false, 0, 1, &ramps()[0])].concat();
+    let mut huge = good.clone();
+    huge[32..36].copy_from_slice(&u32::MAX.to_le_bytes());
+    let mut link = good.clone();
+    link[20] = 113;
+    let mut trailer = newer.clone();
+    *trailer.last_mut().unwrap() = 1;
+    let mut order = newer.clone();
+    order[8] = 0;
+    for (name, capture, wanted) in [
+        ("empty", &[][..], "byte 0: the capture is empty"),
+        ("text", b"hello, this is no capture", "byte 0: the file is neither a pcap nor a pcapng capture"),
+        ("packed", &[0x1F, 0x8B, 8, 0, 0], "byte 0: the file is compressed (gzip)"),
+        ("head", &good[..10], "byte 10: the file ends inside the capture's header that begins at byte 0"),
+        ("packet-head", &good[..30], "byte 30: the file ends inside the header of packet 1 that begins at byte 24"),
+        ("packet", &good[..60], "byte 60: the file ends inside packet 1 that begins at byte 24: 30 more needed, 20 there"),
+        ("huge", &huge, "byte 32: packet 1 says it has 4294967295 bytes"),
+        ("link", &link, "byte 20: expected a capture of an Ethernet (link type 1), found link type 113"),
+        ("block", &newer[..newer.len() - 6], "the file ends inside the block that begins at byte 60"),
+        ("trailer", &trailer, "the block that begins at byte 60 has length"),
+        ("order", &order, "byte 8: expected the byte-order mark of a pcapng section"),
+    ] {
+        let run = run(&["replay", &rig("ramp.rig"), &file(&format!("damaged-{name}"), capture)]);
+        assert_eq!(run.status, 2, "{name}");
+        assert!(run.err.contains(wanted), "{}: {}", name, run.err);
+    }
+}
+
+#[test]
+fn what_came_before_the_damage_is_told() {
+    let good = pcap(false, false, &ramps());
+    let path = file("half.pcap", &good[..good.len() - 3]);
+    let run = run(&["replay", &rig("ramp.rig"), &path]);
+    assert_eq!(run.status, 2);
+    assert!(run.out.contains("0 ms = 0.000 s -> 2500 ms = 2.500 s"), "{}", run.out);
+    assert!(
+        run.out.contains("     5       1          0               2      0  none\n"),
+        "{}",
+        run.out
+    );
+}
+
+#[test]
+fn a_capture_without_packets() {
+    let run = run(&["replay", &rig("ramp.rig"), &file("none.pcap", &pcap(false, false, &[]))]);
+    assert_eq!((run.status, run.out.as_str()), (0, "no frame with process data (PReq or PRes)\n"));
+}
+
+#[test]
+fn requests_come_from_the_managing_node() {
+    let text = "1400h Record\n1 U8 = 0\n1600h Array\n1 6000h at 0 length 1\n6000h Variable U8\n";
+    let rig = file("request.rig", text.as_bytes());
+    let capture =
+        file("request.pcap", &pcap(false, false, &[request(1, 0, &[7]), request(2, 0, &[8])]));
+    let all = run(&["replay", &rig, &capture]);
+    assert!(
+        all.out.contains("PReq from the managing node (240), version 00h, 1 byte"),
+        "{}",
+        all.out
+    );
+    assert!(all.out.contains("6000h/0: 7 -> 8"), "{}", all.out);
+    assert!(
+        all.out.contains("note: PReq frames went to nodes 1, 2; --node N takes those to N alone"),
+        "{}",
+        all.out
+    );
+    let one = run(&["replay", &rig, &capture, "--node", "2"]);
+    assert!(one.out.contains("6000h/0: 0 -> 8"), "{}", one.out);
+    assert!(one.out.contains("other frames: 1 PReq to other nodes\n"), "{}", one.out);
+}
+
+#[test]
+fn the_capture_may_come_through_a_pipe() {
+    let output = Command::new(env!("CARGO_BIN_EXE_loomfinch"))
+        .args(["replay", &rig("ramp.rig"), "-", "--quiet"])
+        .stdin(std::fs::File::open(rig("rehearsal.pcap")).unwrap())
+        .output()
+        .unwrap();
+    assert_eq!(String::from_utf8_lossy(&output.stdout).lines().count(), 4);
+}

@@ -1,0 +1,115 @@
+//! The program's own help, its versions and its ends.
+
+mod common;
+
+use common::{rig, run};
+use std::io::Read;
+use std::process::{Command, Stdio};
+
+#[test]
+fn help_for_all_and_for_each_command() {
+    let all = run(&["--help"]);
+    assert_eq!((all.status, all.err.as_str()), (0, ""));
+    assert!(all.out.contains("loomfinch check RIG"), "{}", all.out);
+    for command in ["check", "consume", "replay"] {
+        let help = run(&[command, "--help"]);
+        assert_eq!(help.status, 0);
+        assert!(help.out.starts_with(&format!("loomfinch {command} RIG")), "{}", help.out);
+        assert!(help.out.contains("Example:"), "{}", help.out);
+        assert_eq!(run(&["help", command]).out, help.out);
+    }
+    assert_eq!(run(&["help"]).out, all.out);
+    assert_eq!(run(&["--version"]).out, format!("loomfinch {}\n", env!("CARGO_PKG_VERSION")));
+}
+
+#[test]
+fn the_rig_of_the_help_is_a_rig() {
+    let help = run(&["--help"]).out;
+    let lines =
+        help.lines().skip_while(|line| !line.contains("1400h")).take_while(|line| !line.is_empty());
+    let text: Vec<&str> = lines.collect();
+    let path = common::file("help.rig", text.join("\n").as_bytes());
+    assert_eq!(run(&["check", &path]).out, "channel 0, from node 5, 1 element: pass\n");
+}
+
+/// The words of a text, however it is broken into lines.
+fn words_of(text: &str) -> Vec<&str> {
+    text.split_whitespace().collect()
+}
+
+#[test]
+fn the_help_shows_what_is_printed() {
+    for command in ["check", "consume", "replay"] {
+        let help = run(&["help", command]).out;
+        let example = help.split("\n  $ loomfinch ").nth(1).unwrap();
+        let (line, printed) = example.split_once('\n').unwrap();
+        let arguments: Vec<String> = line
+            .split_whitespace()
+            .map(|word| word.strip_prefix("rigs/").map_or(word.to_string(), rig))
+            .collect();
+        let wanted = words_of(printed.split("\n\n").next().unwrap());
+        assert_eq!(words_of(&run(&arguments).out), wanted, "{command}");
+    }
+}
+
+#[test]
+fn errors_of_use() {
+    let nothing: [&str; 0] = [];
+    for (arguments, wanted) in [
+        (&nothing[..], "a command is missing"),
+        (&["chekc"], "there is no command 'chekc'"),
+        (&["help", "chekc"], "there is no command 'chekc'"),
+        (&["check"], "the rig file is missing"),
+        (&["check", "a", "b"], "'b' is one argument too many"),
+        (&["check", "--jsn", "a"], "there is no option '--jsn'"),
+        (&["replay", "a"], "the capture is missing"),
+        (&["check", "--", "--json"], "--json: "),
+    ] {
+        let run = run(arguments);
+        assert_eq!((run.status, run.out.as_str()), (2, ""), "{arguments:?}");
+        assert!(run.err.starts_with(&format!("loomfinch: {wanted}")), "{}", run.err);
+    }
+}
+
+#[test]
+fn a_closed_pipe_ends_quietly() {
+    let mut child = Command::new(env!("CARGO_BIN_EXE_loomfinch"))
+        .args(["check", "--explain", &rig("faults.rig")])
+        .stdout(Stdio::piped())
+        .stderr(Stdio::piped())
+        .spawn()
+        .unwrap();
+    drop(child.stdout.take());
+    let mut err = String::new();
+    child.stderr.take().unwrap().read_to_string(&mut err).unwrap();
+    assert_eq!((child.wait().unwrap().code(), err.as_str()), (Some(0), ""));
+}
+
+/// The lines of a document that are indented as samples, from the first that contains some words on.
+fn sample(document: &str, from: &str) -> Vec<String> {
+    let path = format!("{}/../../docs/{}", env!("CARGO_MANIFEST_DIR"), document);
+    let text = std::fs::read_to_string(path).unwrap();
+    let lines = text.lines().skip_while(|line| !line.contains(from));
+    let sample = lines.take_while(|line| line.is_empty() || line.starts_with("    "));
+    sample.map(|line| line.strip_prefix("    ").unwrap_or("").to_string()).collect()
+}
+
+#[test]
+fn the_rig_of_the_document_is_a_rig() {
+    let text = sample("RIG.md", "# A winch, node 5").join("\n");
+    let path = common::file("document.rig", text.as_bytes());
+    assert_eq!(run(&["check", &path]).out, "channel 0, from node 5, 2 elements: pass\n");
+}
+
+#[test]
+fn the_document_shows_what_is_printed() {
+    for command in ["$ loomfinch check", "$ loomfinch consume"] {
+        let lines = sample("TOOL.md", command);
+        let arguments: Vec<String> = lines[0]
+            .split_whitespace()
+            .skip(2)
+            .map(|word| word.replace("rigs/ramp.rig", &rig("ramp.rig")))
+            .collect();
+        assert_eq!(run(&arguments).out.trim_end(), lines[1..].join("\n").trim_end());
+    }
+}
