@@ -12,7 +12,7 @@ use Rattle.value.specs.Codec.{exact}
 use Rattle.entry.specs.Table.{Dict, defaultAt}
 use Rattle.entry.specs.declared.Found.{Found}
 use Rattle.entry.specs.declared.Found.the-variants.{At, Nothing}
-use Rattle.commands.specs.Readable.{field, keyIn, typeIn, startIn, sizeAt, readable}
+use Rattle.image.specs.Readable.{field, keyIn, typeIn, startIn, sizeAt, readable}
 use Rattle.restoring.specs.Records.{records, recordPlace, recordFrom, recordOf, bodyIn, Body}
 use Rattle.restoring.specs.Restore.{defaultIn, keyAt, hasDefault, choiceOf, chosenAt}
 use Rattle.restoring.specs.declared.Choice.the-variants.{Keep, Stored, Default}

@@ -11,7 +11,7 @@ use borrow.Author.Tests.{lt-ltb, le-ltb, ltb-true, ltb-false, eq-eqb, ne-eqb, eq
 use lib.Dec.{eqb, ltb}
 use Rattle.entry.specs.declared.Found.{Found}
 use Rattle.entry.specs.declared.Found.the-variants.{At, Nothing}
-use Rattle.commands.specs.Readable.{keyIn}
+use Rattle.image.specs.Readable.{keyIn}
 use Rattle.restoring.specs.Records.{recordPlace, recordFrom, seekFrom, Cursor}
 
 -- ---- one turn of seeking

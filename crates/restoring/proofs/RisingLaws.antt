@@ -11,8 +11,8 @@ use lib.ListN.{length, take, drop}
 use borrow.Author.Tests.{leb-true}
 use Rattle.entry.proofs.JudgeLaws.{and-true}
 use Rattle.value.specs.Codec.{exact}
-use Rattle.commands.specs.Readable.{field, keyIn, typeIn, startIn, sizeAt, placed, headsOk, readable}
-use Rattle.commands.proofs.ReadLaws.{placed-true}
+use Rattle.image.specs.Readable.{field, keyIn, typeIn, startIn, sizeAt, placed, headsOk, readable}
+use Rattle.image.proofs.ReadLaws.{placed-true}
 use Rattle.restoring.specs.Records.{recordPlace, records, recordOf, seekFrom, Cursor}
 use Rattle.restoring.proofs.RecordLaws.{Rising, sought, stopped, lookup}
 

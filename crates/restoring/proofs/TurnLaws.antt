@@ -21,7 +21,7 @@ use Rattle.entry.proofs.ValueLaws.{ValueFacts, value-facts, every-value}
 use Rattle.entry.proofs.EncodeLaws.{decode-stored}
 use Rattle.entry.proofs.PutLaws.{put-text, put-fixed}
 use Rattle.entry.proofs.KeepLaws.{FitsAs, takes-text, takes-fixed, type-new, start-new, as-put, new-data}
-use Rattle.commands.specs.Readable.{field, typeIn, startIn, sizeAt}
+use Rattle.image.specs.Readable.{field, typeIn, startIn, sizeAt}
 use Rattle.restoring.specs.Records.{recordPlace, bodyIn}
 use Rattle.restoring.specs.Restore.{slotIn, defaultIn, chosenAt, fitsRoom, restoredBy, Copies}
 use Rattle.restoring.specs.declared.Choice.{Choice}

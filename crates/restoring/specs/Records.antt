@@ -6,7 +6,7 @@ use lib.Dec.{eqb, ltb}
 use lib.ListN.{length, take, drop}
 use Rattle.entry.specs.declared.Found.{Found}
 use Rattle.entry.specs.declared.Found.the-variants.{At, Nothing}
-use Rattle.commands.specs.Readable.{field, keyIn, startIn, sizeAt, readable}
+use Rattle.image.specs.Readable.{field, keyIn, startIn, sizeAt, readable}
 
 -- R10.7: "Any other image counts as no table."
 abbrev pub records : List ℕ → ℕ

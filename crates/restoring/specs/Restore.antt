@@ -13,8 +13,8 @@ use Rattle.entry.specs.Put.{putNew}
 use Rattle.entry.specs.Judge.{wellFormed}
 use Rattle.entry.specs.declared.Found.{Found}
 use Rattle.entry.specs.declared.Found.the-variants.{At, Nothing}
-use Rattle.commands.specs.Image.{subIn}
-use Rattle.commands.specs.Readable.{keyOf, typeIn, sizeAt}
+use Rattle.image.specs.Image.{subIn}
+use Rattle.image.specs.Readable.{keyOf, typeIn, sizeAt}
 use Rattle.restoring.specs.declared.Choice.{Choice}
 use Rattle.restoring.specs.declared.Choice.the-variants.{Keep, Stored, Default}
 use Rattle.restoring.specs.declared.Restored.{Restored}

@@ -8,7 +8,7 @@ use entry::Found;
 pub fn records(store: &[u8]) -> usize
     ensures { λ r. ⌜ r ≡ records (now (store .entry)) ⌝ }
 {
-    if commands::judge_image(store) {
+    if image::judge_image(store) {
         return lists::number(store, 0, 2) as usize;
     }
     0
@@ -21,7 +21,7 @@ fn seek(store: &[u8], n: usize, k: usize, key: u64) -> usize
 {
     let mut j = k;
     while j < n {
-        if key <= commands::key_in(store, 2 + 8 * j) {
+        if key <= image::key_in(store, 2 + 8 * j) {
             return j;
         }
         j += 1;
@@ -37,7 +37,7 @@ fn start_from(store: &[u8], n: usize, near: usize, key: u64) -> usize
     if near == 0 {
         return 0;
     }
-    if commands::key_in(store, 2 + 8 * (near - 1)) < key {
+    if image::key_in(store, 2 + 8 * (near - 1)) < key {
         return near;
     }
     0
@@ -52,7 +52,7 @@ pub fn look_up(store: &[u8], n: usize, near: usize, key: u64) -> Lookup
     let r = seek(store, n, from, key);
     if r < n {
         let a = 2 + 8 * r;
-        if commands::key_in(store, a) == key {
+        if image::key_in(store, a) == key {
             return Lookup {
                 found: Found::At(a),
                 near: r,

@@ -45,8 +45,8 @@ fn value_fits(
     let fits = match choice {
         Choice::Keep => true,
         Choice::Stored(a) => {
-            let t = commands::type_in(store, a);
-            text_fits(t, commands::size_at(store, a) as u64, room)
+            let t = image::type_in(store, a);
+            text_fits(t, image::size_at(store, a) as u64, room)
         }
         Choice::Default(q) => text_fits(entry::type_at(slots, q), words[q], room),
     };

@@ -1,14 +1,14 @@
--- `commands::judging::key_in` meets its contract: two numbers below 65,536 and 256. Assumes nothing.
+-- `image::key_in` meets its contract: two numbers below 65,536 and 256. Assumes nothing.
 use mathlib.Core.Path.{ap₂}
 use Prim.Native.Nat.{_+_, _<_}
 use denote.Ref.{now}
 use Rattle.lists.specs.Numbers.{Bytes}
-use Rattle.commands.specs.Readable.{keyOf}
+use Rattle.image.specs.Readable.{keyOf}
 use Rattle.lists.proofs.NumberLaws.{part-lt}
 use native.Mathlib.Omega.{arith}
 use borrow.Author.Needs.{needs}
-use Rattle.commands.proofs.judging.key_in.Statement.{statement}
-use Rattle.commands.proofs.judging.key_in.Tie as tie
+use Rattle.image.proofs.key_in.Statement.{statement}
+use Rattle.image.proofs.key_in.Tie as tie
 
 small : (c : tie.After-number2) → (c .before .number .result < 65536) × (c .number2 .result < 256)
 small c =

@@ -9,7 +9,7 @@ use lib.Dec.{eqb, leb, ltb}
 use lib.ListN.{length, take, drop}
 use Rattle.lists.specs.Numbers.{number}
 use Rattle.value.specs.Codec.{exact}
-use Rattle.commands.specs.Image.{Rec, bodies}
+use Rattle.image.specs.Image.{Rec, bodies}
 
 -- ---- a right table
 -- R10.6: "Records rise strictly by (index, sub-index)."

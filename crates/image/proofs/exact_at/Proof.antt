@@ -1,12 +1,12 @@
--- `commands::judging::exact_at` meets its contract: the body is the part of the store that the record says. Assumes nothing.
+-- `image::exact_at` meets its contract: the body is the part of the store that the record says. Assumes nothing.
 use mathlib.Core.Path.{_≡_, _∙_}
 use Prim.Native.Nat.{_+_, _-_}
 use denote.Ref.{now}
-use Rattle.commands.specs.Readable.{sizeAt}
+use Rattle.image.specs.Readable.{sizeAt}
 use native.Mathlib.Omega.{arith}
 use borrow.Author.Needs.{needs}
-use Rattle.commands.proofs.judging.exact_at.Statement.{statement}
-use Rattle.commands.proofs.judging.exact_at.Tie as tie
+use Rattle.image.proofs.exact_at.Statement.{statement}
+use Rattle.image.proofs.exact_at.Tie as tie
 
 type-in-requires : tie.Need-type-in-requires
 type-in-requires c κs = search needs

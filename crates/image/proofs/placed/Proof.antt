@@ -1,13 +1,13 @@
--- `commands::judging::placed` meets its contract: the tests are the definition's. Assumes nothing.
+-- `image::placed` meets its contract: the tests are the definition's. Assumes nothing.
 use mathlib.Core.Path.{sym}
 use Prim.Native.Nat.{_+_, _<_}
 use denote.Ref.{now}
-use Rattle.commands.specs.Readable.{placed}
+use Rattle.image.specs.Readable.{placed}
 use Rattle.lists.proofs.NumberLaws.{part-lt}
 use native.Mathlib.Omega.{arith}
 use borrow.Author.Needs.{needs}
-use Rattle.commands.proofs.judging.placed.Statement.{statement}
-use Rattle.commands.proofs.judging.placed.Tie as tie
+use Rattle.image.proofs.placed.Statement.{statement}
+use Rattle.image.proofs.placed.Tie as tie
 
 small : (c : tie.After-size-at) → c .size-at .result < 65536
 small c =

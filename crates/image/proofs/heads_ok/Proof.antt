@@ -1,4 +1,4 @@
--- `commands::judging::heads_ok` meets its contract. The loop's invariant: what the test says from here on is what it says of all records.
+-- `image::heads_ok` meets its contract. The loop's invariant: what the test says from here on is what it says of all records.
 -- Assumes nothing.
 use mathlib.Core.Path.{_≡_, sym, ap₂, _∙_}
 use mathlib.Core.Bool.{true}
@@ -7,12 +7,12 @@ use denote.Ref.{now}
 use borrow.Author.Tests.{not-true, not-false}
 use lib.ListN.{length}
 use Rattle.lists.specs.Numbers.{Bytes}
-use Rattle.commands.specs.Readable.{placed, headsOk}
-use Rattle.commands.proofs.ReadLaws.{Placed, placed-true, key-lt, onward, onward-end, onward-all, not-placed, not-exact, onward-more}
+use Rattle.image.specs.Readable.{placed, headsOk}
+use Rattle.image.proofs.ReadLaws.{Placed, placed-true, key-lt, onward, onward-end, onward-all, not-placed, not-exact, onward-more}
 use native.Mathlib.Omega.{arith}
 use borrow.Author.Needs.{needs}
-use Rattle.commands.proofs.judging.heads_ok.Statement.{statement}
-use Rattle.commands.proofs.judging.heads_ok.Tie as tie
+use Rattle.image.proofs.heads_ok.Statement.{statement}
+use Rattle.image.proofs.heads_ok.Tie as tie
 
 abbrev Inv-loop : tie.InvT-loop
 Inv-loop s count b sum₀ low₀ k₀ sum low k = (k ≤ count) × (sum ≤ 16384) × (headsOk s count 2 (2 + 8 * count) 0 0 ≡ onward s count (2 + 8 * count) k sum low)

@@ -3,7 +3,7 @@ ghost use mathlib.Core.Path.{_≡_};
 ghost use Prim.Native.Nat.{_+_, _*_, _≤_};
 ghost use lib.ListN.{length, take, drop};
 ghost use Rattle.value.specs.Codec.{exact};
-ghost use Rattle.commands.specs.Readable.{keyIn, typeIn, startIn, sizeAt, placed, headsOk, readable};
+ghost use Rattle.image.specs.Readable.{keyIn, typeIn, startIn, sizeAt, placed, headsOk, readable};
 
 // The numbers of the record at place a.
 pub fn key_in(s: &[u8], a: usize) -> u64

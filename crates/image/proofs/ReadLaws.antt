@@ -13,7 +13,7 @@ use Rattle.lists.proofs.NumberLaws.{part-lt}
 use Rattle.value.specs.Codec.{exact}
 use Rattle.entry.proofs.JudgeLaws.{and-true}
 use Rattle.entry.proofs.WalkLaws.{and-false}
-use Rattle.commands.specs.Readable.{field, keyIn, typeIn, startIn, sizeAt, placed, headsOk, readable}
+use Rattle.image.specs.Readable.{field, keyIn, typeIn, startIn, sizeAt, placed, headsOk, readable}
 
 pub key-lt : (s : List ℕ) (a : ℕ) → Bytes s → a + 8 ≤ length s → keyIn s a < 16777216
 key-lt s a h l = omega (arith, part-lt s a 2 (omega arith) h, part-lt s (a + 2) 1 (omega arith) h)

@@ -1,13 +1,13 @@
--- `commands::judging::judge_image` meets its contract: the count is judged first, then every record. Assumes nothing.
+-- `image::judge_image` meets its contract: the count is judged first, then every record. Assumes nothing.
 use mathlib.Core.Path.{sym, ap, _∙_}
 use Prim.Native.Nat.{_+_, _*_}
 use denote.Ref.{now}
-use Rattle.commands.specs.Readable.{headsOk}
-use Rattle.commands.proofs.ReadLaws.{no-count, many, short, counted}
+use Rattle.image.specs.Readable.{headsOk}
+use Rattle.image.proofs.ReadLaws.{no-count, many, short, counted}
 use native.Mathlib.Omega.{arith}
 use borrow.Author.Needs.{needs}
-use Rattle.commands.proofs.judging.judge_image.Statement.{statement}
-use Rattle.commands.proofs.judging.judge_image.Tie as tie
+use Rattle.image.proofs.judge_image.Statement.{statement}
+use Rattle.image.proofs.judge_image.Tie as tie
 
 returns : tie.Need-returns
 returns c = sym (no-count (now (c .before .before .args .store)) (c .if1 .taken))
