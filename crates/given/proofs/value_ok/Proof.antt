@@ -1,4 +1,4 @@
--- `insertion::given::value_ok` meets its contract. Assumes nothing.
+-- `given::value_ok` meets its contract. Assumes nothing.
 use mathlib.Core.Path.{_≡_, sym, _∙_}
 use Prim.Native.Nat.{_+_}
 use borrow.Author.Tests.{eq-eqb, ne-eqb}
@@ -7,14 +7,14 @@ use lib.Seq.{length-take-le, getD-drop}
 use mathlib.Core.Bool.{_&&_, _||_}
 use lib.Dec.{eqb}
 use Rattle.value.specs.Codec.{sizeOf}
-use Rattle.insertion.specs.Given.{valueOk}
+use Rattle.given.specs.Given.{valueOk}
 use Rattle.lists.specs.Numbers.{Bytes}
 use Rattle.lists.proofs.NumberLaws.{bytes-take}
-use Rattle.insertion.proofs.RightLaws.{value-big, value-wide, value-fixed}
+use Rattle.given.proofs.RightLaws.{value-big, value-wide, value-fixed}
 use native.Mathlib.Omega.{arith}
 use borrow.Author.Needs.{needs}
-use Rattle.insertion.proofs.given.value_ok.Statement.{statement}
-use Rattle.insertion.proofs.given.value_ok.Tie as tie
+use Rattle.given.proofs.value_ok.Statement.{statement}
+use Rattle.given.proofs.value_ok.Tie as tie
 
 means : (k : tie.Else3) → let a = k .before .before .before .before .before .args in valueOk (a .element) (a .t) (a .room) (take (a .len) (drop (a .start) (a .s .now))) ≡ eqb (a .len) (sizeOf (a .t)) && (a .element || eqb (a .room) 0)
 means k =

@@ -1,17 +1,17 @@
--- `insertion::given::vals_in` meets its contract. The loop's invariant: what is judged from here on is what is judged of all. Assumes nothing.
+-- `given::vals_in` meets its contract. The loop's invariant: what is judged from here on is what is judged of all. Assumes nothing.
 use mathlib.Core.Path.{_≡_, sym, _∙_}
 use Prim.Native.Nat.{_≤_, _-_, _+_, _*_}
 use borrow.Author.Tests.{not-true, not-false, eq-eqb, ne-eqb, lt-leb, le-leb}
 use mathlib.Core.Bool.{true, cond, _&&_}
 use lib.Dec.{leb, ltb}
 use lib.ListN.{length, take, drop}
-use Rattle.insertion.specs.declared.Size.the-variants as sz
-use Rattle.insertion.specs.Given.{typeIn, roomIn, lengthIn, valueOk, valsIn}
-use Rattle.insertion.proofs.RightLaws.{vals-step, vals-end, value-room}
+use Rattle.given.specs.declared.Size.the-variants as sz
+use Rattle.given.specs.Given.{typeIn, roomIn, lengthIn, valueOk, valsIn}
+use Rattle.given.proofs.RightLaws.{vals-step, vals-end, value-room}
 use native.Mathlib.Omega.{arith}
 use borrow.Author.Needs.{needs}
-use Rattle.insertion.proofs.given.vals_in.Statement.{statement}
-use Rattle.insertion.proofs.given.vals_in.Tie as tie
+use Rattle.given.proofs.vals_in.Statement.{statement}
+use Rattle.given.proofs.vals_in.Tie as tie
 
 abbrev Inv-loop : tie.InvT-loop
 Inv-loop vals encodings count u g j₀ t₀ size₀ j t size =

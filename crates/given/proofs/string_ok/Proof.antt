@@ -1,4 +1,4 @@
--- `insertion::given::string_ok` meets its contract. Assumes nothing.
+-- `given::string_ok` meets its contract. Assumes nothing.
 use mathlib.Core.Path.{_≡_, sym, ap, _∙_}
 use Prim.Native.Nat.{_+_, _-_}
 use borrow.Author.Tests.{lt-leb, le-leb}
@@ -9,12 +9,12 @@ use lib.Dec.{eqb, leb}
 use Rattle.value.specs.declared.Word.{Word}
 use Rattle.value.specs.Codec.{takes, textWord, wordAt}
 use Rattle.entry.proofs.JudgeLaws.{text-word}
-use Rattle.insertion.specs.Given.{valueOk}
-use Rattle.insertion.proofs.RightLaws.{value-text}
+use Rattle.given.specs.Given.{valueOk}
+use Rattle.given.proofs.RightLaws.{value-text}
 use native.Mathlib.Omega.{arith}
 use borrow.Author.Needs.{needs}
-use Rattle.insertion.proofs.given.string_ok.Statement.{statement}
-use Rattle.insertion.proofs.given.string_ok.Tie as tie
+use Rattle.given.proofs.string_ok.Statement.{statement}
+use Rattle.given.proofs.string_ok.Tie as tie
 
 means : (s : tie.Start) → let a = s .args in valueOk (a .element) (a .t) (a .room) (take (a .len) (drop (a .start) (a .s .now))) ≡ (leb (a .len) (a .room) && takes (textWord (a .t) (take (a .len) (drop (a .start) (a .s .now))))) && (a .element || eqb (a .room) (a .len))
 means s =

@@ -1,13 +1,13 @@
--- `insertion::given::size_in` meets its contract. Assumes nothing.
+-- `given::size_in` meets its contract. Assumes nothing.
 use mathlib.Core.Path.{sym, _∙_}
 use lib.Seq.{take-length}
 use borrow.Author.Tests.{not-true, not-false, eq-eqb, ne-eqb, lt-leb, le-leb}
 use Rattle.entry.proofs.JudgeLaws.{head-ok}
-use Rattle.insertion.proofs.RightLaws.{size-judged}
+use Rattle.given.proofs.RightLaws.{size-judged}
 use native.Mathlib.Omega.{arith}
 use borrow.Author.Needs.{needs}
-use Rattle.insertion.proofs.given.size_in.Statement.{statement}
-use Rattle.insertion.proofs.given.size_in.Tie as tie
+use Rattle.given.proofs.size_in.Statement.{statement}
+use Rattle.given.proofs.size_in.Tie as tie
 
 mul-m : tie.Need-mul-m
 mul-m c = search needs

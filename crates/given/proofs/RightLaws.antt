@@ -22,12 +22,11 @@ use Rattle.entry.specs.Model.{Val, used, size}
 use Rattle.entry.specs.Rules.{isGood, wordOk, valOk, tight, heldOk, valsOk, headOk, objOk}
 use Rattle.entry.proofs.JudgeLaws.{and-true, head-ok}
 use Rattle.entry.proofs.WalkLaws.{and-unit}
-use Rattle.insertion.specs.Given.{typeIn, roomIn, lengthIn, wordIn, held, roomOf, valIn, given, roomsIn, lengthsIn, countIn, objIn, sized, sizedIn, rightIn, sizeIn, valueOk, valsIn}
-use Rattle.insertion.specs.Insert.{Values}
-use Rattle.insertion.specs.declared.Head.{Head}
-use Rattle.insertion.specs.declared.Size.{Size}
-use Rattle.insertion.specs.declared.Size.the-variants as sz
-use Rattle.insertion.proofs.GivenLaws.{length-roomOf, roomOf-is, given-length, size-is}
+use Rattle.given.specs.Given.{typeIn, roomIn, lengthIn, wordIn, held, roomOf, valIn, given, roomsIn, lengthsIn, countIn, objIn, sized, sizedIn, rightIn, sizeIn, valueOk, valsIn, Values}
+use Rattle.given.specs.declared.Head.{Head}
+use Rattle.given.specs.declared.Size.{Size}
+use Rattle.given.specs.declared.Size.the-variants as sz
+use Rattle.given.proofs.GivenLaws.{length-roomOf, roomOf-is, given-length, size-is}
 
 -- ---- one value
 -- a string in its own room is itself

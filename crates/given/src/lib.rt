@@ -4,10 +4,22 @@ ghost use mathlib.Core.Bool.{true, false};
 ghost use Prim.Native.Nat.{_+_, _*_, _<_, _≤_};
 ghost use lib.ListN.{length, take, drop};
 ghost use Rattle.value.specs.Codec.{isText};
-ghost use Rattle.insertion.specs.Given.{typeIn, roomIn, lengthIn, valueOk, valsIn, sizeIn};
-use crate::Head;
-use crate::Size;
+ghost use Rattle.given.specs.Given.{typeIn, roomIn, lengthIn, valueOk, valsIn, sizeIn};
 use value::Word;
+
+// What an insertion is given beside its name and its values. With a default (1, else 0) the last of the values is the default.
+pub struct Head {
+    pub index: u16,
+    pub kind: u64,
+    pub access: u64,
+    pub default: u64,
+}
+
+// The bytes that a given object takes, or that it is none.
+pub enum Size {
+    Upto(usize),
+    Bad,
+}
 
 // Value j as it is described.
 pub fn type_in(vals: &[u64], j: usize) -> u64

@@ -11,9 +11,8 @@ use Rattle.lists.specs.Lists.{over}
 use Rattle.lists.proofs.ListLaws.{over-first, over-over, over-none}
 use Rattle.value.specs.Codec.{isText}
 use Rattle.entry.specs.Model.{rooms, wordsOf, slotsOf, size}
-use Rattle.insertion.specs.Given.{typeIn, roomIn, lengthIn, wordIn, held, roomOf, given, roomsIn, lengthsIn, slotsIn, countIn, objIn}
-use Rattle.insertion.specs.Insert.{heldIn}
-use Rattle.insertion.specs.declared.Head.{Head}
+use Rattle.given.specs.Given.{typeIn, roomIn, lengthIn, wordIn, held, roomOf, given, roomsIn, lengthsIn, slotsIn, countIn, objIn, heldIn}
+use Rattle.given.specs.declared.Head.{Head}
 
 -- ---- a room has its size
 pub length-roomOf : (r : ℕ) (xs : List ℕ) → length (roomOf r xs) ≡ r

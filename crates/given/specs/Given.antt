@@ -1,8 +1,9 @@
 -- What an insertion is given, and when it is no object: RULES.md 6, R6.1 and R6.3.
 -- Three words a value: its type, the size of its room, the byte count of its encoding. All encodings lie back to back.
 -- Assumes nothing.
-use Prim.Native.Nat.{ℕ, zero, suc, _+_, _-_, _*_, _/_}
-use mathlib.Core.Bool.{Bool, true, cond, _&&_, _||_}
+use Prim.Native.Nat.{ℕ, zero, suc, _+_, _-_, _*_, _/_, _≤_, _<_}
+use mathlib.Core.Path.{_≡_}
+use mathlib.Core.Bool.{Bool, true, false, cond, _&&_, _||_}
 use mathlib.Core.List.{List, [], _∷_, _++_}
 use lib.ListN.{length, take, drop, getD, replicate}
 use lib.Dec.{eqb, leb, ltb}
@@ -10,9 +11,9 @@ use Rattle.lists.specs.Numbers.{number}
 use Rattle.value.specs.Codec.{sizeOf, isText}
 use Rattle.entry.specs.Model.{Val, Obj, size}
 use Rattle.entry.specs.Rules.{valOk, tight, objOk}
-use Rattle.insertion.specs.declared.Head.{Head}
-use Rattle.insertion.specs.declared.Size.{Size}
-use Rattle.insertion.specs.declared.Size.the-variants as sz
+use Rattle.given.specs.declared.Head.{Head}
+use Rattle.given.specs.declared.Size.{Size}
+use Rattle.given.specs.declared.Size.the-variants as sz
 
 abbrev pub typeIn : List ℕ → ℕ → ℕ
 typeIn vals j = getD vals (3 * j) 0
@@ -100,3 +101,15 @@ valsIn vals encodings c (suc k) j t g =
 unfoldable pub slotsIn : List ℕ → ℕ → ℕ → ℕ → List ℕ
 slotsIn vals zero j b = []
 slotsIn vals (suc k) j b = typeIn vals j ∷ b ∷ roomIn vals j ∷ slotsIn vals k (suc j) (b + roomIn vals j)
+
+-- how many bytes of its room a value takes
+abbrev pub heldIn : List ℕ → ℕ → ℕ
+heldIn vals j = cond (isText (typeIn vals j)) (lengthIn vals j) 0
+
+-- u values that fit their rooms and lie within the encodings
+pub record Values (vals encodings : List ℕ) (u : ℕ) : Type 0 where
+  pub few : u ≤ 255
+  pub long : 3 * u ≤ length vals
+  pub encoded : lengthsIn vals u 0 ≤ length encodings
+  pub within : (j : ℕ) → j < u → heldIn vals j ≤ roomIn vals j
+  pub short : (j : ℕ) → j < u → isText (typeIn vals j) ≡ false → lengthIn vals j ≤ 8
