@@ -8,11 +8,12 @@ ghost use Rattle.entry.specs.Encode.{encodingIn};
 ghost use Rattle.entry.specs.Put.{contents, putIn, retyped, Puts};
 ghost use Rattle.entry.specs.Judge.{wellFormed};
 ghost use Rattle.image.specs.Readable.{typeIn};
-ghost use Rattle.restoring.specs.Records.{records, bodyIn, Body};
-ghost use Rattle.restoring.specs.Restore.{slotIn, chosenAt, fitsRoom, restoredBy, valuesFit, valuesRestored, rowsFit, rowsRestored, Copies};
-use crate::Choice;
-use crate::choosing::choose;
-use crate::rooms::in_range;
+ghost use Rattle.fitting.specs.Records.{records, bodyIn, Body};
+ghost use Rattle.fitting.specs.Fit.{slotIn, chosenAt, fitsRoom, valuesFit, rowsFit};
+ghost use Rattle.restoring.specs.Restore.{restoredBy, valuesRestored, rowsRestored, Copies};
+use fitting::Choice;
+use fitting::choose;
+use fitting::in_range;
 
 // Puts the stored value of the record at place a as value p.
 fn put_stored(
