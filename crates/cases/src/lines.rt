@@ -37,8 +37,8 @@ fn word_line(s: &[u8], at: usize) -> bool {
 
 // The word and the six parts that start at `at`.
 fn value_is(v: ObjectValue, s: &[u8], at: usize) -> bool {
-    let parts = value::fields(v);
-    if value::to_word(v) != number(s, at) {
+    let parts = object_value::fields(v);
+    if object_value::to_word(v) != number(s, at) {
         return false;
     }
     let mut p = at;
@@ -59,7 +59,7 @@ fn decode_line(s: &[u8], at: usize) -> bool {
     let n = bytes(s, from, &mut data);
     let answer = next(s, from);
     let expected = number(s, answer);
-    match value::decode(number(s, at), &data[..n]) {
+    match object_value::decode(number(s, at), &data[..n]) {
         Decoded::Value(v) => {
             if expected == 0 {
                 value_is(v, s, next(s, answer))

@@ -10,7 +10,7 @@ use Rattle.lists.specs.Lists.{over}
 use Rattle.lists.specs.Numbers.{bytesOf}
 use Rattle.lists.proofs.ListLaws.{over-none, over-over, lay-two, lay-next}
 use Rattle.lists.proofs.NumberLaws.{length-bytesOf}
-use Rattle.commands.specs.Image.{Rec, headOf, heads, bodies, imageOf}
+use Rattle.image.specs.Image.{Rec, headOf, heads, bodies, imageOf}
 
 -- ---- lengths
 pub length-head : (index sub type start len : ℕ) → length (headOf index sub type start len) ≡ 8

@@ -3,5 +3,4 @@ pub mod OfferLaws
 pub mod WalkLaws
 pub mod SaveLaws
 pub mod RightLaws
-pub mod ReadLaws
 pub mod TableLaws

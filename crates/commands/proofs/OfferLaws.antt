@@ -14,7 +14,7 @@ use Rattle.entry.specs.Table.{Dict, numberOf, indexAt, accessAt, countAt, first
 use Rattle.entry.specs.Judge.{wellFormed}
 use Rattle.entry.specs.Encode.{encodingAt, Lays}
 use Rattle.entry.proofs.ValueLaws.{ValueFacts, value-facts}
-use Rattle.commands.specs.Image.{inList, stores, offers, recsIn, offeredFrom, offered, bodies}
+use Rattle.image.specs.Image.{inList, stores, offers, recsIn, offeredFrom, offered, bodies}
 use Rattle.commands.specs.Save.{Row, lengthIn}
 
 -- ---- one turn of each walk

@@ -16,9 +16,9 @@ use Rattle.entry.proofs.JudgeLaws.{and-true, head-ok}
 use Rattle.entry.proofs.FactLaws.{row-facts}
 use Rattle.entry.proofs.ApartLaws.{rising}
 use Rattle.entry.proofs.EncodeLaws.{exact-stored}
-use Rattle.commands.specs.Image.{Rec, imageOf, subIn, offers, recAt, recsIn, offeredFrom, offered, bodies, newTable}
+use Rattle.image.specs.Image.{Rec, imageOf, subIn, offers, recAt, recsIn, offeredFrom, offered, bodies, newTable}
 use Rattle.commands.specs.Save.{Row, fits}
-use Rattle.commands.specs.Readable.{keyOf, recOk, recsOk, Right}
+use Rattle.image.specs.Readable.{keyOf, recOk, recsOk, Right}
 use Rattle.commands.proofs.ImageLaws.{length-image}
 use Rattle.entry.proofs.ValueLaws.{row-lies}
 use Rattle.commands.proofs.OfferLaws.{facts, offers-few}

@@ -12,7 +12,7 @@ use Rattle.answers.specs.declared.Refusal.the-variants.{StoreFull}
 use Rattle.lists.specs.Lists.{over}
 use Rattle.entry.specs.Table.{Dict}
 use Rattle.entry.proofs.WalkLaws.{and-false}
-use Rattle.commands.specs.Image.{Rec, bodies, imageOf, newTable}
+use Rattle.image.specs.Image.{Rec, bodies, imageOf, newTable}
 use Rattle.commands.specs.Save.{fits, after, saveOf}
 use Rattle.commands.specs.declared.Saved.the-variants.{Done, Refused}
 use Rattle.commands.proofs.ImageLaws.{length-image}

@@ -20,11 +20,11 @@ use Rattle.lists.specs.Lists.{over}
 use Rattle.entry.specs.Table.{Dict}
 use Rattle.entry.specs.Judge.{wellFormed}
 use Rattle.entry.proofs.JudgeLaws.{and-true}
-use Rattle.commands.specs.Image.{Rec, headOf, heads, bodies, imageOf, newTable}
+use Rattle.image.specs.Image.{Rec, headOf, heads, bodies, imageOf, newTable}
 use Rattle.commands.specs.Save.{fits}
-use Rattle.commands.specs.Readable.{keyOf, recOk, recsOk, Right, field, indexIn, keyIn, typeIn, startIn, sizeAt, recsAt, placed, headsOk, readable, tableOf}
+use Rattle.image.specs.Readable.{keyOf, recOk, recsOk, Right, field, indexIn, keyIn, typeIn, startIn, sizeAt, recsAt, placed, headsOk, readable, tableOf}
 use Rattle.commands.proofs.ImageLaws.{length-heads, length-image}
-use Rattle.commands.proofs.ReadLaws.{Placed, placed-true, counted}
+use Rattle.image.proofs.ReadLaws.{Placed, placed-true, counted}
 use Rattle.commands.proofs.RightLaws.{RecOk, recs-cons, saved-right}
 
 -- ---- reading a number that lies at place a

@@ -10,7 +10,7 @@ use Rattle.lists.specs.Lists.{over}
 use Rattle.entry.specs.Table.{Dict, numberOf, indexAt, kindAt, firstAt, typeAt}
 use Rattle.entry.specs.Judge.{wellFormed}
 use Rattle.entry.specs.Encode.{encodingAt, Lays}
-use Rattle.commands.specs.Image.{subIn, headOf, recsIn, offers, offeredFrom, heads, bodies}
+use Rattle.image.specs.Image.{subIn, headOf, recsIn, offers, offeredFrom, heads, bodies}
 use Rattle.commands.specs.Save.{Row, lengthIn}
 use Rattle.commands.proofs.ImageLaws.{length-bodies, no-bytes, heads-two, bodies-two}
 use Rattle.entry.proofs.ValueLaws.{row-lies}

@@ -9,9 +9,9 @@ use Rattle.lists.specs.Lists.{over}
 use Rattle.lists.specs.Numbers.{number, bytesOf}
 use Rattle.value.specs.Codec.{sizeOf, encoding, exact}
 use Rattle.entry.specs.Table.{Dict, dict}
-use Rattle.commands.specs.Image.{inList, offers, subIn, recsIn, offeredFrom, heads, bodies, imageOf, offered}
+use Rattle.image.specs.Image.{inList, offers, subIn, recsIn, offeredFrom, heads, bodies, imageOf, offered}
 use Rattle.commands.specs.Save.{fits, after, saveOf}
-use Rattle.commands.specs.Readable.{placed, headsOk, recsAt, readable, tableOf}
+use Rattle.image.specs.Readable.{placed, headsOk, recsAt, readable, tableOf}
 use Rattle.commands.specs.declared.Saved.the-variants.{Done, Refused}
 
 abbrev pub d : Dict

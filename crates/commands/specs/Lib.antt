@@ -1,4 +1,2 @@
-pub mod Image
 pub mod Save
-pub mod Readable
 pub mod Cases

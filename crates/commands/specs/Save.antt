@@ -9,7 +9,7 @@ use Rattle.answers.specs.declared.Refusal.the-variants.{StoreFull}
 use Rattle.lists.specs.Lists.{over}
 use Rattle.value.specs.Codec.{isText, sizeOf}
 use Rattle.entry.specs.Table.{Dict, numberOf, countAt, typeAt}
-use Rattle.commands.specs.Image.{Rec, bodies, imageOf, newTable}
+use Rattle.image.specs.Image.{Rec, bodies, imageOf, newTable}
 use Rattle.commands.specs.declared.Saved.{Saved}
 use Rattle.commands.specs.declared.Saved.the-variants.{Done, Refused}
 use Rattle.commands.specs.declared.offering.Size.{Size}

@@ -6,7 +6,7 @@ ghost use lib.ListN.{length};
 ghost use Rattle.lists.specs.Lists.{over};
 ghost use Rattle.entry.specs.Table.{dict};
 ghost use Rattle.entry.specs.Judge.{wellFormed};
-ghost use Rattle.commands.specs.Image.{headOf, recAt, recsIn, offered, heads, bodies};
+ghost use Rattle.image.specs.Image.{headOf, recAt, recsIn, offered, heads, bodies};
 ghost use Rattle.commands.specs.Save.{Row};
 use crate::offering::length_at;
 use crate::offering::offers;

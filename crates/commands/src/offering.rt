@@ -5,7 +5,7 @@ ghost use Prim.Native.Nat.{_≤_, _<_};
 ghost use lib.ListN.{length};
 ghost use Rattle.entry.specs.Table.{dict, rowEnd, slotEnd};
 ghost use Rattle.entry.specs.Judge.{wellFormed};
-ghost use Rattle.commands.specs.Image.{inList, offers, subIn, recsIn, offered, bodies};
+ghost use Rattle.image.specs.Image.{inList, offers, subIn, recsIn, offered, bodies};
 ghost use Rattle.commands.specs.Save.{sizeIn, lengthIn, Row};
 
 // How many records, and how many bytes their bodies have.

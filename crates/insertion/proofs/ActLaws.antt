@@ -9,11 +9,11 @@ use lib.ListN.{length, take, drop, getD, set, length-append, take-append-drop}
 use lib.Seq.{length-take-le}
 use Rattle.lists.specs.Lists.{over, grown, spliced}
 use Rattle.entry.specs.Model.{Obj, used, size, row, wordsOf, rooms, allObjects, allSlots, allWords, allBytes, insertAt}
-use Rattle.insertion.specs.Given.{given, slotsIn, roomsIn, countIn, objIn}
+use Rattle.given.specs.Given.{given, slotsIn, roomsIn, countIn, objIn}
 use Rattle.entry.specs.Table.{Dict, dict, Lies, numberOf, valuesOf, usedOf, before}
 use Rattle.insertion.specs.Insert.{rowIn}
-use Rattle.insertion.specs.declared.Head.{Head}
-use Rattle.insertion.proofs.GivenLaws.{given-slots, given-length, size-is}
+use Rattle.given.specs.declared.Head.{Head}
+use Rattle.given.proofs.GivenLaws.{given-slots, given-length, size-is}
 use Rattle.entry.proofs.ModelLaws.{length-slots, words-append, bytes-append, slots-append, start-within, Totals, totals}
 use Rattle.insertion.proofs.InsertLaws.{same-parts, words-inserted, slots-inserted, bytes-inserted, objects-inserted}
 use Rattle.insertion.proofs.PlaceLaws.{Place, place}

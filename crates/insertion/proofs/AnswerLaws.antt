@@ -12,15 +12,15 @@ use Rattle.entry.specs.Model.{Obj, used, size}
 use Rattle.entry.specs.Table.{Dict, modelOf, numberOf}
 use Rattle.entry.specs.Judge.{wellFormed}
 use Rattle.entry.specs.Find.{objectOf}
-use Rattle.insertion.specs.Given.{objIn, rightIn, sizeIn}
+use Rattle.given.specs.Given.{objIn, rightIn, sizeIn}
 use Rattle.insertion.specs.Insert.{inserted, below, taken, Room, fitsIn, answerOf, after, memoryOf}
-use Rattle.insertion.specs.declared.Head.{Head}
-use Rattle.insertion.specs.declared.Size.the-variants as sz
+use Rattle.given.specs.declared.Head.{Head}
+use Rattle.given.specs.declared.Size.the-variants as sz
 use Rattle.insertion.specs.declared.Inserted.{Inserted}
 use Rattle.insertion.specs.declared.Inserted.the-variants.{Done, Refused}
 use Rattle.entry.proofs.JudgeLaws.{and-true, sound, length-objs}
 use Rattle.entry.proofs.ModelLaws.{totals}
-use Rattle.insertion.proofs.RightLaws.{right}
+use Rattle.given.proofs.RightLaws.{right}
 use Rattle.insertion.proofs.IndexLaws.{below-small}
 use Rattle.insertion.proofs.KeepLaws.{Kept, kept, other, itself}
 

@@ -1,5 +1,3 @@
-pub mod GivenLaws
-pub mod RightLaws
 pub mod InsertLaws
 pub mod PlaceLaws
 pub mod ActLaws

@@ -1,21 +1,19 @@
 -- Insertion: RULES.md 6.
 -- Assumes nothing.
-use Prim.Native.Nat.{ℕ, zero, suc, _+_, _-_, _*_, _≤_, _<_}
-use mathlib.Core.Path.{_≡_}
+use Prim.Native.Nat.{ℕ, zero, suc, _+_, _-_, _≤_, _<_}
 use mathlib.Core.Bool.{Bool, false, cond, _&&_, _||_}
 use mathlib.Core.List.{List, [], _∷_}
 use lib.ListN.{length}
 use lib.Dec.{eqb, leb, ltb}
 use Rattle.answers.specs.declared.Refusal.the-variants.{Malformed, BadValue, Occupied, Full}
-use Rattle.value.specs.Codec.{isText}
 use Rattle.entry.specs.Model.{Obj, used, size, insertAt}
 use Rattle.entry.specs.Table.{Dict, indexAt, modelOf, laid, numberOf, valuesOf, usedOf, rowEnd, slotPlace}
 use Rattle.rows.specs.Rows.{rowOf}
 use Rattle.entry.specs.Judge.{wellFormed}
-use Rattle.insertion.specs.declared.Head.{Head}
+use Rattle.given.specs.declared.Head.{Head}
 use Rattle.insertion.specs.declared.Inserted.{Inserted}
 use Rattle.insertion.specs.declared.Inserted.the-variants.{Done, Refused}
-use Rattle.insertion.specs.Given.{typeIn, roomIn, lengthIn, lengthsIn, objIn, rightIn}
+use Rattle.given.specs.Given.{objIn, rightIn}
 
 -- the memory with the object o as the one at place i: R6.6
 abbrev pub inserted : ℕ → Obj → Dict → Dict
@@ -78,15 +76,3 @@ pub record Room (objects slots words bytes : List ℕ) (i u g : ℕ) : Type 0 wh
   pub worded : valuesOf objects + u ≤ length words
   pub total : usedOf objects + g ≤ 32768
   pub arena : usedOf objects + g ≤ length bytes
-
--- how many bytes of its room a value takes
-abbrev pub heldIn : List ℕ → ℕ → ℕ
-heldIn vals j = cond (isText (typeIn vals j)) (lengthIn vals j) 0
-
--- u values that fit their rooms and lie within the encodings
-pub record Values (vals encodings : List ℕ) (u : ℕ) : Type 0 where
-  pub few : u ≤ 255
-  pub long : 3 * u ≤ length vals
-  pub encoded : lengthsIn vals u 0 ≤ length encodings
-  pub within : (j : ℕ) → j < u → heldIn vals j ≤ roomIn vals j
-  pub short : (j : ℕ) → j < u → isText (typeIn vals j) ≡ false → lengthIn vals j ≤ 8

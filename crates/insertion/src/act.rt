@@ -9,12 +9,12 @@ ghost use Rattle.value.specs.Codec.{isText};
 ghost use Rattle.entry.specs.Model.{rooms, wordsOf};
 ghost use Rattle.entry.specs.Table.{numberOf, valuesOf, usedOf, rowPlace, rowEnd, firstPlace, namePlace, slotPlace, startPlace, valuesBefore, bytesBefore, dict, modelOf, Lies};
 ghost use Rattle.rows.specs.Rows.{rowsGrown, startsGrown, totalled};
-ghost use Rattle.insertion.specs.Given.{wordIn, roomOf, given, roomsIn, slotsIn, countIn, objIn};
-ghost use Rattle.insertion.specs.Insert.{rowIn, inserted, Room, Values};
-use crate::Head;
-use crate::given::length_in;
-use crate::given::room_in;
-use crate::given::type_in;
+ghost use Rattle.given.specs.Given.{wordIn, roomOf, given, roomsIn, slotsIn, countIn, objIn, Values};
+ghost use Rattle.insertion.specs.Insert.{rowIn, inserted, Room};
+use given::Head;
+use given::length_in;
+use given::room_in;
+use given::type_in;
 
 // The word that an encoding says.
 fn word_in(t: u64, s: &[u8], start: usize, len: usize) -> u64

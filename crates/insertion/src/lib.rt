@@ -1,10 +1,11 @@
 // Inserting an object into the lent dictionary: everything behind its place moves up.
 mod act;
-mod given;
 mod remove;
 mod replace;
 
 use answers::Refusal;
+pub use given::Head;
+use given::Size;
 ghost use mathlib.Core.Path.{_≡_};
 ghost use mathlib.Core.Bool.{false, cond};
 ghost use Prim.Native.Nat.{_+_, _≤_};
@@ -13,23 +14,9 @@ ghost use lib.ListN.{length};
 ghost use Rattle.entry.specs.Table.{dict, numberOf, valuesOf, usedOf, rowPlace, indexAt};
 ghost use Rattle.insertion.specs.Insert.{fitsIn, placeFrom, answerOf, memoryOf};
 
-// What an insertion is given beside its name and its values. With a default (1, else 0) the last of the values is the default.
-pub struct Head {
-    pub index: u16,
-    pub kind: u64,
-    pub access: u64,
-    pub default: u64,
-}
-
 pub enum Inserted {
     Done,
     Refused(Refusal),
-}
-
-// The bytes that a given object takes, or that it is none.
-pub enum Size {
-    Upto(usize),
-    Bad,
 }
 
 // How many rows have a smaller index.

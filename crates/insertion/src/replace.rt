@@ -5,12 +5,11 @@ ghost use Prim.Native.Nat.{_+_, _≤_};
 ghost use lib.ListN.{length};
 ghost use Rattle.entry.specs.Judge.{wellFormed};
 ghost use Rattle.entry.specs.Table.{dict, numberOf};
-ghost use Rattle.insertion.specs.Given.{roomsIn, countIn, objIn};
-ghost use Rattle.insertion.specs.Insert.{Values};
+ghost use Rattle.given.specs.Given.{roomsIn, countIn, objIn, Values};
 ghost use Rattle.insertion.specs.Replace.{without, replaced, RoomIn};
-use crate::Head;
 use crate::act;
 use crate::remove;
+use given::Head;
 
 // The object, of g bytes, comes in the place of the k objects at place i, where k is 0 or 1.
 pub fn replace_at(

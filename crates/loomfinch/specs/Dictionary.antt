@@ -4,7 +4,7 @@ use Prim.Native.Nat.{ℕ}
 use mathlib.Core.List.{List, [], _∷_}
 use Rattle.answers.specs.Numbers.{numberOf}
 use Rattle.entry.specs.Table.{Dict}
-use Rattle.insertion.specs.declared.Head.{Head}
+use Rattle.given.specs.declared.Head.{Head}
 use Rattle.insertion.specs.declared.Inserted.{Inserted}
 use Rattle.insertion.specs.declared.Inserted.the-variants as inserted
 use Rattle.od.specs.declared.Answer.{Answer}

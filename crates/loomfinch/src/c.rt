@@ -16,8 +16,8 @@ fn give(v: ObjectValue, numbers: &mut [u64]) -> u64
     if numbers.len() < 7 {
         return 12;
     }
-    let parts = value::fields(v);
-    numbers[0] = value::to_word(v);
+    let parts = object_value::fields(v);
+    numbers[0] = object_value::to_word(v);
     lists::lay_words(numbers, 1, &parts);
     0
 }
@@ -26,7 +26,7 @@ fn give(v: ObjectValue, numbers: &mut [u64]) -> u64
 pub extern "C" fn loomfinch_decode(type_number: u64, data: &[u8], numbers: &mut [u64]) -> u64
     ensures { λ r. ⌜ lent r (now (numbers .exit)) ≡ decodeNumbers «type_number» (now («data» .entry)) (now (numbers .entry)) ⌝ }
 {
-    match value::decode(type_number, data) {
+    match object_value::decode(type_number, data) {
         Decoded::NoType => 2,
         Decoded::Fails(f) => answers::number(value::refusal(f)),
         Decoded::Value(v) => give(v, numbers),

@@ -27,6 +27,8 @@ pub use names::ByName;
 pub use names::find_by_name;
 pub use nodes::Listed;
 pub use nodes::get_configured_cns;
+pub use object_value::decode;
+pub use object_value::encode;
 pub use od::Answer;
 pub use od::Number;
 pub use od::Stored;
@@ -47,8 +49,6 @@ pub use restoring::restore_power_on_values;
 pub use value::Decoded;
 pub use value::Encoded;
 pub use value::ObjectValue;
-pub use value::decode;
-pub use value::encode;
 pub use writing::Wrote;
 pub use writing::write;
 

@@ -13,11 +13,11 @@ use Rattle.entry.proofs.FactLaws.{row-facts}
 use Rattle.entry.proofs.ApartLaws.{firsts-rise}
 use Rattle.entry.specs.declared.Found.{Found}
 use Rattle.entry.specs.declared.Found.the-variants.{At, Nothing}
-use Rattle.restoring.specs.Records.{recordOf}
-use Rattle.restoring.specs.Restore.{slotIn, defaultIn, keyAt, hasDefault, choiceOf, chosenAt, fitsRoom, valuesFit, inRange, rowsFit}
-use Rattle.restoring.specs.declared.Choice.{Choice}
-use Rattle.restoring.specs.declared.Choice.the-variants.{Keep, Stored, Default}
-use Rattle.restoring.proofs.ChoiceLaws.{chosen-default}
+use Rattle.fitting.specs.Records.{recordOf}
+use Rattle.fitting.specs.Fit.{slotIn, defaultIn, keyAt, hasDefault, choiceOf, chosenAt, fitsRoom, valuesFit, inRange, rowsFit}
+use Rattle.fitting.specs.declared.Choice.{Choice}
+use Rattle.fitting.specs.declared.Choice.the-variants.{Keep, Stored, Default}
+use Rattle.fitting.proofs.ChoiceLaws.{chosen-default}
 use Rattle.restoring.proofs.OnlyLaws.{Only}
 
 module _ (P : ℕ → Type 0) (d e : Dict) (w : wellFormed d ≡ true) (o : Only P d e) (s : List ℕ) where

@@ -1,6 +1,3 @@
-pub mod RecordLaws
-pub mod RisingLaws
-pub mod ChoiceLaws
 pub mod OnlyLaws
 pub mod TurnLaws
 pub mod FitLaws

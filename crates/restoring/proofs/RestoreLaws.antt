@@ -9,7 +9,8 @@ use Rattle.entry.specs.Table.{Dict, numberOf, indexAt, countAt, firstAt}
 use Rattle.entry.specs.Judge.{wellFormed}
 use Rattle.entry.proofs.JudgeLaws.{and-true}
 use Rattle.entry.proofs.ApartLaws.{firsts-rise}
-use Rattle.restoring.specs.Restore.{slotIn, chosenAt, fitsRoom, restoredBy, valuesFit, valuesRestored, inRange, rowsFit, rowsRestored, after, restoreOf}
+use Rattle.fitting.specs.Fit.{slotIn, chosenAt, fitsRoom, valuesFit, inRange, rowsFit}
+use Rattle.restoring.specs.Restore.{restoredBy, valuesRestored, rowsRestored, after, restoreOf}
 use Rattle.answers.specs.declared.Refusal.the-variants.{TooLong}
 use Rattle.restoring.specs.declared.Restored.the-variants.{Done, Refused}
 use Rattle.restoring.proofs.OnlyLaws.{Only, only-same, only-more, only-then}

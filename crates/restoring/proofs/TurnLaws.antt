@@ -11,22 +11,23 @@ use Rattle.lists.specs.Numbers.{Bytes}
 use Rattle.lists.proofs.NumberLaws.{bytes-take, bytes-drop, bytes-over, bytes-bytesOf}
 use Rattle.value.specs.Codec.{isText, sizeOf}
 use Rattle.value.proofs.CodecLaws.{wordIn, exact-facts, encoding-text, encoding-fixed}
-use Rattle.entry.specs.Table.{Dict, numberOf, valuesOf, countAt, defaultAt, typeAt, startAt, roomAt}
+use Rattle.entry.specs.Table.{Dict, numberOf, valuesOf, countAt, typeAt, startAt, roomAt}
 use Rattle.entry.specs.Encode.{encodingAt}
 use Rattle.entry.specs.Judge.{wellFormed}
 use Rattle.entry.specs.Put.{contents, putNew, typed, Puts}
 use Rattle.entry.proofs.ApartLaws.{apart}
-use Rattle.entry.proofs.FactLaws.{row-facts}
-use Rattle.entry.proofs.ValueLaws.{ValueFacts, value-facts, every-value}
+use Rattle.entry.proofs.ValueLaws.{ValueFacts, every-value}
 use Rattle.entry.proofs.EncodeLaws.{decode-stored}
 use Rattle.entry.proofs.PutLaws.{put-text, put-fixed}
 use Rattle.entry.proofs.KeepLaws.{FitsAs, takes-text, takes-fixed, type-new, start-new, as-put, new-data}
-use Rattle.commands.specs.Readable.{field, typeIn, startIn, sizeAt}
-use Rattle.restoring.specs.Records.{recordPlace, bodyIn}
-use Rattle.restoring.specs.Restore.{slotIn, defaultIn, chosenAt, fitsRoom, restoredBy, Copies}
-use Rattle.restoring.specs.declared.Choice.{Choice}
-use Rattle.restoring.specs.declared.Choice.the-variants.{Keep, Stored, Default}
-use Rattle.restoring.proofs.ChoiceLaws.{StoredAt, chosen-stored, chosen-default, room-if}
+use Rattle.image.specs.Readable.{field, typeIn, startIn, sizeAt}
+use Rattle.fitting.specs.Records.{recordPlace, bodyIn}
+use Rattle.fitting.specs.Fit.{slotIn, chosenAt, fitsRoom}
+use Rattle.restoring.specs.Restore.{restoredBy, Copies}
+use Rattle.fitting.specs.declared.Choice.{Choice}
+use Rattle.fitting.specs.declared.Choice.the-variants.{Keep, Stored, Default}
+use Rattle.fitting.proofs.ChoiceLaws.{StoredAt, chosen-stored, chosen-default, room-if}
+use Rattle.fitting.proofs.SlotLaws.{facts, default-slot}
 use Rattle.restoring.proofs.OnlyLaws.{Only, only-same, only-put}
 
 -- ---- bytes stay bytes
@@ -79,9 +80,6 @@ module _ (d : Dict) (e : wellFormed d ≡ true) (s : List ℕ) (i k : ℕ) (hi :
   abbrev p : ℕ
   p = slotIn (d .objects) i k
 
-  pub facts : ValueFacts d p
-  facts = value-facts d e i k hi (omega arith)
-
   pub stored-fits : (a : ℕ) → StoredAt s a → fitsRoom d s p (Stored a) ≡ true → FitsAs d p (typeIn s a) (bodyIn s a) (wordIn (typeIn s a) (bodyIn s a))
   unfolding fitsRoom
   stored-fits a m f =
@@ -91,10 +89,6 @@ module _ (d : Dict) (e : wellFormed d ≡ true) (s : List ℕ) (i k : ℕ) (hi :
         taken = x .taken;
         room = λ t. omega (arith, m .long, room-if (isText (typeIn s a)) (sizeAt s a) (roomAt (d .slots) p) f t);
       }
-
-  -- the default's slot
-  pub default-slot : (r : ℕ) → (r ≡ defaultIn (d .objects) i) × (defaultAt (d .objects) i ≡ 1) → (r < valuesOf (d .objects)) × (p < r)
-  default-slot r z = (omega (arith, z .0, z .1, row-facts d e i hi .values), omega (arith, z .0))
 
   pub default-fits : (r : ℕ) → r < valuesOf (d .objects) → fitsRoom d s p (Default r) ≡ true → FitsAs d p (typeAt (d .slots) r) (encodingAt d r) (getD (d .words) r 0)
   unfolding fitsRoom
@@ -108,7 +102,7 @@ module _ (d : Dict) (e : wellFormed d ≡ true) (s : List ℕ) (i k : ℕ) (hi :
 
   pub copies : (r : ℕ) → (r < valuesOf (d .objects)) × (p < r) → Copies (d .slots) (d .words) (d .bytes) p r
   copies r h =
-      let f = facts in
+      let f = facts d e s i k hi hk in
       let g = every-value d e r (h .0) in
       record {
         low = (f .low, g .low);
@@ -120,8 +114,9 @@ module _ (d : Dict) (e : wellFormed d ≡ true) (s : List ℕ) (i k : ℕ) (hi :
 
   put-keeps : (t : ℕ) (v : List ℕ) (w : ℕ) → FitsAs d p t v w → Bytes v → Bytes (d .bytes) → Kept (λ q. q ≡ p) d (putNew d p t v)
   put-keeps t v w g bv bd =
-      let a = as-put d p t v w facts g bv in
-      record { well = new-data d i k t v e hi hk bv w g; bytes = bytes-new d p t v w facts g bd bv; only = rw (a .same) (only-put d e p t w (a .room) (facts .below) (a .long)) }
+      let f = facts d e s i k hi hk in
+      let a = as-put d p t v w f g bv in
+      record { well = new-data d i k t v e hi hk bv w g; bytes = bytes-new d p t v w f g bd bv; only = rw (a .same) (only-put d e p t w (a .room) (f .below) (a .long)) }
 
   pub turn : Bytes s → Bytes (d .bytes) → fitsRoom d s p (chosenAt d s i k) ≡ true → Kept (λ q. q ≡ p) d (restoredBy d s p (chosenAt d s i k))
   unfolding restoredBy
@@ -132,5 +127,5 @@ module _ (d : Dict) (e : wellFormed d ≡ true) (s : List ℕ) (i k : ℕ) (hi :
       go (Stored a) q f =
           put-keeps (typeIn s a) (bodyIn s a) _ (stored-fits a (chosen-stored d s i k a q) f) (bytes-take (sizeAt s a) _ (bytes-drop (recordPlace (field s 0 2) + startIn s a) s bs)) bd
       go (Default r) q f =
-          let h = default-slot r (chosen-default d s i k r q) in
+          let h = default-slot d e s i k hi hk r (chosen-default d s i k r q) in
           put-keeps (typeAt (d .slots) r) (encodingAt d r) _ (default-fits r (h .0) f) (bytes-encoding d r bd) bd

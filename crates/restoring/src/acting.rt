@@ -7,12 +7,13 @@ ghost use Rattle.entry.specs.Table.{dict, numberOf, countAt, typeAt, slotEnd};
 ghost use Rattle.entry.specs.Encode.{encodingIn};
 ghost use Rattle.entry.specs.Put.{contents, putIn, retyped, Puts};
 ghost use Rattle.entry.specs.Judge.{wellFormed};
-ghost use Rattle.commands.specs.Readable.{typeIn};
-ghost use Rattle.restoring.specs.Records.{records, bodyIn, Body};
-ghost use Rattle.restoring.specs.Restore.{slotIn, chosenAt, fitsRoom, restoredBy, valuesFit, valuesRestored, rowsFit, rowsRestored, Copies};
-use crate::Choice;
-use crate::choosing::choose;
-use crate::rooms::in_range;
+ghost use Rattle.image.specs.Readable.{typeIn};
+ghost use Rattle.fitting.specs.Records.{records, bodyIn, Body};
+ghost use Rattle.fitting.specs.Fit.{slotIn, chosenAt, fitsRoom, valuesFit, rowsFit};
+ghost use Rattle.restoring.specs.Restore.{restoredBy, valuesRestored, rowsRestored, Copies};
+use fitting::Choice;
+use fitting::choose;
+use fitting::in_range;
 
 // Puts the stored value of the record at place a as value p.
 fn put_stored(
@@ -28,10 +29,10 @@ fn put_stored(
     ensures shape { λ _. ⌜ now (slots .exit) ≡ retyped (now (slots .entry)) p (typeIn (now (store .entry)) a) ⌝ }
     ensures held { λ _. ⌜ contents (now (words .exit)) (now (bytes .exit)) ≡ putIn (retyped (now (slots .entry)) p (typeIn (now (store .entry)) a)) (contents (now (words .entry)) (now (bytes .entry))) p (bodyIn (now (store .entry)) a) ⌝ }
 {
-    let t = commands::type_in(store, a);
+    let t = image::type_in(store, a);
     let bodies = 2 + 8 * lists::number(store, 0, 2) as usize;
-    let start = bodies + commands::start_in(store, a);
-    let end = start + commands::size_at(store, a);
+    let start = bodies + image::start_in(store, a);
+    let end = start + image::size_at(store, a);
     entry::put_new(slots, words, bytes, p, t, &store[start..end]);
 }
 

@@ -4,9 +4,9 @@ ghost use Rattle.entry.specs.Table.{dict};
 ghost use Rattle.restoring.specs.Restore.{after, restoreOf};
 use crate::Restored;
 use crate::acting::restore_rows;
-use crate::records::records;
-use crate::rooms::rows_fit;
 use answers::Refusal;
+use fitting::records;
+use fitting::rows_fit;
 
 // Restores the objects from index `first` to index `last`. A refusal changes nothing.
 pub fn restore_power_on_values(

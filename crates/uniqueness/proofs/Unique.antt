@@ -20,10 +20,10 @@ use Rattle.pdo_cycle.specs.Cycle.{After as Cycling}
 use Rattle.pdo_handler.specs.Errors.{After as Marking}
 use Rattle.restoring.specs.Restore.{After as Restoring}
 use Rattle.writing.specs.Writing.{After as Writing}
-use Rattle.value.proofs.decode.Reads as decode
-use Rattle.value.proofs.decode.Kinds as decode-kinds
-use Rattle.value.proofs.encode.Reads as encode
-use Rattle.value.proofs.encode.Kinds as encode-kinds
+use Rattle.object_value.proofs.decode.Reads as decode
+use Rattle.object_value.proofs.decode.Kinds as decode-kinds
+use Rattle.object_value.proofs.encode.Reads as encode
+use Rattle.object_value.proofs.encode.Kinds as encode-kinds
 use Rattle.mapping.proofs.PdoMappingEntry.from_u64.Reads as from-u64
 use Rattle.mapping.proofs.PdoMappingEntry.from_u64.Kinds as from-u64-kinds
 use Rattle.mapping.proofs.PdoMappingEntry.to_u64.Reads as to-u64

@@ -1,8 +1,5 @@
-// The 21 value types: what their bits mean, decoding and encoding.
+// The 21 value types: what their bits mean, and bytes decoded to a word and encoded from one.
 mod codec;
-mod integer;
-mod object_value;
-mod parts;
 
 use answers::Refusal;
 pub use codec::decode_word;
@@ -11,13 +8,8 @@ pub use codec::fits;
 pub use codec::is_text;
 pub use codec::is_value;
 pub use codec::size_of;
-pub use object_value::from_word;
-pub use object_value::to_word;
-pub use object_value::type_number;
-pub use parts::fields;
 ghost use mathlib.Core.Path.{_≡_};
-ghost use Rattle.value.specs.Codec.{decodeOf, encodeOf, after, refusalOf};
-ghost use Rattle.value.specs.Meaning.{typeOf, wordOf};
+ghost use Rattle.value.specs.Codec.{refusalOf};
 
 pub struct TimeOfDay {
     pub ms: u32,
@@ -99,26 +91,4 @@ pub fn refusal(f: Fault) -> Refusal
         Fault::Text => Refusal::TypeMismatch,
         Fault::Odd => Refusal::TypeMismatch,
     }
-}
-
-// The value of type t that the data begins with. Of a text, and of bytes, it is the whole data.
-pub fn decode(t: u64, data: &[u8]) -> Decoded
-    ensures { λ r. ⌜ r ≡ decodeOf t (now («data» .entry)) ⌝ }
-{
-    if 20 < t {
-        return Decoded::NoType;
-    }
-    match decode_word(t, data) {
-        Word::Takes(x) => Decoded::Value(from_word(t, x)),
-        Word::Fails(f) => Decoded::Fails(f),
-    }
-}
-
-// Lays the value's bytes over `out` from its start on. The part is the text or the bytes of a value that has a room.
-pub fn encode(v: ObjectValue, part: &[u8], out: &mut [u8]) -> Encoded
-    ensures { λ r. ⌜ after r (now (out .exit)) ≡ encodeOf (typeOf v) (wordOf v) (now (part .entry)) (now (out .entry)) ⌝ }
-{
-    let t = type_number(v);
-    let x = to_word(v);
-    encode_word(t, x, part, out)
 }

@@ -6,12 +6,12 @@ use Rattle.entry.specs.Model.{used, size}
 use Rattle.entry.specs.Table.{Dict, dict, modelOf}
 use Rattle.entry.specs.Judge.{wellFormed}
 use Rattle.entry.proofs.JudgeLaws.{sound, headed}
-use Rattle.insertion.specs.Given.{objIn, countIn, rightIn}
+use Rattle.given.specs.Given.{objIn, countIn, rightIn}
 use Rattle.insertion.specs.Replace.{RoomIn}
 use Rattle.insertion.specs.Insert.{below, taken, fitsIn}
-use Rattle.insertion.proofs.GivenLaws.{given-length, size-is}
+use Rattle.given.proofs.GivenLaws.{given-length, size-is}
 use Rattle.insertion.proofs.ReplaceLaws.{room-none, replaced-none}
-use Rattle.insertion.proofs.RightLaws.{Right, right}
+use Rattle.given.proofs.RightLaws.{Right, right}
 use Rattle.insertion.proofs.IndexLaws.{place-is, taken-is}
 use Rattle.insertion.proofs.AnswerLaws.{malformed, bad-value, occupied-by, full, done, room-is, size-some, size-none}
 use native.Mathlib.Omega.{arith}

@@ -7,7 +7,7 @@ use lib.ListN.{length}
 use Rattle.lists.specs.Lists.{over}
 use Rattle.entry.specs.Table.{Dict, dict}
 use Rattle.entry.proofs.JudgeLaws.{headed}
-use Rattle.commands.specs.Image.{recsIn, offeredFrom, offered, heads, bodies}
+use Rattle.image.specs.Image.{recsIn, offeredFrom, offered, heads, bodies}
 use Rattle.commands.specs.Save.{Row}
 use Rattle.commands.proofs.ImageLaws.{heads-none}
 use Rattle.entry.proofs.ValueLaws.{row-lies}

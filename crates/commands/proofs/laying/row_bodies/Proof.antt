@@ -7,7 +7,7 @@ use lib.ListN.{length}
 use Rattle.lists.specs.Lists.{over}
 use Rattle.entry.specs.Table.{Dict, dict, firstAt}
 use Rattle.entry.specs.Encode.{encodingAt}
-use Rattle.commands.specs.Image.{recsIn, bodies}
+use Rattle.image.specs.Image.{recsIn, bodies}
 use Rattle.commands.proofs.ImageLaws.{bodies-none}
 use Rattle.entry.proofs.ValueLaws.{row-lies}
 use Rattle.commands.proofs.OfferLaws.{recs-end, recs-all}

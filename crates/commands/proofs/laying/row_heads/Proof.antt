@@ -6,7 +6,7 @@ use denote.Ref.{now}
 use lib.ListN.{length}
 use Rattle.lists.specs.Lists.{over}
 use Rattle.entry.specs.Table.{Dict, dict}
-use Rattle.commands.specs.Image.{recsIn, heads, bodies}
+use Rattle.image.specs.Image.{recsIn, heads, bodies}
 use Rattle.commands.proofs.ImageLaws.{heads-none}
 use Rattle.entry.proofs.ValueLaws.{row-lies}
 use Rattle.commands.proofs.OfferLaws.{recs-end, recs-all}

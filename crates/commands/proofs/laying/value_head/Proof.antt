@@ -6,7 +6,7 @@ use lib.ListN.{length}
 use Rattle.lists.specs.Lists.{over}
 use Rattle.entry.specs.Table.{Dict, dict, firstAt, typeAt}
 use Rattle.entry.specs.Encode.{encodingAt}
-use Rattle.commands.specs.Image.{subIn}
+use Rattle.image.specs.Image.{subIn}
 use Rattle.entry.proofs.ValueLaws.{RowLies, row-lies}
 use Rattle.commands.proofs.WalkLaws.{value-there, value-length, one-head}
 use native.Mathlib.Omega.{arith}

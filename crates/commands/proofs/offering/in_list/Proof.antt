@@ -1,5 +1,5 @@
 -- `commands::offering::in_list` meets its contract: the test is the definition's. Assumes nothing.
-use Rattle.commands.specs.Image.{inList}
+use Rattle.image.specs.Image.{inList}
 use borrow.Author.Needs.{needs}
 use Rattle.commands.proofs.offering.in_list.Statement.{statement}
 use Rattle.commands.proofs.offering.in_list.Tie as tie

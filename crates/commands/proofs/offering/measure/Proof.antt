@@ -6,7 +6,7 @@ use denote.Ref.{now}
 use lib.ListN.{length}
 use Rattle.entry.specs.Table.{Dict, dict}
 use Rattle.entry.proofs.JudgeLaws.{headed}
-use Rattle.commands.specs.Image.{offered, bodies, recsIn}
+use Rattle.image.specs.Image.{offered, bodies, recsIn}
 use Rattle.commands.specs.Save.{Row}
 use Rattle.entry.proofs.ValueLaws.{row-lies}
 use Rattle.commands.proofs.OfferLaws.{offered-all}

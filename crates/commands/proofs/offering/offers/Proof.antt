@@ -3,7 +3,7 @@ use mathlib.Core.Path.{_≡_, sym, ap, ap₂, _∙_}
 use mathlib.Core.Bool.{_&&_}
 use denote.Ref.{now}
 use Rattle.entry.specs.Table.{indexAt, accessAt}
-use Rattle.commands.specs.Image.{inList, stores, offers}
+use Rattle.image.specs.Image.{inList, stores, offers}
 use borrow.Author.Needs.{needs}
 use Rattle.commands.proofs.offering.offers.Statement.{statement}
 use Rattle.commands.proofs.offering.offers.Tie as tie

@@ -5,7 +5,7 @@ use mathlib.Core.Path.{_≡_, ap, _∙_}
 use Prim.Native.Nat.{_+_, _-_, _*_, _≤_}
 use denote.Ref.{now}
 use lib.ListN.{length}
-use Rattle.commands.specs.Image.{recsIn, bodies}
+use Rattle.image.specs.Image.{recsIn, bodies}
 use Rattle.entry.proofs.ValueLaws.{row-lies}
 use Rattle.commands.proofs.OfferLaws.{recs-all}
 use Rattle.commands.proofs.WalkLaws.{left, left-step, left-end, value-there, value-length, value-small}

@@ -1,6 +1,6 @@
 -- `commands::offering::sub_in` meets its contract: each branch is a case of `subIn`. Assumes nothing.
 use borrow.Author.Tests.{eq-eqb, ne-eqb}
-use Rattle.commands.specs.Image.{subIn}
+use Rattle.image.specs.Image.{subIn}
 use borrow.Author.Needs.{needs}
 use Rattle.commands.proofs.offering.sub_in.Statement.{statement}
 use Rattle.commands.proofs.offering.sub_in.Tie as tie

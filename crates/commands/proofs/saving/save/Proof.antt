@@ -7,7 +7,7 @@ use Rattle.lists.specs.Lists.{over}
 use Rattle.lists.specs.Numbers.{bytesOf}
 use Rattle.entry.specs.Table.{Dict, dict}
 use Rattle.commands.specs.declared.Saved.the-variants.{Done}
-use Rattle.commands.specs.Image.{offered, heads, bodies, imageOf}
+use Rattle.image.specs.Image.{offered, heads, bodies, imageOf}
 use Rattle.commands.specs.Save.{after}
 use Rattle.commands.proofs.ImageLaws.{image-laid, length-image}
 use Rattle.commands.proofs.SaveLaws.{many-records, many-bytes, short-store, it-fits, save-full, save-done}

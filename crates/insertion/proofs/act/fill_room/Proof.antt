@@ -1,7 +1,7 @@
 -- `insertion::act::fill_room` meets its contract. Assumes nothing.
 use mathlib.Core.Path.{_≡_, _∙_}
 use Prim.Native.Nat.{_-_, _+_}
-use Rattle.insertion.proofs.GivenLaws.{room-laid}
+use Rattle.given.proofs.GivenLaws.{room-laid}
 use native.Mathlib.Omega.{arith}
 use borrow.Author.Needs.{needs}
 use Rattle.insertion.proofs.act.fill_room.Statement.{statement}

@@ -4,9 +4,8 @@ use Prim.Native.Nat.{_≤_, _-_, _+_}
 use lib.ListN.{length}
 use Rattle.lists.specs.Lists.{over}
 use Rattle.entry.specs.Model.{rooms}
-use Rattle.insertion.specs.Given.{given, roomsIn, lengthsIn, roomIn, lengthIn}
-use Rattle.insertion.specs.Insert.{heldIn}
-use Rattle.insertion.proofs.GivenLaws.{rooms-more, lengths-more, rooms-laid, none-left, length-rooms, rooms-none, held-few}
+use Rattle.given.specs.Given.{given, roomsIn, lengthsIn, roomIn, lengthIn, heldIn}
+use Rattle.given.proofs.GivenLaws.{rooms-more, lengths-more, rooms-laid, none-left, length-rooms, rooms-none, held-few}
 use native.Mathlib.Omega.{arith}
 use borrow.Author.Needs.{needs}
 use Rattle.insertion.proofs.act.fill_rooms.Statement.{statement}

@@ -6,8 +6,8 @@ use Prim.Native.Nat.{_≤_, _-_, _+_, _*_}
 use lib.ListN.{length}
 use native.Mathlib.Nat.{add-zero}
 use Rattle.lists.specs.Lists.{over}
-use Rattle.insertion.specs.Given.{roomsIn, slotsIn, roomIn}
-use Rattle.insertion.proofs.GivenLaws.{rooms-more, slots-more, none-left, length-slotsIn}
+use Rattle.given.specs.Given.{roomsIn, slotsIn, roomIn}
+use Rattle.given.proofs.GivenLaws.{rooms-more, slots-more, none-left, length-slotsIn}
 use Rattle.insertion.proofs.act.fill_slots.Statement.{statement}
 use Rattle.insertion.proofs.act.fill_slots.Tie as tie
 

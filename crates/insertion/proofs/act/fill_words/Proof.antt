@@ -6,8 +6,8 @@ use native.Mathlib.Nat.{add-zero}
 use Rattle.lists.specs.Lists.{over}
 use Rattle.entry.specs.Model.{wordsOf}
 use Rattle.entry.proofs.ModelLaws.{length-wordsOf}
-use Rattle.insertion.specs.Given.{given, lengthsIn}
-use Rattle.insertion.proofs.GivenLaws.{words-more, lengths-more, none-left, given-length}
+use Rattle.given.specs.Given.{given, lengthsIn}
+use Rattle.given.proofs.GivenLaws.{words-more, lengths-more, none-left, given-length}
 use native.Mathlib.Omega.{arith}
 use borrow.Author.Needs.{needs}
 use Rattle.insertion.proofs.act.fill_words.Statement.{statement}

@@ -2,7 +2,7 @@
 use mathlib.Core.Path.{_∙_}
 use Prim.Native.Nat.{_≤_}
 use Rattle.entry.specs.Table.{Dict, dict, modelOf, valuesOf, usedOf, before}
-use Rattle.insertion.specs.Given.{countIn}
+use Rattle.given.specs.Given.{countIn}
 use Rattle.insertion.proofs.ActLaws.{values-before, bytes-before, first-small, name-small, start-small, Read, words-read, bytes-read, slots-read, objects-read, dict-is}
 use native.Mathlib.Omega.{arith}
 use borrow.Author.Needs.{needs}

@@ -8,8 +8,8 @@ use Rattle.lists.specs.Lists.{over}
 use Rattle.lists.proofs.ListLaws.{over-over, length-over}
 use Rattle.lists.proofs.SpliceLaws.{fill-gap}
 use Rattle.entry.specs.Model.{rooms}
-use Rattle.insertion.specs.Given.{given}
-use Rattle.insertion.proofs.GivenLaws.{length-rooms}
+use Rattle.given.specs.Given.{given}
+use Rattle.given.proofs.GivenLaws.{length-rooms}
 use native.Mathlib.Omega.{arith}
 use borrow.Author.Needs.{needs}
 use Rattle.insertion.proofs.act.insert_bytes.Statement.{statement}

@@ -7,8 +7,8 @@ use lib.ListN.{length}
 use Rattle.lists.proofs.SpliceLaws.{fill-gap, length-grown}
 use Rattle.entry.specs.Table.{slotPlace, startPlace}
 use Rattle.rows.specs.Rows.{startsGrown}
-use Rattle.insertion.specs.Given.{slotsIn}
-use Rattle.insertion.proofs.GivenLaws.{length-slotsIn}
+use Rattle.given.specs.Given.{slotsIn}
+use Rattle.given.proofs.GivenLaws.{length-slotsIn}
 use Rattle.insertion.proofs.act.insert_slots.Statement.{statement}
 use Rattle.insertion.proofs.act.insert_slots.Tie as tie
 

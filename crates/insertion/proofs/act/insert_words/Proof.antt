@@ -3,8 +3,8 @@ use mathlib.Core.Path.{_∙_}
 use Rattle.lists.proofs.SpliceLaws.{fill-gap}
 use Rattle.entry.specs.Model.{wordsOf}
 use Rattle.entry.proofs.ModelLaws.{length-wordsOf}
-use Rattle.insertion.specs.Given.{given}
-use Rattle.insertion.proofs.GivenLaws.{given-length}
+use Rattle.given.specs.Given.{given}
+use Rattle.given.proofs.GivenLaws.{given-length}
 use borrow.Author.Needs.{needs}
 use Rattle.insertion.proofs.act.insert_words.Statement.{statement}
 use Rattle.insertion.proofs.act.insert_words.Tie as tie

@@ -2,7 +2,7 @@
 use mathlib.Core.Path.{_≡_}
 use Prim.Native.Nat.{_+_, _-_, _*_}
 use denote.Ref.{now}
-use Rattle.commands.specs.Readable.{sizeAt}
+use Rattle.image.specs.Readable.{sizeAt}
 use native.Mathlib.Omega.{arith}
 use borrow.Author.Needs.{needs}
 use Rattle.restoring.proofs.acting.put_stored.Statement.{statement}

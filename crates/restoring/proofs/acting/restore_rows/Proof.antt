@@ -10,7 +10,8 @@ use Rattle.lists.specs.Numbers.{Bytes}
 use Rattle.entry.specs.Table.{Dict, dict, numberOf, indexAt, countAt}
 use Rattle.entry.proofs.JudgeLaws.{headed}
 use Rattle.entry.proofs.ValueLaws.{row-lies}
-use Rattle.restoring.specs.Restore.{valuesRestored, inRange, rowsFit, rowsRestored}
+use Rattle.fitting.specs.Fit.{inRange, rowsFit}
+use Rattle.restoring.specs.Restore.{valuesRestored, rowsRestored}
 use Rattle.restoring.proofs.RestoreLaws.{OnRows, rowRestored}
 use Rattle.restoring.proofs.WalkLaws.{row-of, row-on, row-put, rows-put-end}
 use native.Mathlib.Omega.{arith}

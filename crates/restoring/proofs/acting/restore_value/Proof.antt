@@ -7,10 +7,12 @@ use denote.Ref.{now}
 use Rattle.entry.specs.Table.{Dict, dict}
 use Rattle.entry.specs.Put.{Contents, contents}
 use Rattle.entry.proofs.ValueLaws.{ValueFacts, row-lies}
-use Rattle.restoring.specs.Restore.{slotIn, chosenAt, fitsRoom, restoredBy}
-use Rattle.restoring.specs.declared.Choice.{Choice}
-use Rattle.restoring.proofs.ChoiceLaws.{chosen-stored, chosen-default}
-use Rattle.restoring.proofs.TurnLaws.{facts, default-slot, stored-fits, puts-new, copies}
+use Rattle.fitting.specs.Fit.{slotIn, chosenAt, fitsRoom}
+use Rattle.restoring.specs.Restore.{restoredBy}
+use Rattle.fitting.specs.declared.Choice.{Choice}
+use Rattle.fitting.proofs.ChoiceLaws.{chosen-stored, chosen-default}
+use Rattle.fitting.proofs.SlotLaws.{facts, default-slot}
+use Rattle.restoring.proofs.TurnLaws.{stored-fits, puts-new, copies}
 use native.Mathlib.Omega.{arith}
 use borrow.Author.Needs.{needs}
 use Rattle.restoring.proofs.acting.restore_value.Statement.{statement}

@@ -6,7 +6,8 @@ use lib.ListN.{length}
 use Rattle.lists.specs.Numbers.{Bytes}
 use Rattle.entry.specs.Table.{Dict, dict}
 use Rattle.entry.proofs.ValueLaws.{row-lies}
-use Rattle.restoring.specs.Restore.{valuesFit, valuesRestored}
+use Rattle.fitting.specs.Fit.{valuesFit}
+use Rattle.restoring.specs.Restore.{valuesRestored}
 use Rattle.restoring.proofs.RestoreLaws.{On}
 use Rattle.restoring.proofs.WalkLaws.{first-of, turn-on, turn-put, put-end}
 use native.Mathlib.Omega.{arith}

@@ -5,7 +5,8 @@ use denote.Ref.{now}
 use borrow.Author.Tests.{not-true, not-false}
 use Rattle.entry.specs.Table.{Dict, dict, numberOf}
 use Rattle.entry.specs.Judge.{wellFormed}
-use Rattle.restoring.specs.Restore.{rowsFit, after, restoreOf}
+use Rattle.fitting.specs.Fit.{rowsFit}
+use Rattle.restoring.specs.Restore.{after, restoreOf}
 use Rattle.restoring.specs.declared.Restored.the-variants.{Done}
 use borrow.Author.Needs.{needs}
 use Rattle.restoring.proofs.restore.restore_power_on_values.Statement.{statement}

@@ -1,0 +1,5 @@
+pub mod RecordLaws
+pub mod RisingLaws
+pub mod ChoiceLaws
+pub mod SlotLaws
+pub mod WalkLaws

@@ -1,0 +1,139 @@
+// Judging what an insertion is given.
+ghost use mathlib.Core.Path.{_≡_};
+ghost use mathlib.Core.Bool.{true, false};
+ghost use Prim.Native.Nat.{_+_, _*_, _<_, _≤_};
+ghost use lib.ListN.{length, take, drop};
+ghost use Rattle.value.specs.Codec.{isText};
+ghost use Rattle.given.specs.Given.{typeIn, roomIn, lengthIn, valueOk, valsIn, sizeIn};
+use value::Word;
+
+// What an insertion is given beside its name and its values. With a default (1, else 0) the last of the values is the default.
+pub struct Head {
+    pub index: u16,
+    pub kind: u64,
+    pub access: u64,
+    pub default: u64,
+}
+
+// The bytes that a given object takes, or that it is none.
+pub enum Size {
+    Upto(usize),
+    Bad,
+}
+
+// Value j as it is described.
+pub fn type_in(vals: &[u64], j: usize) -> u64
+    requires { ⌜ (j < 255) × (3 * j + 3 ≤ length (now vals)) ⌝ }
+    ensures { λ r. ⌜ r ≡ typeIn (now (vals .entry)) j ⌝ }
+{
+    vals[3 * j]
+}
+
+pub fn room_in(vals: &[u64], j: usize) -> u64
+    requires { ⌜ (j < 255) × (3 * j + 3 ≤ length (now vals)) ⌝ }
+    ensures { λ r. ⌜ r ≡ roomIn (now (vals .entry)) j ⌝ }
+{
+    vals[3 * j + 1]
+}
+
+pub fn length_in(vals: &[u64], j: usize) -> u64
+    requires { ⌜ (j < 255) × (3 * j + 3 ≤ length (now vals)) ⌝ }
+    ensures { λ r. ⌜ r ≡ lengthIn (now (vals .entry)) j ⌝ }
+{
+    vals[3 * j + 2]
+}
+
+// A string of type t: within its room, and good over its length. As the default it has just its bytes.
+fn string_ok(element: bool, t: u64, room: u64, s: &[u8], start: usize, len: usize) -> bool
+    requires { ⌜ (start + len ≤ length (now s)) × (isText t ≡ true) × (room ≤ 1490) ⌝ }
+    ensures { λ r. ⌜ r ≡ valueOk element t room (take len (drop start (now (s .entry)))) ⌝ }
+{
+    let end = start + len;
+    if room < len as u64 {
+        return false;
+    }
+    let Word::Takes(_) = value::decode_word(t, &s[start..end]) else {
+        return false;
+    };
+    element | (room == len as u64)
+}
+
+fn value_ok(element: bool, t: u64, room: u64, s: &[u8], start: usize, len: usize) -> bool
+    requires { ⌜ start + len ≤ length (now s) ⌝ }
+    ensures { λ r. ⌜ r ≡ valueOk element t room (take len (drop start (now (s .entry)))) ⌝ }
+{
+    if 20 < t {
+        return false;
+    }
+    if 1490 < room {
+        return false;
+    }
+    if value::is_text(t) {
+        return string_ok(element, t, room, s, start, len);
+    }
+    let n = value::size_of(t);
+    if len != n {
+        return false;
+    }
+    element | (room == 0)
+}
+
+fn vals_in(vals: &[u64], encodings: &[u8], count: usize, u: usize, g: usize) -> Size
+    requires { ⌜ (u ≤ 255) × (3 * u ≤ length (now vals)) × (g ≤ 32) ⌝ }
+    ensures { λ r. ⌜ r ≡ valsIn (now (vals .entry)) (now (encodings .entry)) count u 0 0 g ⌝ }
+{
+    let mut j = 0;
+    let mut t = 0;
+    let mut size = g;
+    while j < u {
+        let kind = type_in(vals, j);
+        let room = room_in(vals, j);
+        let len = length_in(vals, j) as usize;
+        let left = encodings.len() - t;
+        if left < len {
+            return Size::Bad;
+        }
+        if !value_ok(j < count, kind, room, encodings, t, len) {
+            return Size::Bad;
+        }
+        t += len;
+        size += room as usize;
+        j += 1;
+    }
+    if t == encodings.len() {
+        return Size::Upto(size);
+    }
+    Size::Bad
+}
+
+// The bytes that the object takes, where its description adds up and it keeps the rules.
+pub fn size_in(head: Head, name: &[u8], vals: &[u64], encodings: &[u8]) -> Size
+    ensures { λ r. ⌜ r ≡ sizeIn head (now (name .entry)) (now (vals .entry)) (now (encodings .entry)) ⌝ }
+{
+    let u = vals.len() / 3;
+    let flag = head.default as usize;
+    let m = 3 * u;
+    if m != vals.len() {
+        return Size::Bad;
+    }
+    if u < flag {
+        return Size::Bad;
+    }
+    let index = head.index as u64;
+    let count = (u - flag) as u64;
+    let len = name.len();
+    if !judge::head_ok(
+        index,
+        head.kind,
+        head.access,
+        count,
+        head.default,
+        len as u64,
+    ) {
+        return Size::Bad;
+    }
+    if !judge::is_good(name, 0, len) {
+        return Size::Bad;
+    }
+    vals_in(vals, encodings, u - flag, u, len)
+}

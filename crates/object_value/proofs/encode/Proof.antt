@@ -1,0 +1,31 @@
+-- `object_value::encode` meets its contract: the value is its type's number and its word. Assumes nothing.
+use mathlib.Core.Path.{ap₂, _∙_}
+use denote.Ref.{now}
+use Rattle.value.specs.Codec.{encodeOf}
+use borrow.Author.Needs.{needs}
+use Rattle.object_value.proofs.encode.Statement.{statement}
+use Rattle.object_value.proofs.encode.Tie as tie
+
+type-number-requires : tie.Need-type-number-requires
+type-number-requires c κs = search needs
+
+to-word-requires : tie.Need-to-word-requires
+to-word-requires c κs = search needs
+
+encode-word-requires : tie.Need-encode-word-requires
+encode-word-requires c κs = search needs
+
+same-length : tie.Need-same-length
+same-length c = search needs
+
+returns : tie.Need-returns
+returns c =
+    let e = c .before .before in
+    let w = e .before .before in
+    let a = w .before .before .before .before .args in
+    e .encode-word .ensures ∙ ap₂ (λ t x. encodeOf t x (now (a .part)) (now (a .out))) (w .before .type-number .ensures) (w .to-word .ensures)
+
+pub encode-spec : {M : Type 1} → statement M
+encode-spec =
+    tie.close
+    (tie.spec type-number-requires to-word-requires encode-word-requires same-length returns)
