@@ -20,10 +20,10 @@ use Rattle.entry.proofs.FindLaws.{value-there}
 use Rattle.entry.proofs.JudgeLaws.{length-vals}
 use Rattle.entry.proofs.LookupLaws.{lookup-object}
 use Rattle.entry.proofs.ValueLaws.{found-lies, value-facts}
-use Rattle.insertion.specs.declared.Head.{Head}
+use Rattle.given.specs.declared.Head.{Head}
 use Rattle.insertion.specs.declared.Inserted.{Inserted}
 use Rattle.insertion.specs.declared.Inserted.the-variants.{Done, Refused}
-use Rattle.insertion.specs.Given.{objIn}
+use Rattle.given.specs.Given.{objIn}
 use Rattle.insertion.specs.Insert.{inserted, below, taken, answerOf, after, memoryOf}
 use Rattle.insertion.proofs.AnswerLaws.{done-by, stays, others-stay}
 use Rattle.demand.specs.Lasting.{SameRow, Shaped}

@@ -3,18 +3,21 @@ use Prim.Native.Nat.{ℕ}
 use mathlib.Core.Path.{_≡_, refl}
 use mathlib.Core.Bool.{true}
 use mathlib.Core.List.{List, [], _∷_}
-use Rattle.lists.specs.Numbers.{number}
+use Rattle.lists.specs.Numbers.{number, bytesOf}
 use Rattle.lists.specs.Lists.{over}
 use Rattle.text.specs.Machine.{judgeAt}
 use Rattle.mapping.specs.Word.{entryOf, fieldOf}
-use Rattle.value.specs.Codec.{sizeOf, wordAt, textWord}
+use Rattle.value.specs.Codec.{sizeOf, wordAt, textWord, encoding}
 use Rattle.entry.specs.Model.{Val, Obj, allObjects, allSlots, allWords, allBytes, rowsOf, slotsOf, wordsOf, rooms}
 use Rattle.entry.specs.Table.{Dict, dict}
 use Rattle.entry.specs.Rules.{wordOk, valOk, heldOk, headOk}
 use Rattle.entry.specs.Judge.{slotOk, slotsFrom, rowReserved, rowOk, rowFits, rowsFrom, reserved, headerOk, wellFormed}
 use Rattle.entry.specs.Find.{findFrom, subAt}
 use Rattle.entry.specs.Put.{contents, filled, putIn}
-use Rattle.restoring.specs.Restore.{restoreOf}
+use Rattle.image.specs.Readable.{readable}
+use Rattle.fitting.specs.Records.{recordFrom}
+use Rattle.fitting.specs.Fit.{chosenAt, fitsRoom, valuesFit, rowsFit}
+use Rattle.restoring.specs.Restore.{restoredBy, valuesRestored, rowsRestored, restoreOf}
 use Rattle.pdo_validator.specs.Counting.{endsFrom}
 use Rattle.pdo_step.specs.Outcomes.{outcomeOf, onIndex, onCount}
 use Rattle.pdo_step.specs.Steps.{applied}
@@ -44,7 +47,7 @@ mapped = rig (value 8 0x0010000000006000 ∷ [])
 
 -- the restore puts the default, an Unsigned32, so two bytes are no longer its length
 pub restored : (checkOf mapped 0 ≡ Pass) × (checkOf (restoreOf mapped [] 0x6000 0x6000 .memory) 0 ≡ Element 1 WrongLength)
-unfolding checkOf wellFormed headerOk reserved rowsFrom rowFits rowOk rowReserved slotsFrom slotOk headOk heldOk valOk wordOk textWord judgeAt channelFrom faultFrom wordVerdict endsFrom entryOf fieldOf findFrom subAt sizeOf allSlots allWords allBytes rowsOf slotsOf wordsOf rooms restoreOf
+unfolding checkOf wellFormed headerOk reserved rowsFrom rowFits rowOk rowReserved slotsFrom slotOk headOk heldOk valOk wordOk textWord judgeAt channelFrom faultFrom wordVerdict endsFrom entryOf fieldOf findFrom subAt sizeOf allSlots allWords allBytes rowsOf slotsOf wordsOf rooms restoreOf rowsFit valuesFit fitsRoom chosenAt recordFrom readable rowsRestored valuesRestored restoredBy putIn number encoding bytesOf
 restored = (refl, refl)
 
 -- eight bytes onto the list's own element 2, which maps two bytes onto 6000h

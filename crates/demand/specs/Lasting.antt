@@ -8,7 +8,7 @@ use Rattle.entry.specs.Table.{Dict, kindAt, countAt, firstAt, typeAt, roomAt}
 use Rattle.entry.specs.Find.{findRow}
 use Rattle.entry.specs.Put.{contents, filled}
 use Rattle.entry.specs.declared.Found.the-variants.{At}
-use Rattle.insertion.specs.declared.Head.{Head}
+use Rattle.given.specs.declared.Head.{Head}
 use Rattle.insertion.specs.Insert.{memoryOf}
 use Rattle.counter.specs.Counter.{counterOf}
 use Rattle.writing.specs.Writing.{writeOf}

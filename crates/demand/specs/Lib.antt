@@ -1,3 +1,3 @@
 pub mod Demand
 pub mod Lasting
-pub mod Cases
+pub mod Ends

@@ -1,4 +1,4 @@
--- What the channel check answers for C: RULES.md R12.12 and R12.13. Assumes nothing.
+-- What the channel check answers for C: RULES.md R12.12, R12.13 and R12.15. Assumes nothing.
 use Prim.Native.Nat.{ℕ}
 use mathlib.Core.List.{List}
 use Rattle.answers.specs.Numbers.{numberOf}
@@ -6,9 +6,11 @@ use Rattle.channel.specs.declared.Checked.{Checked}
 use Rattle.channel.specs.declared.Checked.the-variants as checked
 use Rattle.channel.specs.declared.CheckedAll.{CheckedAll}
 use Rattle.channel.specs.declared.CheckedAll.the-variants as all
-use Rattle.channel.specs.Numbers.{answerNumber, elementOf}
+use Rattle.channel.specs.declared.Explained.{Explained}
+use Rattle.channel.specs.declared.Explained.the-variants as explained
+use Rattle.channel.specs.Numbers.{answerNumber, elementOf, explainedNumbers}
 use Rattle.channel.specs.All.{After}
-use Rattle.loomfinch.specs.C.{Written, wrote}
+use Rattle.loomfinch.specs.C.{Lent, lent, results, Written, wrote}
 use Rattle.loomfinch.specs.Dictionary.{Told, told}
 
 -- R12.12: "The element goes into a lent number, which Malformed leaves."
@@ -30,3 +32,10 @@ allNumbers (all.Refused r) out m = wrote (numberOf r) out m
 
 unfoldable pub checkAllNumbers : After → ℕ → Written
 checkAllNumbers a m = allNumbers (a .answer) (a .out) m
+
+-- R12.15: "Done: eleven numbers .. fewer than 11 numbers: BufferTooShort (12)"
+unfoldable pub explainNumbers : Explained → List ℕ → Lent
+explainNumbers (explained.Other t) ns = results (explainedNumbers (explained.Other t)) ns
+explainNumbers (explained.Misaligned x sub offset len t) ns = results (explainedNumbers (explained.Misaligned x sub offset len t)) ns
+explainNumbers (explained.Field x sub start n t) ns = results (explainedNumbers (explained.Field x sub start n t)) ns
+explainNumbers (explained.Refused r) ns = lent (numberOf r) ns

@@ -3,11 +3,13 @@ ghost use mathlib.Core.Path.{_≡_};
 ghost use Rattle.entry.specs.Table.{dict};
 ghost use Rattle.channel.specs.All.{checkAllOf};
 ghost use Rattle.channel.specs.Check.{checkOf};
-ghost use Rattle.loomfinch.specs.C.{wrote};
+ghost use Rattle.channel.specs.Explain.{explainOf};
+ghost use Rattle.loomfinch.specs.C.{lent, wrote};
 ghost use Rattle.loomfinch.specs.Dictionary.{told};
-ghost use Rattle.loomfinch.specs.Checking.{checkedElement, checkedTold, checkAllNumbers};
+ghost use Rattle.loomfinch.specs.Checking.{checkedElement, checkedTold, checkAllNumbers, explainNumbers};
 use channel::Checked;
 use channel::CheckedAll;
+use channel::Explained;
 
 // The element that an answer names; a refusal leaves what was lent.
 fn element_of(a: Checked, lent: u64) -> u64
@@ -60,4 +62,28 @@ pub extern "C" fn loomfinch_check_all(
         }
         CheckedAll::Refused(r) => answers::number(r),
     }
+}
+
+#[no_mangle]
+pub extern "C" fn loomfinch_explain(
+    objects: &[u64],
+    slots: &[u64],
+    words: &[u64],
+    bytes: &[u8],
+    channel: u8,
+    element: u8,
+    numbers: &mut [u64],
+) -> u64
+    ensures { λ r. ⌜ lent r (now (numbers .exit)) ≡ explainNumbers (explainOf (dict (now (objects .entry)) (now (slots .entry)) (now (words .entry)) (now (bytes .entry))) channel element) (now (numbers .entry)) ⌝ }
+{
+    let e = channel::explain(objects, slots, words, bytes, channel, element);
+    if let Explained::Refused(r) = e {
+        return answers::number(r);
+    }
+    if numbers.len() < 11 {
+        return 12;
+    }
+    let all = channel::explained_numbers(e);
+    lists::lay_words(numbers, 0, &all);
+    0
 }

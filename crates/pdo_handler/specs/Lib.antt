@@ -1,3 +1,2 @@
 pub mod Consume
-pub mod Cases
 pub mod Errors

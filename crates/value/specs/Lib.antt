@@ -1,4 +1,3 @@
 pub mod Meaning
 pub mod Codec
 pub mod Range
-pub mod Cases
