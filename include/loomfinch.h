@@ -41,7 +41,8 @@ enum {
     LOOMFINCH_DECODE_NUMBERS = 7,
     LOOMFINCH_FROM_U64_NUMBERS = 9,
     LOOMFINCH_READ_NUMBERS = 3,
-    LOOMFINCH_CHECK_ALL_NUMBERS = 768
+    LOOMFINCH_CHECK_ALL_NUMBERS = 768,
+    LOOMFINCH_EXPLAIN_NUMBERS = 11
 };
 
 /* What a dictionary of n objects with v values and defaults and b bytes of names, rooms and defaults takes. */
@@ -251,6 +252,19 @@ uint64_t loomfinch_check(const uint64_t *objects, size_t objects_len, const uint
 uint64_t loomfinch_check_all(const uint64_t *objects, size_t objects_len, const uint64_t *slots, size_t slots_len,
                              const uint64_t *words, size_t words_len, const uint8_t *bytes, size_t bytes_len,
                              uint64_t *numbers, size_t numbers_len, uint64_t *count);
+
+/* What there is at an element's index and sub-index. */
+enum { LOOMFINCH_NO_OBJECT = 0, LOOMFINCH_NO_SUB_OBJECT = 1, LOOMFINCH_A_COUNT = 2, LOOMFINCH_A_VALUE = 3 };
+
+/* Explains an element, from 1, of the list 1600h+channel: what it maps, and onto what. Answers 1; 3 where 1600h+channel is no list; 4
+ * for no such element; 12 for fewer than 11 numbers; in this order.
+ * Done: numbers[0] is what loomfinch_check says of the element by itself, 0 or 33 to 38; [1] the element's type, and where that is not 8
+ * the rest is 0; [2] the index, [3] the sub-index, [4] the offset and [5] the length in bits; [6] the offset and [7] the length in bytes,
+ * both 0 where one is not whole bytes; [8] what is there; [9] its type and [10] how many bytes it holds: its type's size, or a string's
+ * room; 0 where nothing is there. Numbers behind stay. */
+uint64_t loomfinch_explain(const uint64_t *objects, size_t objects_len, const uint64_t *slots, size_t slots_len,
+                           const uint64_t *words, size_t words_len, const uint8_t *bytes, size_t bytes_len, uint8_t channel,
+                           uint8_t element, uint64_t *numbers, size_t numbers_len);
 
 #ifdef __cplusplus
 }

@@ -6,27 +6,10 @@ use crate::hex::number;
 use crate::history::answer_is;
 use crate::history::index_at;
 use crate::history::sub_at;
+use crate::memory::are;
 use crate::memory::numbers;
 use loomfinch::Consumed;
 use loomfinch::Cycle;
-
-// Are the first n numbers of the log those that start at `at`, and all behind them 0?
-fn events_are(s: &[u8], at: usize, log: &[u64], n: usize) -> bool {
-    let mut p = at;
-    let mut i = 0;
-    while i < log.len() {
-        let mut expected = 0;
-        if i < n {
-            expected = number(s, p);
-        }
-        if log[i] != expected {
-            return false;
-        }
-        p = next(s, p);
-        i += 1;
-    }
-    n <= log.len()
-}
 
 // All of the log is lent; the sender starts at `at`.
 fn consume_is(
@@ -63,9 +46,9 @@ fn consume_is(
     ) {
         Consumed::Done(m) => {
             let count = next(s, answer);
-            (expected == 0) & (m as u64 == number(s, count)) & events_are(s, next(s, count), log, m)
+            (expected == 0) & (m as u64 == number(s, count)) & are(s, next(s, count), log, m)
         }
-        Consumed::Refused(r) => (expected == answers::number(r)) & events_are(s, answer, log, 0),
+        Consumed::Refused(r) => (expected == answers::number(r)) & are(s, answer, log, 0),
     }
 }
 
@@ -128,9 +111,9 @@ fn cycle_is(
             (expected == 0)
                 & (consumed as u64 == number(s, consumed_at))
                 & (events as u64 == number(s, events_at))
-                & events_are(s, next(s, events_at), log, events)
+                & are(s, next(s, events_at), log, events)
         }
-        Cycle::Refused(r) => (expected == answers::number(r)) & events_are(s, at, log, 0),
+        Cycle::Refused(r) => (expected == answers::number(r)) & are(s, at, log, 0),
     }
 }
 

@@ -15,10 +15,16 @@
 //                                                          COUNT of them, are numbers with spaces between them
 //   Y ROOM DATA COUNT NUMBERS ANSWER [CONSUMED COUNT EVENTS]
 //                                                          consuming a cycle; COUNT numbers say its payloads, five each
+//   K CHANNEL ANSWER [ELEMENT]                             the check of a channel
+//   L ROOM ANSWER [COUNT NUMBERS]                          the check of all channels, into ROOM numbers
+//   X CHANNEL ELEMENT ANSWER [NUMBERS]                     explaining an element, in eleven numbers
 //   B INDEX NODE ANSWER                                    setting a node's bit in the error object at an index
 //   D SLICE PLACE VALUE                                    damage: sets an element of slice 0 to 3, or of the store, 4
 //   S SUM                                                  the sum over the dictionary
 //   T SUM                                                  the sum over the dictionary and the store
+use crate::checking::channel_line;
+use crate::checking::channels_line;
+use crate::checking::element_line;
 use crate::consuming::bit_line;
 use crate::consuming::consume_line;
 use crate::consuming::cycle_line;
@@ -313,6 +319,9 @@ pub fn holds(
         b'O' => restore_line(s, first, objects, slots, words, arena, store),
         b'A' => consume_line(s, first, objects, slots, words, arena),
         b'Y' => cycle_line(s, first, objects, slots, words, arena),
+        b'K' => channel_line(s, first, objects, slots, words, arena),
+        b'L' => channels_line(s, first, objects, slots, words, arena),
+        b'X' => element_line(s, first, objects, slots, words, arena),
         b'B' => bit_line(s, first, objects, slots, words, arena),
         b'D' => damage_line(s, first, objects, slots, words, arena, store),
         b'S' => sum(objects, slots, words, arena) == number(s, first),

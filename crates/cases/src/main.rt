@@ -1,7 +1,8 @@
 // Runs every table and writes how many lines were run, a space, how many differ, and a newline.
-// The tables are lines (see `lines` and `history`): our own, and those with the Rust's answers in four files, which the oracle made:
+// The tables are lines (see `lines` and `history`): our own, and those with the Rust's answers in five files, which the oracle made:
 // rust.txt is what oracle/run --sample prints, histories.txt what oracle/run --histories prints, stores.txt what oracle/run --stores
-// prints, payloads.txt what oracle/run --payloads prints.
+// prints, payloads.txt what oracle/run --payloads prints, checks.txt what oracle/run --checks prints.
+mod checking;
 mod consuming;
 mod hex;
 mod histories;
@@ -42,10 +43,12 @@ fn main() {
     let inserted = histories::inserting(read);
     let counted = histories::counting(inserted);
     let damaged = histories::damaged(counted);
-    let sampled = stored(b"rust.txt", false, damaged);
+    let explained = histories::explaining(damaged);
+    let sampled = stored(b"rust.txt", false, explained);
     let told = stored(b"histories.txt", true, sampled);
     let kept = stored(b"stores.txt", true, told);
-    let all = stored(b"payloads.txt", true, kept);
+    let consumed = stored(b"payloads.txt", true, kept);
+    let all = stored(b"checks.txt", true, consumed);
     io::print_decimal(1, all.run);
     io::write_all(1, b" ");
     io::print_decimal(1, all.differ);

@@ -3,6 +3,8 @@ ghost use mathlib.Core.Path.{_≡_};
 ghost use Prim.Native.Nat.{_≤_};
 ghost use lib.ListN.{length};
 ghost use Rattle.io.specs.Counts.{Counts};
+use crate::hex::next;
+use crate::hex::number;
 
 pub fn numbers() -> [u64; 1024]
     ensures { λ r. ⌜ 1024 ≡ length r ⌝ }
@@ -73,4 +75,22 @@ pub fn sum_of_bytes(xs: &[u8], before: u64) -> u64 {
         i += 1;
     }
     sum
+}
+
+// Are the first n of the numbers those that start at `at`, and all behind them 0?
+pub fn are(s: &[u8], at: usize, all: &[u64], n: usize) -> bool {
+    let mut p = at;
+    let mut i = 0;
+    while i < all.len() {
+        let mut expected = 0;
+        if i < n {
+            expected = number(s, p);
+        }
+        if all[i] != expected {
+            return false;
+        }
+        p = next(s, p);
+        i += 1;
+    }
+    n <= all.len()
 }

@@ -1,7 +1,9 @@
 // A dictionary of three objects: the record of channel 0, its list of one word, and the object that the word maps.
 use crate::words::answer;
+use crate::words::explanation;
 use crate::words::number;
 use crate::words::say;
+use loomfinch::Checked;
 use loomfinch::Consumed;
 use loomfinch::Event;
 use loomfinch::EventRecord;
@@ -96,6 +98,16 @@ fn stored(objects: &[u64], slots: &[u64], words: &[u64], bytes: &[u8]) {
     }
 }
 
+// The check's answer, and what the element that it names maps.
+fn check(objects: &[u64], slots: &[u64], words: &[u64], bytes: &[u8]) {
+    let a = loomfinch::check(objects, slots, words, bytes, 0);
+    answer(a);
+    if let Checked::Element { element, fault: _ } = a {
+        let element = (element % 256) as u8;
+        explanation(loomfinch::explain(objects, slots, words, bytes, 0, element));
+    }
+}
+
 pub fn show(word: u64, payload: &[u8], time: u64) {
     let mut objects = [0u64; 48];
     let mut slots = [0u64; 12];
@@ -105,7 +117,7 @@ pub fn show(word: u64, payload: &[u8], time: u64) {
     channel_0(&mut objects, &mut slots, &mut words, &mut bytes);
     mapping(&mut objects, &mut slots, &mut words, &mut bytes, word);
     ramp_time(&mut objects, &mut slots, &mut words, &mut bytes);
-    answer(loomfinch::check(&objects, &slots, &words, &bytes, 0));
+    check(&objects, &slots, &words, &bytes);
     say(b"  consumed: ");
     number(time);
     say(b" ms, ");

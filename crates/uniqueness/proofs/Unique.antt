@@ -63,6 +63,8 @@ use Rattle.channel.proofs.check.Reads as check
 use Rattle.channel.proofs.check.Kinds as check-kinds
 use Rattle.channel.proofs.check_all.Reads as check-all
 use Rattle.channel.proofs.check_all.Kinds as check-all-kinds
+use Rattle.channel.proofs.explain.Reads as explain
+use Rattle.channel.proofs.explain.Kinds as explain-kinds
 use Rattle.events.proofs.event_record.Reads as event-record
 use Rattle.events.proofs.event_record.Kinds as event-record-kinds
 use Rattle.pdo_cycle.proofs.consume_cycle.Reads as consume-cycle
@@ -162,6 +164,9 @@ check-unique κs a z₁ z₂ w₁ w₂ p q = (p ∙ sym q, refl)
 
 pub check-all-unique : Unique 5 check-all-kinds.ps check-all-kinds.r check-all.Post
 check-all-unique κs a z₁ z₂ w₁ w₂ p q = both (λ (x : Checking). x .answer) (λ x. (tt, (tt, (tt, (tt, (x .out, tt)))))) p q
+
+pub explain-unique : Unique 4 explain-kinds.ps explain-kinds.r explain.Post
+explain-unique κs a z₁ z₂ w₁ w₂ p q = (p ∙ sym q, refl)
 
 -- `consume_pdo_payload` and `consume_by_value`: who lends a slice of records is proved by hand, so this is the equation that their contracts
 -- write, for any two outcomes

@@ -43,6 +43,8 @@ use Rattle.loomfinch.proofs.loomfinch_check.Reads as c-check
 use Rattle.loomfinch.proofs.loomfinch_check.Kinds as c-check-kinds
 use Rattle.loomfinch.proofs.loomfinch_check_all.Reads as c-check-all
 use Rattle.loomfinch.proofs.loomfinch_check_all.Kinds as c-check-all-kinds
+use Rattle.loomfinch.proofs.loomfinch_explain.Reads as c-explain
+use Rattle.loomfinch.proofs.loomfinch_explain.Kinds as c-explain-kinds
 use Rattle.loomfinch.proofs.loomfinch_consume_pdo_payload.Reads as c-consume
 use Rattle.loomfinch.proofs.loomfinch_consume_pdo_payload.Kinds as c-consume-kinds
 use Rattle.loomfinch.proofs.loomfinch_consume_cycle.Reads as c-consume-cycle
@@ -121,3 +123,6 @@ c-check-unique κs a z₁ z₂ w₁ w₂ p q = both (λ (x : Told). x .answer) (
 
 pub c-check-all-unique : Unique 6 c-check-all-kinds.ps c-check-all-kinds.r c-check-all.Post
 c-check-all-unique κs a z₁ z₂ w₁ w₂ p q = both (λ (x : Written). x .answer) (λ x. (tt, (tt, (tt, (tt, (x .out, (x .written, tt))))))) p q
+
+pub c-explain-unique : Unique 5 c-explain-kinds.ps c-explain-kinds.r c-explain.Post
+c-explain-unique κs a z₁ z₂ w₁ w₂ p q = both (λ (x : Lent). x .answer) (λ x. (tt, (tt, (tt, (tt, (tt, (tt, (x .numbers, tt)))))))) p q

@@ -1,15 +1,15 @@
--- `cases::consuming::events_are` is safe and ends. Assumes nothing.
+-- `cases::memory::are` is safe and ends. Assumes nothing.
 use Prim.Native.Nat.{_-_}
 use lib.ListN.{length}
 use borrow.Author.Needs.{needs}
-use Rattle.cases.proofs.consuming.events_are.Statement.{statement}
-use Rattle.cases.proofs.consuming.events_are.Tie as tie
+use Rattle.cases.proofs.memory.are.Statement.{statement}
+use Rattle.cases.proofs.memory.are.Tie as tie
 
 abbrev Inv-loop : tie.InvT-loop
-Inv-loop s at log n p₀ i₀ p i = Unit {0}
+Inv-loop s at all n p₀ i₀ p i = Unit {0}
 
 abbrev μ-loop : tie.MeasureT-loop
-μ-loop s at log n p₀ i₀ p i = length log - i
+μ-loop s at all n p₀ i₀ p i = length all - i
 
 loop-holds : tie.Need-loop-holds Inv-loop μ-loop
 loop-holds c = search needs
@@ -41,8 +41,8 @@ loop-again c = search needs
 returns-2 : tie.Need-returns-2 Inv-loop μ-loop
 returns-2 c = search needs
 
-pub events-are-spec : {M : Type 1} → statement M
-events-are-spec =
+pub are-spec : {M : Type 1} → statement M
+are-spec =
     tie.close
     (tie.spec
     Inv-loop
