@@ -33,6 +33,7 @@ enum Function {
     UpdatePdoErrorObject,
     Check,
     CheckAll,
+    Explain,
 }
 
 /// What a call is given; the changed ones come back as the call left them.
@@ -302,6 +303,11 @@ pub fn check(parts: &Parts, channel: u8, element: &mut u64) -> u64 {
 
 pub fn check_all(parts: &Parts, numbers: &mut [u64], count: &mut u64) -> u64 {
     ask(Function::CheckAll, parts, [ChangedWords(numbers), ChangedWords(from_mut(count))])
+}
+
+pub fn explain(parts: &Parts, channel: u8, element: u8, numbers: &mut [u64]) -> u64 {
+    let (channel, element) = (Number(channel.into()), Number(element.into()));
+    ask(Function::Explain, parts, [channel, element, ChangedWords(numbers)])
 }
 
 #[cfg(test)]

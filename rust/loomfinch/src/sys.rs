@@ -53,6 +53,7 @@ declare! { const:
     loomfinch_validate_pdo_mapping(index: u16, count: u8);
     loomfinch_check(channel: u8, element: *mut u64);
     loomfinch_check_all(numbers: *mut u64, numbers_len: usize, count: *mut u64);
+    loomfinch_explain(channel: u8, element: u8, numbers: *mut u64, numbers_len: usize);
 }
 
 declare! { mut:
@@ -265,4 +266,9 @@ pub fn check(parts: &Parts, channel: u8, element: &mut u64) -> u64 {
 pub fn check_all(parts: &Parts, numbers: &mut [u64], count: &mut u64) -> u64 {
     let (to, len) = (numbers.as_mut_ptr(), numbers.len());
     call!(loomfinch_check_all(parts.as_ptr, to, len, count))
+}
+
+pub fn explain(parts: &Parts, channel: u8, element: u8, numbers: &mut [u64]) -> u64 {
+    let (to, len) = (numbers.as_mut_ptr(), numbers.len());
+    call!(loomfinch_explain(parts.as_ptr, channel, element, to, len))
 }

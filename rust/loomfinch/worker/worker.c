@@ -34,7 +34,8 @@ enum {
     CONSUME_CYCLE,
     UPDATE_PDO_ERROR_OBJECT,
     CHECK,
-    CHECK_ALL
+    CHECK_ALL,
+    EXPLAIN
 };
 enum { NUMBER, WORDS, BYTES, CHANGED_WORDS, CHANGED_BYTES };
 enum { MOST_ARGUMENTS = 16 };
@@ -93,8 +94,10 @@ static uint64_t answer(uint64_t function, const struct argument *a) {
         return loomfinch_update_pdo_error_object(DICTIONARY, (uint16_t)N(4), (uint8_t)N(5));
     case CHECK:
         return loomfinch_check(DICTIONARY, (uint8_t)N(4), a[5].at);
-    default:
+    case CHECK_ALL:
         return loomfinch_check_all(DICTIONARY, W(4), a[5].at);
+    default:
+        return loomfinch_explain(DICTIONARY, (uint8_t)N(4), (uint8_t)N(5), W(6));
     }
 }
 

@@ -3,6 +3,7 @@
 mod checking;
 mod codec;
 mod consuming;
+mod explaining;
 mod inserting;
 mod lasting;
 mod mapping;
