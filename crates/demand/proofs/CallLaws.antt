@@ -24,7 +24,8 @@ use Rattle.given.specs.declared.Head.{Head}
 use Rattle.insertion.specs.declared.Inserted.{Inserted}
 use Rattle.insertion.specs.declared.Inserted.the-variants.{Done, Refused}
 use Rattle.given.specs.Given.{objIn}
-use Rattle.insertion.specs.Insert.{inserted, below, taken, answerOf, after, memoryOf}
+use Rattle.placing.specs.Place.{inserted}
+use Rattle.insertion.specs.Insert.{below, taken, answerOf, after, memoryOf}
 use Rattle.insertion.proofs.AnswerLaws.{done-by, stays, others-stay}
 use Rattle.demand.specs.Lasting.{SameRow, Shaped}
 

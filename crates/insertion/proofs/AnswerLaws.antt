@@ -13,7 +13,8 @@ use Rattle.entry.specs.Table.{Dict, modelOf, numberOf}
 use Rattle.entry.specs.Judge.{wellFormed}
 use Rattle.entry.specs.Find.{objectOf}
 use Rattle.given.specs.Given.{objIn, rightIn, sizeIn}
-use Rattle.insertion.specs.Insert.{inserted, below, taken, Room, fitsIn, answerOf, after, memoryOf}
+use Rattle.placing.specs.Place.{inserted, Room}
+use Rattle.insertion.specs.Insert.{below, taken, fitsIn, answerOf, after, memoryOf}
 use Rattle.given.specs.declared.Head.{Head}
 use Rattle.given.specs.declared.Size.the-variants as sz
 use Rattle.insertion.specs.declared.Inserted.{Inserted}

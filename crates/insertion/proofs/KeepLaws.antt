@@ -18,7 +18,8 @@ use Rattle.entry.specs.Table.{Dict, Lies, laid, modelOf}
 use Rattle.entry.specs.Rules.{objOk, objsOk, Few}
 use Rattle.entry.specs.Judge.{Sound, wellFormed}
 use Rattle.entry.specs.Find.{objectOf}
-use Rattle.insertion.specs.Insert.{below, taken, inserted}
+use Rattle.placing.specs.Place.{inserted}
+use Rattle.insertion.specs.Insert.{below, taken}
 use Rattle.entry.proofs.JudgeLaws.{and-true}
 use Rattle.entry.proofs.ModelLaws.{length-wordsOf, words-append, bytes-append}
 use Rattle.entry.proofs.BackLaws.{complete, read-back}

@@ -1,6 +1,3 @@
-pub mod InsertLaws
-pub mod PlaceLaws
-pub mod ActLaws
 pub mod IndexLaws
 pub mod KeepLaws
 pub mod AnswerLaws

@@ -13,7 +13,7 @@ use Rattle.entry.specs.Model.{Obj, wordsOf, slotsOf, used, size, bytesOf, row, 
 use Rattle.entry.specs.Table.{Dict, Lies, numberOf, valuesOf, usedOf, before}
 use Rattle.entry.proofs.ModelLaws.{length-rows, length-slots, length-wordsOf, length-slotsOf, words-append, bytes-append, rows-append, slots-append, begins, totals}
 use Rattle.insertion.specs.Replace.{removeAt}
-use Rattle.insertion.proofs.PlaceLaws.{place}
+use Rattle.placing.proofs.PlaceLaws.{place}
 use Rattle.insertion.proofs.FallLaws.{fallen-first, fallen-name, fallen-start}
 
 -- ---- the four slices, where o lies between xs and ys

@@ -19,9 +19,9 @@ use Rattle.entry.proofs.JudgeLaws.{and-true, length-objs}
 use Rattle.entry.proofs.ModelLaws.{length-rows, length-slots, words-append, bytes-append}
 use Rattle.entry.proofs.PutLaws.{objs-swap}
 use Rattle.entry.proofs.BackLaws.{read-back, complete}
-use Rattle.insertion.specs.Insert.{inserted}
+use Rattle.placing.specs.Place.{inserted}
 use Rattle.insertion.specs.Replace.{removeAt, replaceAt, without, replaced, RoomIn}
-use Rattle.insertion.proofs.ActLaws.{dict-is}
+use Rattle.placing.proofs.ActLaws.{dict-is}
 use Rattle.insertion.proofs.KeepLaws.{laid-lies}
 
 -- ---- fewer objects keep the rules

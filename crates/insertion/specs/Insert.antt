@@ -1,23 +1,19 @@
 -- Insertion: RULES.md 6.
 -- Assumes nothing.
-use Prim.Native.Nat.{ℕ, zero, suc, _+_, _-_, _≤_, _<_}
+use Prim.Native.Nat.{ℕ, zero, suc, _+_}
 use mathlib.Core.Bool.{Bool, false, cond, _&&_, _||_}
 use mathlib.Core.List.{List, [], _∷_}
 use lib.ListN.{length}
 use lib.Dec.{eqb, leb, ltb}
 use Rattle.answers.specs.declared.Refusal.the-variants.{Malformed, BadValue, Occupied, Full}
-use Rattle.entry.specs.Model.{Obj, used, size, insertAt}
-use Rattle.entry.specs.Table.{Dict, indexAt, modelOf, laid, numberOf, valuesOf, usedOf, rowEnd, slotPlace}
-use Rattle.rows.specs.Rows.{rowOf}
+use Rattle.entry.specs.Model.{Obj, used, size}
+use Rattle.entry.specs.Table.{Dict, indexAt, modelOf, numberOf, valuesOf, usedOf, rowEnd, slotPlace}
 use Rattle.entry.specs.Judge.{wellFormed}
 use Rattle.given.specs.declared.Head.{Head}
 use Rattle.insertion.specs.declared.Inserted.{Inserted}
 use Rattle.insertion.specs.declared.Inserted.the-variants.{Done, Refused}
 use Rattle.given.specs.Given.{objIn, rightIn}
-
--- the memory with the object o as the one at place i: R6.6
-abbrev pub inserted : ℕ → Obj → Dict → Dict
-inserted i o d = laid (insertAt i o (modelOf d)) d
+use Rattle.placing.specs.Place.{inserted}
 
 -- how many objects come before index x, and whether one has it
 unfoldable pub below : ℕ → List Obj → ℕ
@@ -61,18 +57,3 @@ memoryOf h name vals encodings d =
 unfoldable pub placeFrom : List ℕ → ℕ → ℕ → ℕ → ℕ
 placeFrom objects x zero i = i
 placeFrom objects x (suc k) i = cond (ltb (indexAt objects i) x) (placeFrom objects x k (suc i)) i
-
--- its row
-abbrev pub rowIn : Head → ℕ → ℕ → ℕ → ℕ → List ℕ
-rowIn h v b len u = rowOf (h .index) (h .kind) (h .access) (u - h .default) v b len (h .default)
-
--- there is room for one object more, of u values and g bytes
-pub record Room (objects slots words bytes : List ℕ) (i u g : ℕ) : Type 0 where
-  pub place : i ≤ numberOf objects
-  pub few : numberOf objects < 1024
-  pub rows : rowEnd (numberOf objects) ≤ length objects
-  pub values : valuesOf objects + u ≤ 6144
-  pub slotted : slotPlace (valuesOf objects + u) ≤ length slots
-  pub worded : valuesOf objects + u ≤ length words
-  pub total : usedOf objects + g ≤ 32768
-  pub arena : usedOf objects + g ≤ length bytes

@@ -5,7 +5,7 @@ use mathlib.Core.List.{List, _∷_, _++_}
 use lib.ListN.{take, drop}
 use Rattle.entry.specs.Model.{Obj}
 use Rattle.entry.specs.Table.{Dict, modelOf, laid}
-use Rattle.insertion.specs.Insert.{Room}
+use Rattle.placing.specs.Place.{Room}
 
 -- the objects without the k at place i
 abbrev pub removeAt : ℕ → ℕ → List Obj → List Obj

@@ -1,5 +1,4 @@
 // Inserting an object into the lent dictionary: everything behind its place moves up.
-mod act;
 mod remove;
 mod replace;
 

@@ -4,8 +4,8 @@ ghost use Prim.Native.Nat.{_<_};
 ghost use Rattle.entry.specs.Judge.{Long};
 ghost use Rattle.entry.specs.Table.{numberOf, dict, modelOf, Lies};
 ghost use Rattle.insertion.specs.Replace.{without};
-use crate::act::bytes_before;
-use crate::act::values_before;
+use placing::bytes_before;
+use placing::values_before;
 
 // Object i goes: everything behind it moves down.
 pub fn remove_at(

@@ -7,7 +7,6 @@ ghost use Rattle.entry.specs.Judge.{wellFormed};
 ghost use Rattle.entry.specs.Table.{dict, numberOf};
 ghost use Rattle.given.specs.Given.{roomsIn, countIn, objIn, Values};
 ghost use Rattle.insertion.specs.Replace.{without, replaced, RoomIn};
-use crate::act;
 use crate::remove;
 use given::Head;
 
@@ -32,7 +31,7 @@ pub fn replace_at(
 {
     if k == 1 {
         remove::remove_at(objects, slots, words, bytes, i);
-        act::insert_at(
+        placing::insert_at(
             objects,
             slots,
             words,
@@ -46,7 +45,7 @@ pub fn replace_at(
         );
         return;
     }
-    act::insert_at(
+    placing::insert_at(
         objects,
         slots,
         words,

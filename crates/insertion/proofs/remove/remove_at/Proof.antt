@@ -1,7 +1,7 @@
 -- `insertion::remove::remove_at` meets its contract. Assumes nothing.
 use mathlib.Core.Path.{_∙_}
 use Rattle.entry.specs.Table.{Dict, dict, modelOf}
-use Rattle.insertion.proofs.ActLaws.{dict-is}
+use Rattle.placing.proofs.ActLaws.{dict-is}
 use Rattle.insertion.proofs.RemoveLaws.{Spot, Within, within, words-gone, slots-gone, bytes-gone, objects-gone}
 use native.Mathlib.Omega.{arith}
 use borrow.Author.Needs.{needs}

@@ -5,7 +5,7 @@ use Rattle.entry.specs.Table.{Dict, dict, modelOf, Lies}
 use Rattle.entry.specs.Judge.{Sound}
 use Rattle.entry.proofs.JudgeLaws.{sound, headed}
 use Rattle.given.specs.Given.{objIn, countIn}
-use Rattle.insertion.specs.Insert.{inserted}
+use Rattle.placing.specs.Place.{inserted}
 use Rattle.insertion.specs.Replace.{without, replaced, RoomIn}
 use Rattle.insertion.proofs.ReplaceLaws.{lies-without, replaced-is, without-none, replaced-none}
 use native.Mathlib.Omega.{arith}

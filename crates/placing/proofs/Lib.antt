@@ -1,0 +1,3 @@
+pub mod InsertLaws
+pub mod PlaceLaws
+pub mod ActLaws

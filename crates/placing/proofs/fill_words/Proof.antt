@@ -1,0 +1,100 @@
+-- `placing::fill_words` meets its contract. The loop's invariant: what is still to be laid, laid from here on, gives the same. Assumes nothing.
+use mathlib.Core.Path.{_≡_, refl, sym, _∙_}
+use Prim.Native.Nat.{_≤_, _-_, _+_}
+use lib.ListN.{length, length-set}
+use native.Mathlib.Nat.{add-zero}
+use Rattle.lists.specs.Lists.{over}
+use Rattle.entry.specs.Model.{wordsOf}
+use Rattle.entry.proofs.ModelLaws.{length-wordsOf}
+use Rattle.given.specs.Given.{given, lengthsIn}
+use Rattle.given.proofs.GivenLaws.{words-more, lengths-more, none-left, given-length}
+use native.Mathlib.Omega.{arith}
+use borrow.Author.Needs.{needs}
+use Rattle.placing.proofs.fill_words.Statement.{statement}
+use Rattle.placing.proofs.fill_words.Tie as tie
+
+abbrev Inv-loop : tie.InvT-loop
+Inv-loop words₀ v vals encodings u j₀ t₀ words j t =
+    (j ≤ u) × (length words ≡ length words₀) × (t + lengthsIn vals (u - j) j ≡ lengthsIn vals u 0) × (over words₀ v (wordsOf (given vals encodings u 0 0)) ≡ over words (v + j) (wordsOf (given vals encodings (u - j) j t)))
+
+abbrev μ-loop : tie.MeasureT-loop
+μ-loop words₀ v vals encodings u j₀ t₀ words j t = u - j
+
+loop-holds : tie.Need-loop-holds Inv-loop μ-loop
+loop-holds c =
+    let a = c .before .before .before .args in
+    let f : a .u - 0 ≡ a .u = omega arith in
+    (omega arith, refl, rw f (omega arith), rw (f, add-zero))
+
+length-in-requires : tie.Need-length-in-requires Inv-loop μ-loop
+length-in-requires c κs = search needs
+
+type-in-requires : tie.Need-type-in-requires Inv-loop μ-loop
+type-in-requires c κs = search needs
+
+word-in-requires : tie.Need-word-in-requires Inv-loop μ-loop
+word-in-requires c κs =
+    let l = c .before .before .before in
+    let s = l .before .before .before .before in
+    let v = s .pre .1 in
+    let m = lengths-more (s .args .vals .now) (s .args .u) (l .loop .j) (c .before .before .loop-test .taken) in
+    (omega (arith, m, l .loop .inv .2, v .encoded, c .before .length-in .ensures), rw (c .type-in .ensures, c .before .length-in .ensures) (v .short (l .loop .j) (c .before .before .loop-test .taken)))
+
+add-words : tie.Need-add-words Inv-loop μ-loop
+add-words c = search needs
+
+mul-words : tie.Need-mul-words Inv-loop μ-loop
+mul-words c = search needs
+
+slice-write-words : tie.Need-slice-write-words Inv-loop μ-loop
+slice-write-words c = search needs
+
+add-t : tie.Need-add-t Inv-loop μ-loop
+add-t c =
+    let l = c .before .before .before .before in
+    let s = l .before .before .before .before in
+    omega (arith, lengths-more (s .args .vals .now) (s .args .u) (l .loop .j) (c .before .before .before .loop-test .taken), l .loop .inv .2, s .pre .1 .encoded, c .before .before .length-in .ensures)
+
+add-j : tie.Need-add-j Inv-loop μ-loop
+add-j c = search needs
+
+loop-less : tie.Need-loop-less Inv-loop μ-loop
+loop-less c = search needs
+
+loop-again : tie.Need-loop-again Inv-loop μ-loop
+loop-again c =
+    let l = c .before .before .before .before in
+    let s = l .before .before .before .before in
+    let a = s .args in
+    let h = c .before .before .before .loop-test .taken in (
+      omega arith,
+      simp length-set (l .loop .inv .1),
+      omega (arith, lengths-more (a .vals .now) (a .u) (l .loop .j) h, l .loop .inv .2, c .before .before .length-in .ensures),
+      l .loop .inv .3 ∙ rw (c .word-in .ensures, c .before .type-in .ensures, c .before .before .length-in .ensures) (words-more (a .vals .now) (a .encodings .now) (l .loop .words) (a .v) (a .u) (l .loop .j) (l .loop .t) h (omega (arith, l .loop .inv .1, s .pre .0))),
+    )
+
+same-length : tie.Need-same-length Inv-loop μ-loop
+same-length c = search needs
+
+returns : tie.Need-returns Inv-loop μ-loop
+returns c = sym (c .before .loop .inv .3 ∙ none-left _ _ _ (length-wordsOf _ ∙ given-length _ _ _ _ _ ∙ omega arith))
+
+pub fill-words-spec : {M : Type 1} → statement M
+fill-words-spec =
+    tie.close
+    (tie.spec
+    Inv-loop
+    μ-loop
+    loop-holds
+    length-in-requires
+    type-in-requires
+    word-in-requires
+    add-words
+    mul-words
+    slice-write-words
+    add-t
+    add-j
+    loop-less
+    loop-again
+    same-length
+    returns)

@@ -1,0 +1,27 @@
+-- `placing::values_before` meets its contract. Assumes nothing.
+use mathlib.Core.Path.{_∙_}
+use borrow.Author.Tests.{lt-ltb, le-ltb}
+use borrow.Author.Needs.{needs}
+use Rattle.placing.proofs.values_before.Statement.{statement}
+use Rattle.placing.proofs.values_before.Tie as tie
+
+number-of-requires : tie.Need-number-of-requires
+number-of-requires c κs = search needs
+
+first-at-requires : tie.Need-first-at-requires
+first-at-requires c κs = search needs
+
+returns : tie.Need-returns
+returns c =
+    c .first-at .ensures ∙ simp (lt-ltb _ _ (rw (c .before .before .number-of .ensures) at (c .before .if1 .taken)))
+
+values-of-requires : tie.Need-values-of-requires
+values-of-requires c κs = search needs
+
+returns-2 : tie.Need-returns-2
+returns-2 c =
+    c .values-of .ensures ∙ simp (le-ltb _ _ (rw (c .before .before .number-of .ensures) at (c .before .if1 .left)))
+
+pub values-before-spec : {M : Type 1} → statement M
+values-before-spec =
+    tie.close (tie.spec number-of-requires first-at-requires returns values-of-requires returns-2)
