@@ -6,9 +6,13 @@ mod bounds;
 mod breakage;
 mod calls;
 mod channels;
+mod checked;
+mod checks;
 mod consumed;
 mod consuming;
 mod damage;
+mod faults;
+mod fields;
 mod histories;
 mod image;
 mod images;
@@ -62,7 +66,14 @@ pub fn compare(port: &mut Port, random: &mut Random) -> (u64, u64) {
     consumed::compare(&mut trial, random);
     bounds::compare(&mut trial, random);
     malice::compare(&mut trial, random);
-    trial.finish()
+    trial.finish("the dictionary's answers")
+}
+
+/// The same, of the channel check.
+pub fn compare_checks(port: &mut Port, random: &mut Random) -> (u64, u64) {
+    let mut trial = trial::Trial::new(port);
+    faults::compare(&mut trial, random);
+    trial.finish("answers about channels")
 }
 
 /// Prints the histories that crates/cases replays.

@@ -1,6 +1,6 @@
 //! Compares the port with the unchanged Rust. Arguments: the seed, the port's
-//! program and, where only one part is to be run, that part: codec, dictionary
-//! or bench, which times calls and compares nothing. Without the port: the arguments
+//! program and, where only one part is to be run, that part: codec, dictionary,
+//! check or bench, which times calls and compares nothing. Without the port: the arguments
 //! --histories, --stores and --payloads print histories with the answers that they must give.
 
 mod call;
@@ -43,7 +43,7 @@ fn main() -> ExitCode {
     }
     let chosen = |part: &str| only.as_deref().is_none_or(|only| only == part);
     if !PARTS.iter().any(|(part, _)| chosen(part)) {
-        eprintln!("oracle: the parts are codec, dictionary and bench");
+        eprintln!("oracle: the parts are codec, dictionary, check and bench");
         return ExitCode::from(2);
     }
     // First, so that a run that does not come back can be repeated too.
@@ -68,7 +68,11 @@ const PRINTED: [(&str, fn()); 3] = [
 
 type Part = (&'static str, fn(&mut Port, &mut Random) -> (u64, u64));
 
-const PARTS: [Part; 2] = [("codec", compare_codec), ("dictionary", dictionary::compare)];
+const PARTS: [Part; 3] = [
+    ("codec", compare_codec),
+    ("dictionary", dictionary::compare),
+    ("check", dictionary::compare_checks),
+];
 
 /// Times, with a word on what the port's are worth.
 fn bench(program: &str, port: &mut Port, seed: u64) -> ExitCode {

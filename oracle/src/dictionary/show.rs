@@ -94,6 +94,8 @@ fn call(call: &Call) -> String {
         Call::ConsumePdoPayload(given) => received(name, given),
         Call::ConsumeCycle(given) => cycle(name, given),
         Call::UpdatePdoErrorObject { index, node } => format!("{name} {index:04X}h, node {node}"),
+        Call::Check(channel) => format!("{name} channel {channel}"),
+        Call::CheckAll(room) => format!("{name}, {room} numbers lent"),
     }
 }
 
@@ -123,9 +125,13 @@ fn insertion(given: &Insertion) -> String {
     )
 }
 
+pub fn answer(answer: u64) -> String {
+    format!("{answer} {}", answer_name(answer))
+}
+
 fn outcome(outcome: &Outcome) -> String {
     let Outcome { answer, numbers, out, events } = outcome;
-    let mut line = format!("{answer} {}", answer_name(*answer));
+    let mut line = self::answer(*answer);
     if !numbers.is_empty() {
         line += &format!(", numbers {numbers:X?}");
     }

@@ -32,6 +32,15 @@ pub fn answer_name(answer: u64) -> &'static str {
         17 => "Full",
         18 => "StoreFull",
         19 => "RestoreRequested",
+        31 => "NoSender",
+        32 => "NoList",
+        33 => "NotMapping",
+        34 => "Misaligned",
+        35 => "HandOff",
+        36 => "NoTarget",
+        37 => "CountTarget",
+        38 => "WrongLength",
+        39 => "TooFar",
         _ => "no answer of the rules",
     }
 }

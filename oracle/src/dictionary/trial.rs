@@ -121,7 +121,7 @@ impl<'a> Trial<'a> {
 
     /// Prints the differences and how often each answer was reached; gives the
     /// comparisons and the differences.
-    pub fn finish(mut self) -> (u64, u64) {
+    pub fn finish(mut self, title: &str) -> (u64, u64) {
         self.run();
         let found = std::mem::take(&mut self.found);
         let time = LONGEST_SHRINKING / found.len().max(1) as u32;
@@ -135,7 +135,7 @@ impl<'a> Trial<'a> {
                 None => println!("    (not seen again)"),
             }
         }
-        println!("the dictionary's answers:");
+        println!("{title}:");
         self.tally.print();
         // A run that leaves something out must not pass for one that compared it.
         for lack in self.demands.iter().flat_map(|demand| demand(&self.tally)) {
