@@ -1,5 +1,7 @@
 //! The dictionary: histories of calls, and damaged memory.
 
+mod admission;
+mod asking;
 mod backend;
 mod bench;
 mod bounds;
@@ -11,6 +13,7 @@ mod checks;
 mod consumed;
 mod consuming;
 mod damage;
+mod demand;
 mod faults;
 mod fields;
 mod histories;
@@ -46,6 +49,8 @@ mod stores;
 mod tally;
 mod traps;
 mod trial;
+mod tried;
+mod whole;
 mod world;
 mod writes;
 mod writing;
@@ -73,6 +78,7 @@ pub fn compare(port: &mut Port, random: &mut Random) -> (u64, u64) {
 pub fn compare_checks(port: &mut Port, random: &mut Random) -> (u64, u64) {
     let mut trial = trial::Trial::new(port);
     faults::compare(&mut trial, random);
+    demand::compare(&mut trial, random);
     trial.finish("answers about channels")
 }
 

@@ -1,5 +1,5 @@
 //! What the channel check must give: RULES.md R12.2, R12.3 and R12.13 on the plain objects, written
-//! from the rules alone. The Rust has no such call.
+//! from the rules alone. The Rust has no such call; demand.rs asks payloads about its answers.
 
 use super::model::{Object, VARIABLE, Value};
 use super::running::{Word, channel_of, list_u8, row};

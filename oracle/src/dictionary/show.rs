@@ -73,7 +73,7 @@ fn value(value: &Value) -> String {
     format!("(type {kind} word {word:X} room {}{bytes})", room.len())
 }
 
-fn call(call: &Call) -> String {
+pub fn call(call: &Call) -> String {
     let name = call.name();
     match call {
         Call::New => name.to_string(),

@@ -59,6 +59,11 @@ impl Tally {
         }
     }
 
+    /// Counts what no call came upon by itself.
+    pub fn note(&mut self, of: &'static str, note: &'static str, times: u64) {
+        *self.notes.entry(of).or_default().entry(note).or_default() += times;
+    }
+
     /// Whether an answer of a call was reached, by this part of its rule or, without one, by any.
     pub fn reached(&self, call: &'static str, answer: u64, cause: Option<&str>) -> bool {
         match cause {
