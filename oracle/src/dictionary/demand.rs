@@ -47,11 +47,9 @@ pub fn compare(trial: &mut Trial, random: &mut Random) {
     for _ in 0..DICTIONARIES / BATCH {
         let cases: Vec<Case> = (0..BATCH).map(|_| fresh(random)).collect();
         let passed = ask(trial, &cases, &mut partings);
-        let lasting: Vec<Case> = cases
-            .into_iter()
-            .zip(passed)
-            .map(|(case, channels)| later(random, case, channels))
-            .collect();
+        let passing = cases.into_iter().zip(passed).filter(|(_, channels)| !channels.is_empty());
+        let lasting: Vec<Case> =
+            passing.map(|(case, channels)| later(random, case, channels)).collect();
         ask(trial, &lasting, &mut partings);
     }
     for case in partings.values() {

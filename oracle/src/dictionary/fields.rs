@@ -132,16 +132,10 @@ impl Field {
 /// For a value that is there, with the length that it takes: behind the fields before, over them,
 /// or at a payload's end.
 fn right(random: &mut Random, objects: &[Object], end: &mut usize) -> Field {
-    let Some((index, sub_index, value)) = place(random, objects) else {
+    let Some((index, sub_index, value)) = place(random, objects, |index| !is_handed(index)) else {
         return Field { index: 0x6000, sub_index: 0, offset: 0, length: 8 };
     };
-    let room = value.room.len();
-    let length = match size(value.kind) {
-        Some(size) => size,
-        None if random.below(3) == 0 => random.below(room + 1),
-        None => room,
-    };
-    let length = if value.kind == UNICODE_STRING { length / 2 * 2 } else { length };
+    let length = fitting(random, value);
     let start = match random.below(16) {
         0..=2 => random.below(*end + 3),
         3 => LONGEST - length,
@@ -155,18 +149,33 @@ fn right(random: &mut Random, objects: &[Object], end: &mut usize) -> Field {
     Field { index, sub_index, offset: 8 * start, length: 8 * length }
 }
 
-/// A value outside what is handed off, if one comes up.
-fn place<'a>(random: &mut Random, objects: &'a [Object]) -> Option<(u16, u8, &'a Value)> {
-    for _ in 0..8 {
-        let object = &objects[random.below(objects.len())];
-        let count = object.values.len();
-        if count > 0 && !matches!(object.index, 0x1200..=0x12FF) {
-            let element = random.below(count);
-            let sub_index = element as u8 + u8::from(object.shape != VARIABLE);
-            return Some((object.index as u16, sub_index, &object.values[element]));
-        }
-    }
-    None
+/// A length that it takes.
+fn fitting(random: &mut Random, value: &Value) -> usize {
+    let room = value.room.len();
+    let length = match size(value.kind) {
+        Some(size) => size,
+        None if random.below(3) == 0 => random.below(room + 1),
+        None => room,
+    };
+    if value.kind == UNICODE_STRING { length / 2 * 2 } else { length }
+}
+
+fn is_handed(index: u64) -> bool {
+    matches!(index, 0x1200..=0x12FF)
+}
+
+/// A value of such an object, where there is one.
+fn place<'a>(
+    random: &mut Random,
+    objects: &'a [Object],
+    is_wanted: impl Fn(u64) -> bool,
+) -> Option<(u16, u8, &'a Value)> {
+    let wanted = objects.iter().filter(|object| is_wanted(object.index));
+    let wanted: Vec<&Object> = wanted.filter(|object| !object.values.is_empty()).collect();
+    let object = *wanted.get(random.below(wanted.len().max(1)))?;
+    let element = random.below(object.values.len());
+    let sub_index = element as u8 + u8::from(object.shape != VARIABLE);
+    Some((object.index as u16, sub_index, &object.values[element]))
 }
 
 /// Breaks a rule of R12.2, or stands just at it.
@@ -174,10 +183,17 @@ fn spoil(random: &mut Random, objects: &[Object], field: &mut Field) {
     match random.below(8) {
         0 => field.offset += random.pick(&[1, 4, 7]),
         1 => field.length += random.pick(&[1, 4, 7]),
-        2 => {
-            let any = 0x1200 + random.below(0x100) as u16;
-            field.index = if random.below(3) == 0 { any } else { random.pick(&HANDED) };
-        }
+        2 => match place(random, objects, is_handed) {
+            // Right but for its index.
+            Some((index, sub_index, value)) if random.below(4) > 0 => {
+                let length = 8 * fitting(random, value);
+                *field = Field { index, sub_index, length, ..*field };
+            }
+            _ => {
+                let any = 0x1200 + random.below(0x100) as u16;
+                field.index = if random.below(3) == 0 { any } else { random.pick(&HANDED) };
+            }
+        },
         3 => {
             let any = 0x6000 + random.below(9) as u16;
             field.index = random.pick(&[any, 0x6009, 0, 0xFFFF]);

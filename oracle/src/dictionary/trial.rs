@@ -88,10 +88,13 @@ impl<'a> Trial<'a> {
     }
 
     /// Runs histories at once, each call compared as those of others; gives what the port gave at
-    /// each call, up to one that stopped its program.
+    /// each call, up to one that stopped its program. None where it was stopped too often.
     pub fn watched(&mut self, histories: &[History]) -> Vec<Vec<Given>> {
         self.run();
         let mut watched = Vec::new();
+        if self.stops > MOST_STOPS {
+            return watched;
+        }
         self.run_all(histories, |given| watched.push(given));
         watched
     }
