@@ -40,6 +40,7 @@ mod rooms;
 mod running;
 mod rust;
 mod saves;
+mod settled;
 mod show;
 mod shrink;
 mod spoil;
@@ -50,6 +51,7 @@ mod tally;
 mod traps;
 mod trial;
 mod tried;
+mod verdicts;
 mod whole;
 mod world;
 mod writes;
@@ -95,6 +97,11 @@ pub fn print_stores() {
 /// Prints those that consume payloads.
 pub fn print_payloads() {
     received::print();
+}
+
+/// Prints those that check channels.
+pub fn print_checks() {
+    verdicts::print();
 }
 
 /// Prints how long calls take, in the port and in the Rust.

@@ -1,7 +1,7 @@
 //! Compares the port with the unchanged Rust. Arguments: the seed, the port's
 //! program and, where only one part is to be run, that part: codec, dictionary,
 //! check or bench, which times calls and compares nothing. Without the port: the arguments
-//! --histories, --stores and --payloads print histories with the answers that they must give.
+//! --histories, --stores, --payloads and --checks print histories with the answers that they must give.
 
 mod call;
 mod dictionary;
@@ -60,10 +60,11 @@ fn main() -> ExitCode {
     ExitCode::from(u8::from(totals.1 > 0))
 }
 
-const PRINTED: [(&str, fn()); 3] = [
+const PRINTED: [(&str, fn()); 4] = [
     ("--histories", dictionary::print_stored),
     ("--stores", dictionary::print_stores),
     ("--payloads", dictionary::print_payloads),
+    ("--checks", dictionary::print_checks),
 ];
 
 type Part = (&'static str, fn(&mut Port, &mut Random) -> (u64, u64));
