@@ -219,7 +219,8 @@ fn report(trial: &mut Trial, case: &Case) {
         let parted = !asked_again(trial, history, case.seed).is_empty();
         parted.then(|| history.steps.len() - 1)
     });
-    show::history(&history);
+    println!("differs: {DEMAND}, {PARTINGS}");
+    show::steps(&history.steps);
     asked_again(trial, &history, case.seed).iter().for_each(|line| println!("    {line}"));
 }
 
@@ -241,7 +242,7 @@ fn asked_again(trial: &mut Trial, history: &History, seed: u64) -> Vec<String> {
     if parted.is_empty() {
         return Vec::new();
     }
-    let mut lines: Vec<String> = parted.iter().map(|what| format!("{PARTINGS}: {what}")).collect();
+    let mut lines: Vec<String> = parted.iter().map(|what| format!("payloads: {what}")).collect();
     lines.extend(CHANNELS.iter().zip(&seen.checks).map(|(channel, (answer, element))| {
         format!("channel {channel}: {}, element {element}", show::answer(*answer))
     }));

@@ -42,8 +42,8 @@ pub fn dictionary(random: &mut Random, most_elements: usize) -> Vec<Object> {
     all
 }
 
-/// As in the other dictionaries; also an error object, a string as long as a payload, or an empty
-/// list.
+/// As in the other dictionaries; also an error object, an empty list, a string as long as a payload,
+/// or one of 16-bit units.
 fn target(random: &mut Random) -> Object {
     let index = 0x6000 + random.below(8) as u64;
     match random.below(24) {
@@ -54,6 +54,11 @@ fn target(random: &mut Random) -> Object {
             let kind = 11 + random.word() % 4;
             let room = LONGEST - random.below(4);
             bare(index, VARIABLE, vec![Value::new(kind, room, b"ab")])
+        }
+        // So that an odd field fits.
+        4 | 5 => {
+            let room = 2 + random.below(4);
+            bare(index, VARIABLE, vec![Value::new(UNICODE_STRING, room, &[1, 2])])
         }
         _ => channels::target(random),
     }
@@ -99,14 +104,17 @@ fn fill(random: &mut Random, list: &mut Object, objects: &[Object]) {
     let mut end = 0;
     for (place, value) in list.values.iter_mut().enumerate() {
         let is_wrong = wrong == Some(place) || random.below(4) < other;
-        if is_wrong && random.below(9) == 0 {
-            let kind = random.pick(&[7, 5, 4, 10, 18, 12]);
-            *value = objects::value_of(random, kind, 8);
-            continue;
-        }
         let mut field = right(random, objects, &mut end);
-        if is_wrong {
-            spoil(random, objects, &mut field);
+        match random.below(12) {
+            _ if !is_wrong => {}
+            0 => {
+                let kind = random.pick(&[7, 5, 12]);
+                *value = objects::value_of(random, kind, 8);
+                continue;
+            }
+            // Of as many bytes as a word has.
+            1 => value.kind = random.pick(&[4, 10, 17, 18]),
+            _ => spoil(random, objects, &mut field),
         }
         value.word = field.word(random);
     }
@@ -182,7 +190,10 @@ fn place<'a>(
 fn spoil(random: &mut Random, objects: &[Object], field: &mut Field) {
     match random.below(8) {
         0 => field.offset += random.pick(&[1, 4, 7]),
-        1 => field.length += random.pick(&[1, 4, 7]),
+        1 => {
+            field.length += random.pick(&[1, 4, 4, 7]);
+            field.offset += random.pick(&[0, 0, 4]);
+        }
         2 => match place(random, objects, is_handed) {
             // Right but for its index.
             Some((index, sub_index, value)) if random.below(4) > 0 => {
@@ -210,8 +221,10 @@ fn spoil(random: &mut Random, objects: &[Object], field: &mut Field) {
             field.length = 8 * random.pick(&other);
         }
         _ => {
-            let past = [LONGEST + 1, LONGEST + 1, LONGEST + 2, LONGEST, 8191];
-            field.offset = 8 * random.pick(&past).saturating_sub(field.length / 8);
+            // The last one's end is small again where it is cut to 16 bits.
+            let ends = [LONGEST + 1, LONGEST + 1, LONGEST + 2, LONGEST, 8191, 8192];
+            let start = random.pick(&ends).saturating_sub(field.length / 8);
+            field.offset = 8 * start.min(8191);
         }
     }
 }

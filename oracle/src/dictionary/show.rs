@@ -14,7 +14,11 @@ const MOST_CELLS: usize = 24;
 
 pub fn history(history: &History) {
     println!("differs: {}", lent(&history.first));
-    for step in &history.steps {
+    steps(&history.steps);
+}
+
+pub fn steps(steps: &[Step]) {
+    for step in steps {
         match step {
             Step::Lend(lengths) => println!("    {}", lent(lengths)),
             Step::Lay(objects) => lay(objects),
