@@ -1,7 +1,8 @@
 //! Compares the port with the unchanged Rust. Arguments: the seed, the port's
 //! program and, where only one part is to be run, that part: codec, dictionary,
 //! check or bench, which times calls and compares nothing. Without the port: the arguments
-//! --histories, --stores, --payloads and --checks print histories with the answers that they must give.
+//! --histories, --stores, --payloads and --checks print histories with the answers that they must
+//! give.
 
 mod call;
 mod dictionary;

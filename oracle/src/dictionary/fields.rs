@@ -42,8 +42,8 @@ pub fn dictionary(random: &mut Random, most_elements: usize) -> Vec<Object> {
     all
 }
 
-/// As in the other dictionaries; also an error object, an empty list, a string as long as a payload,
-/// or one of 16-bit units.
+/// As in the other dictionaries; also an error object, an empty list, a string as long as a
+/// payload, or one of 16-bit units.
 fn target(random: &mut Random) -> Object {
     let index = 0x6000 + random.below(8) as u64;
     match random.below(24) {

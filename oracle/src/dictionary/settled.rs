@@ -56,8 +56,8 @@ fn cases() -> Vec<Question> {
     traps::cases().into_iter().map(question).collect()
 }
 
-/// Fields that share bytes, and one target twice: the later field stands, and of a longer one before
-/// it the bytes behind the value.
+/// Fields that share bytes, and one target twice: the later field stands, and of a longer one
+/// before it the bytes behind the value.
 fn overlapping() -> Vec<Question> {
     let texts = vec![text(0x6000, 4, b""), text(0x6001, 2, b"")];
     let text_and_number = vec![text(0x6000, 4, b""), bare(0x6001, VARIABLE, u32s([0]))];
@@ -82,8 +82,8 @@ fn overlapping() -> Vec<Question> {
     ]
 }
 
-/// The channel's own records: this payload is run by the words as they were, and the next check sees
-/// the new ones. A list's count is never written.
+/// The channel's own records: this payload is run by the words as they were, and the next check
+/// sees the new ones. A list's count is never written.
 fn own_records() -> Vec<Question> {
     let word = |index: u16| [index.to_le_bytes().as_slice(), &[0, 0, 0, 0, 8, 0]].concat();
     let list = || vec![w(64, 0, 2, 0x1600), w(8, 8, 0, 0x6000)];
