@@ -1,14 +1,21 @@
 //! The dictionary: histories of calls, and damaged memory.
 
+mod admission;
+mod asking;
 mod backend;
 mod bench;
 mod bounds;
 mod breakage;
 mod calls;
 mod channels;
+mod checked;
+mod checks;
 mod consumed;
 mod consuming;
 mod damage;
+mod demand;
+mod faults;
+mod fields;
 mod histories;
 mod image;
 mod images;
@@ -33,6 +40,7 @@ mod rooms;
 mod running;
 mod rust;
 mod saves;
+mod settled;
 mod show;
 mod shrink;
 mod spoil;
@@ -42,6 +50,9 @@ mod stores;
 mod tally;
 mod traps;
 mod trial;
+mod tried;
+mod verdicts;
+mod whole;
 mod world;
 mod writes;
 mod writing;
@@ -62,7 +73,15 @@ pub fn compare(port: &mut Port, random: &mut Random) -> (u64, u64) {
     consumed::compare(&mut trial, random);
     bounds::compare(&mut trial, random);
     malice::compare(&mut trial, random);
-    trial.finish()
+    trial.finish("the dictionary's answers")
+}
+
+/// The same, of the channel check.
+pub fn compare_checks(port: &mut Port, random: &mut Random) -> (u64, u64) {
+    let mut trial = trial::Trial::new(port);
+    faults::compare(&mut trial, random);
+    demand::compare(&mut trial, random);
+    trial.finish("answers about channels")
 }
 
 /// Prints the histories that crates/cases replays.
@@ -78,6 +97,11 @@ pub fn print_stores() {
 /// Prints those that consume payloads.
 pub fn print_payloads() {
     received::print();
+}
+
+/// Prints those that check channels.
+pub fn print_checks() {
+    verdicts::print();
 }
 
 /// Prints how long calls take, in the port and in the Rust.

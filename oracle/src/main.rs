@@ -1,7 +1,8 @@
 //! Compares the port with the unchanged Rust. Arguments: the seed, the port's
-//! program and, where only one part is to be run, that part: codec, dictionary
-//! or bench, which times calls and compares nothing. Without the port: the arguments
-//! --histories, --stores and --payloads print histories with the answers that they must give.
+//! program and, where only one part is to be run, that part: codec, dictionary,
+//! check or bench, which times calls and compares nothing. Without the port: the arguments
+//! --histories, --stores, --payloads and --checks print histories with the answers that they must
+//! give.
 
 mod call;
 mod dictionary;
@@ -43,7 +44,7 @@ fn main() -> ExitCode {
     }
     let chosen = |part: &str| only.as_deref().is_none_or(|only| only == part);
     if !PARTS.iter().any(|(part, _)| chosen(part)) {
-        eprintln!("oracle: the parts are codec, dictionary and bench");
+        eprintln!("oracle: the parts are codec, dictionary, check and bench");
         return ExitCode::from(2);
     }
     // First, so that a run that does not come back can be repeated too.
@@ -60,15 +61,20 @@ fn main() -> ExitCode {
     ExitCode::from(u8::from(totals.1 > 0))
 }
 
-const PRINTED: [(&str, fn()); 3] = [
+const PRINTED: [(&str, fn()); 4] = [
     ("--histories", dictionary::print_stored),
     ("--stores", dictionary::print_stores),
     ("--payloads", dictionary::print_payloads),
+    ("--checks", dictionary::print_checks),
 ];
 
 type Part = (&'static str, fn(&mut Port, &mut Random) -> (u64, u64));
 
-const PARTS: [Part; 2] = [("codec", compare_codec), ("dictionary", dictionary::compare)];
+const PARTS: [Part; 3] = [
+    ("codec", compare_codec),
+    ("dictionary", dictionary::compare),
+    ("check", dictionary::compare_checks),
+];
 
 /// Times, with a word on what the port's are worth.
 fn bench(program: &str, port: &mut Port, seed: u64) -> ExitCode {

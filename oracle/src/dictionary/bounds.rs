@@ -1,6 +1,7 @@
 //! Dictionaries at the ends of their totals.
 
 use super::calls;
+use super::checks;
 use super::insertion::Insertion;
 use super::memory::Lent;
 use super::model::*;
@@ -59,6 +60,7 @@ fn laid(random: &mut Random, used: Used, lengths: [usize; 4]) -> History {
     steps.extend(writes::each(random, &objects).map(Step::Call));
     steps.push(Step::Call(restores::any(random, &objects)));
     steps.extend(payloads::each(random, &objects).map(Step::Call));
+    steps.extend(checks::each(random, &objects).map(Step::Call));
     steps.push(insert(&one_more(random, SMALLEST)));
     History { first: Lent { at_start: random.below(2) == 0, lengths, store: STORE }, steps }
 }

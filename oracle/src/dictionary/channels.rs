@@ -16,7 +16,7 @@ pub const LISTS: u16 = 0x1600;
 const ERROR_OBJECTS: [u16; 2] = [0x1C80, 0x1C81];
 
 /// Bytes of the longest payload.
-const LONGEST: usize = 1490;
+pub const LONGEST: usize = 1490;
 
 /// Nodes, the managing one by both its numbers, and the ends of each class.
 const NODES: [u8; 9] = [5, 5, 5, 20, 1, 239, 240, 0, 241];
@@ -62,7 +62,7 @@ fn channel(random: &mut Random) -> u16 {
 }
 
 /// A Variable, or a list of a few values; strings have room to spare, with anything behind them.
-fn target(random: &mut Random) -> Object {
+pub fn target(random: &mut Random) -> Object {
     let any = 0x6000 + random.below(8) as u16;
     let index = if random.below(3) == 0 { random.pick(&TARGETS) } else { any };
     let shape = random.pick(&[VARIABLE, VARIABLE, ARRAY, LAST_SHAPE]);
@@ -93,7 +93,7 @@ fn value(random: &mut Random) -> Value {
 
 /// Most times 32 bytes as DS 301 has them; also shorter, in a larger room, of another type, or a
 /// list.
-fn error_object(random: &mut Random, index: u16) -> Object {
+pub fn error_object(random: &mut Random, index: u16) -> Object {
     let length = random.pick(&[32, 32, 32, 32, 30, 29, 1, 0]);
     let room = length + random.pick(&[0, 0, 0, 2]);
     let shape = random.pick(&[VARIABLE, VARIABLE, VARIABLE, VARIABLE, VARIABLE, ARRAY, LAST_SHAPE]);
@@ -158,7 +158,7 @@ fn list(random: &mut Random, channel: u16, objects: &[Object], most: usize, righ
     bare(LISTS + channel, random.pick(&[ARRAY, ARRAY, ARRAY, LAST_SHAPE]), values)
 }
 
-fn mapping_word(index: u16, sub_index: u8, offset_bits: u64, length_bits: u64) -> u64 {
+pub fn mapping_word(index: u16, sub_index: u8, offset_bits: u64, length_bits: u64) -> u64 {
     u64::from(index) | u64::from(sub_index) << 16 | offset_bits << 32 | length_bits << 48
 }
 

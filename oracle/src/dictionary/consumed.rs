@@ -2,6 +2,7 @@
 
 use super::calls;
 use super::channels;
+use super::checks;
 use super::consuming::{LEAST_ROOM, MOST_PAYLOADS};
 use super::memory::Lent;
 use super::model::*;
@@ -125,7 +126,7 @@ const NOTES: [&str; 19] = [
     "a bit set",
 ];
 
-fn history(random: &mut Random, objects: Vec<Object>, calls: Vec<Call>) -> History {
+pub fn history(random: &mut Random, objects: Vec<Object>, calls: Vec<Call>) -> History {
     let more = random.pick(&[0, 0, 0, 30]);
     let lengths = Used::of(&objects).lengths().map(|length| length + more);
     let mut lent = Lent { at_start: random.below(2) == 0, lengths, store: STORE };
@@ -148,6 +149,7 @@ fn any(random: &mut Random, objects: &[Object]) -> Call {
         1 => writes::any(random, objects),
         2 if random.below(4) == 0 => restores::any(random, objects),
         3 => payloads::error_bit(random),
+        4 => checks::any(random, objects),
         _ => payloads::any(random, objects),
     }
 }
@@ -204,7 +206,7 @@ fn list(index: u64, values: Vec<Value>) -> Object {
 
 /// Records at all 256 channels, of which several have the same node, and the largest dictionary
 /// around them.
-fn many_channels(random: &mut Random) -> History {
+pub fn all_channels(random: &mut Random) -> Vec<Object> {
     let number = |byte: u8| Value::new(UNSIGNED8, 0, &[byte]);
     let mut objects = channels::dictionary(random, 8);
     for channel in 0..256 {
@@ -216,8 +218,12 @@ fn many_channels(random: &mut Random) -> History {
     let mut objects = rising(objects);
     let filling = MOST_OBJECTS - objects.len();
     objects.extend((0..filling as u64).map(|row| list(0x7000 + row, vec![number(1)])));
-    let objects = rising(objects);
-    let calls = (0..40).map(|_| payloads::any(random, &objects)).collect();
+    rising(objects)
+}
+
+fn many_channels(random: &mut Random) -> History {
+    let objects = all_channels(random);
+    let calls = (0..40).map(|_| any(random, &objects)).collect();
     history(random, objects, calls)
 }
 

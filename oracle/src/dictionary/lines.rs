@@ -1,6 +1,7 @@
 //! Calls and the answers that they must give, as the lines that
 //! crates/cases/src/history.rt reads; its first comment is their format.
 
+use super::checked::{NO_SENDER, TOO_FAR};
 use super::insertion::Insertion;
 use super::memory::{Lent, Memory};
 use super::model::{self, Object, is_string};
@@ -79,7 +80,11 @@ impl Lines {
         self.tally.count(call.name(), &wanted);
         let outcome = wanted.outcome;
         let Outcome { answer, .. } = outcome;
-        let found = if answer == 0 { found(&call, &outcome, self.memory()) } else { String::new() };
+        let is_refused = answer != 0 && !matches!(answer, NO_SENDER..=TOO_FAR);
+        let found = match is_refused {
+            true => String::new(),
+            false => found(&call, &outcome, self.memory()),
+        };
         let given = given(&call, self.memory().store.len());
         self.line(&format!("{given} {answer:X}{found}"));
         self.calls += 1;
@@ -150,7 +155,8 @@ pub fn sayable(call: &Call) -> bool {
             given.data.len() <= MOST_BYTES_GIVEN
                 && given.payloads.len().max(given.room) <= MOST_NUMBERS_GIVEN
         }
-        Call::UpdatePdoErrorObject { .. } => true,
+        Call::CheckAll(room) => *room <= MOST_NUMBERS_GIVEN,
+        Call::UpdatePdoErrorObject { .. } | Call::Check(_) => true,
     }
 }
 
@@ -185,6 +191,8 @@ fn given(call: &Call, store: usize) -> String {
             format!("Y {room:X} {} {:X}{}", hex(data), payloads.len(), listed(payloads))
         }
         Call::UpdatePdoErrorObject { index, node } => format!("B {index:X} {node:X}"),
+        Call::Check(channel) => format!("K {channel:X}"),
+        Call::CheckAll(room) => format!("L {room:X}"),
     }
 }
 
@@ -200,7 +208,7 @@ fn found(call: &Call, outcome: &Outcome, memory: &Memory) -> String {
         Call::New | Call::Insert(_) | Call::IncrementCounter { .. } => String::new(),
         Call::Write(_) | Call::ValidatePdoMapping { .. } => String::new(),
         Call::RestorePowerOnValues { .. } | Call::UpdatePdoErrorObject { .. } => String::new(),
-        Call::ConsumePdoPayload(_) => {
+        Call::ConsumePdoPayload(_) | Call::CheckAll(_) => {
             format!(" {:X}{}", numbers[0], listed(&events[..numbers[0] as usize]))
         }
         Call::ConsumeCycle(_) => {
@@ -213,7 +221,9 @@ fn found(call: &Call, outcome: &Outcome, memory: &Memory) -> String {
             let length = if is_string(kind) { word as usize } else { 0 };
             format!(" {kind:X} {word:X} {}", hex(&memory.bytes[start..][..length]))
         }
-        Call::ReadNumber { .. } | Call::FindByName(_) => format!(" {:X}", numbers[0]),
+        Call::ReadNumber { .. } | Call::FindByName(_) | Call::Check(_) => {
+            format!(" {:X}", numbers[0])
+        }
         Call::GetConfiguredCns(_) => format!(" {}", hex(&out[..numbers[0] as usize])),
     }
 }

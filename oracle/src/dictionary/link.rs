@@ -27,8 +27,11 @@ const RESTORE: u64 = 20;
 const CONSUME: u64 = 21;
 const CYCLE: u64 = 22;
 const ERROR_BIT: u64 = 23;
+const CHECK: u64 = 24;
+const CHECK_ALL: u64 = 25;
 
 /// Cells of one slice that a call changed, from the first one on.
+#[derive(Clone)]
 pub struct Change {
     pub slice: usize,
     pub first: usize,
@@ -37,6 +40,7 @@ pub struct Change {
 
 /// What the port gives for one call. `strays` is not 0 where memory was
 /// touched that no call may touch: what it only reads, cells around what is lent.
+#[derive(Clone)]
 pub struct Given {
     pub outcome: Outcome,
     pub strays: u64,
@@ -116,6 +120,8 @@ fn place(call: &Call) -> (u64, u64, u64) {
         Call::ConsumePdoPayload(given) => (CONSUME, 0, given.sender.into()),
         Call::ConsumeCycle(_) => (CYCLE, 0, 0),
         Call::UpdatePdoErrorObject { index, node } => at(ERROR_BIT, index, node),
+        Call::Check(channel) => at(CHECK, &0, channel),
+        Call::CheckAll(_) => (CHECK_ALL, 0, 0),
     }
 }
 

@@ -4,6 +4,7 @@
 use super::breakage;
 use super::calls;
 use super::channels;
+use super::checks;
 use super::insertion::Insertion;
 use super::memory::{BYTES, Lent, Memory};
 use super::model::{self, *};
@@ -110,7 +111,7 @@ fn edit(random: &mut Random, cell: &Cell) -> Step {
     Step::Put { slice: cell.slice, at: cell.at, cell: other(random, cell) }
 }
 
-fn any_edit(random: &mut Random, cells: &[Cell]) -> Step {
+pub fn any_edit(random: &mut Random, cells: &[Cell]) -> Step {
     let place = random.below(cells.len());
     edit(random, &cells[place])
 }
@@ -153,6 +154,7 @@ fn history(random: &mut Random, objects: &[Object], edits: Vec<Step>) -> History
     steps.extend(writes::each(random, objects).map(Step::Call));
     steps.push(Step::Call(restores::any(random, objects)));
     steps.extend(payloads::each(random, objects).map(Step::Call));
+    steps.extend(checks::each(random, objects).map(Step::Call));
     steps.push(Step::Call(Call::Insert(insertion(random, objects))));
     if random.below(8) == 0 {
         steps.push(Step::Call(Call::New));
@@ -196,6 +198,7 @@ fn large(trial: &mut Trial, random: &mut Random) {
         steps.push(Step::Call(writes::any(random, &objects)));
         steps.push(Step::Call(restores::any(random, &objects)));
         steps.extend(payloads::each(random, &objects).map(Step::Call));
+        steps.extend(checks::each(random, &objects).map(Step::Call));
         steps.push(Step::Put { slice, at, cell: old });
     }
     steps.push(Step::Call(Call::Insert(insertion(random, &objects))));

@@ -2,6 +2,7 @@
 //! and defaults, with writes, saves and all other calls between them.
 
 use super::calls;
+use super::checks;
 use super::insertion::Insertion;
 use super::memory::Lent;
 use super::model::*;
@@ -133,11 +134,12 @@ fn let_in(objects: &[Object]) -> impl Iterator<Item = Step> {
 
 /// A list that saves nothing leaves a table of nothing, so that defaults alone count.
 fn any(random: &mut Random, objects: &[Object]) -> Call {
-    match random.below(8) {
+    match random.below(9) {
         0 => writes::save(random.pick(&[1, 1, 2, 3])),
         1 => writes::save(random.pick(&[4, 255])),
         2 => calls::any(random, objects),
         3 | 4 => restores::any(random, objects),
+        5 => checks::any(random, objects),
         _ => writes::any(random, objects),
     }
 }

@@ -90,19 +90,19 @@ pub struct Word {
     /// Its place in the list, from 1.
     pub element: u64,
     pub index: u16,
-    sub_index: u8,
+    pub sub_index: u8,
     pub start: usize,
     pub length: usize,
 }
 
 impl Word {
-    fn of(element: u64, word: u64) -> Self {
+    pub fn of(element: u64, word: u64) -> Self {
         let bits = |from: u32| (word >> from) as u16;
         let (start, length) = (bits(32).into(), bits(48).into());
         Self { element, index: bits(0), sub_index: bits(16) as u8, start, length }
     }
 
-    fn is_aligned(&self) -> bool {
+    pub fn is_aligned(&self) -> bool {
         self.start.is_multiple_of(8) && self.length.is_multiple_of(8)
     }
 }
@@ -127,7 +127,7 @@ pub fn set_bit(objects: &mut [Object], memory: &mut Memory, index: u16, node: u8
     true
 }
 
-fn row(objects: &[Object], index: u16) -> Option<usize> {
+pub fn row(objects: &[Object], index: u16) -> Option<usize> {
     objects.binary_search_by_key(&u64::from(index), |object| object.index).ok()
 }
 
@@ -149,7 +149,7 @@ pub fn list_u8(object: &Object, sub_index: usize) -> Option<u8> {
 }
 
 /// R11.3.
-fn is_right(expected: u8, received: u8) -> bool {
+pub fn is_right(expected: u8, received: u8) -> bool {
     match expected {
         0 => received == 0,
         _ => expected / 16 == received / 16 && expected % 16 <= received % 16,

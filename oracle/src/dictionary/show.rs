@@ -14,7 +14,11 @@ const MOST_CELLS: usize = 24;
 
 pub fn history(history: &History) {
     println!("differs: {}", lent(&history.first));
-    for step in &history.steps {
+    steps(&history.steps);
+}
+
+pub fn steps(steps: &[Step]) {
+    for step in steps {
         match step {
             Step::Lend(lengths) => println!("    {}", lent(lengths)),
             Step::Lay(objects) => lay(objects),
@@ -73,7 +77,7 @@ fn value(value: &Value) -> String {
     format!("(type {kind} word {word:X} room {}{bytes})", room.len())
 }
 
-fn call(call: &Call) -> String {
+pub fn call(call: &Call) -> String {
     let name = call.name();
     match call {
         Call::New => name.to_string(),
@@ -94,6 +98,8 @@ fn call(call: &Call) -> String {
         Call::ConsumePdoPayload(given) => received(name, given),
         Call::ConsumeCycle(given) => cycle(name, given),
         Call::UpdatePdoErrorObject { index, node } => format!("{name} {index:04X}h, node {node}"),
+        Call::Check(channel) => format!("{name} channel {channel}"),
+        Call::CheckAll(room) => format!("{name}, {room} numbers lent"),
     }
 }
 
@@ -123,9 +129,13 @@ fn insertion(given: &Insertion) -> String {
     )
 }
 
+pub fn answer(answer: u64) -> String {
+    format!("{answer} {}", answer_name(answer))
+}
+
 fn outcome(outcome: &Outcome) -> String {
     let Outcome { answer, numbers, out, events } = outcome;
-    let mut line = format!("{answer} {}", answer_name(*answer));
+    let mut line = self::answer(*answer);
     if !numbers.is_empty() {
         line += &format!(", numbers {numbers:X?}");
     }

@@ -41,6 +41,10 @@ pub enum Call {
         index: u16,
         node: u8,
     },
+    /// Of a channel.
+    Check(u8),
+    /// With how many numbers are lent, which stand among the outcome's events.
+    CheckAll(usize),
 }
 
 /// A place, and the value for it as its type and its encoding.
@@ -159,6 +163,8 @@ impl Call {
             Self::ConsumePdoPayload(_) => "consume_pdo_payload",
             Self::ConsumeCycle(_) => "consume_cycle",
             Self::UpdatePdoErrorObject { .. } => "update_pdo_error_object",
+            Self::Check(_) => "check",
+            Self::CheckAll(_) => "check_all",
         }
     }
 
@@ -171,16 +177,17 @@ impl Call {
             Self::New | Self::Insert(_) | Self::IncrementCounter { .. } => (0, 0),
             Self::Write(_) | Self::ValidatePdoMapping { .. } => (0, 0),
             Self::RestorePowerOnValues { .. } | Self::UpdatePdoErrorObject { .. } => (0, 0),
-            Self::ConsumePdoPayload(_) => (1, 0),
+            Self::ConsumePdoPayload(_) | Self::Check(_) | Self::CheckAll(_) => (1, 0),
             Self::ConsumeCycle(_) => (2, 0),
         }
     }
 
-    /// How many numbers the lent event list has.
+    /// How many numbers the lent event list has, or the list of all channels' checks.
     pub fn event_room(&self) -> usize {
         match self {
             Self::ConsumePdoPayload(given) => given.room,
             Self::ConsumeCycle(given) => given.room,
+            Self::CheckAll(room) => *room,
             _ => 0,
         }
     }
@@ -193,6 +200,7 @@ impl Call {
             Self::ConsumePdoPayload(_) | Self::ConsumeCycle(_) => true,
             Self::Read { .. } | Self::ReadNumber { .. } | Self::FindByName(_) => false,
             Self::GetConfiguredCns(_) | Self::ValidatePdoMapping { .. } => false,
+            Self::Check(_) | Self::CheckAll(_) => false,
         }
     }
 }

@@ -32,6 +32,15 @@ pub fn answer_name(answer: u64) -> &'static str {
         17 => "Full",
         18 => "StoreFull",
         19 => "RestoreRequested",
+        31 => "NoSender",
+        32 => "NoList",
+        33 => "NotMapping",
+        34 => "Misaligned",
+        35 => "HandOff",
+        36 => "NoTarget",
+        37 => "CountTarget",
+        38 => "WrongLength",
+        39 => "TooFar",
         _ => "no answer of the rules",
     }
 }
@@ -48,6 +57,11 @@ impl Tally {
         for note in &wanted.notes {
             *self.notes.entry(call).or_default().entry(note).or_default() += 1;
         }
+    }
+
+    /// Counts what no call came upon by itself.
+    pub fn note(&mut self, of: &'static str, note: &'static str, times: u64) {
+        *self.notes.entry(of).or_default().entry(note).or_default() += times;
     }
 
     /// Whether an answer of a call was reached, by this part of its rule or, without one, by any.

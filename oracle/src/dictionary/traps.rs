@@ -29,11 +29,11 @@ pub fn u16s<const N: usize>(numbers: [u16; N]) -> Vec<Value> {
     numbers.map(|number| Value::new(6, 0, &number.to_le_bytes())).to_vec()
 }
 
-fn u32s<const N: usize>(numbers: [u32; N]) -> Vec<Value> {
+pub fn u32s<const N: usize>(numbers: [u32; N]) -> Vec<Value> {
     numbers.map(|number| Value::new(7, 0, &number.to_le_bytes())).to_vec()
 }
 
-fn string(index: u64, kind: u64, room: usize, bytes: &[u8]) -> Object {
+pub fn string(index: u64, kind: u64, room: usize, bytes: &[u8]) -> Object {
     bare(index, VARIABLE, vec![Value::new(kind, room, bytes)])
 }
 
@@ -42,7 +42,7 @@ fn text(room: usize, bytes: &[u8]) -> Object {
 }
 
 /// 32 bytes have a bit for each node, two one for node 5.
-fn nodes(index: u64, length: usize) -> Object {
+pub fn nodes(index: u64, length: usize) -> Object {
     string(index, OCTET_STRING, length, &vec![0; length])
 }
 

@@ -83,11 +83,28 @@ impl<'a> Trial<'a> {
 
     fn run(&mut self) {
         self.waiting_words = 0;
-        let mut histories = std::mem::take(&mut self.waiting);
-        while !histories.is_empty() {
-            send(self.port, &histories);
+        let histories = std::mem::take(&mut self.waiting);
+        self.run_all(&histories, |_| ());
+    }
+
+    /// Runs histories at once, each call compared as those of others; gives what the port gave at
+    /// each call, up to one that stopped its program. None where it was stopped too often.
+    pub fn watched(&mut self, histories: &[History]) -> Vec<Vec<Given>> {
+        self.run();
+        let mut watched = Vec::new();
+        if self.stops > MOST_STOPS {
+            return watched;
+        }
+        self.run_all(histories, |given| watched.push(given));
+        watched
+    }
+
+    fn run_all(&mut self, histories: &[History], mut watch: impl FnMut(Vec<Given>)) {
+        let mut rest = histories;
+        while !rest.is_empty() {
+            let sent = send(self.port, rest);
             let mut run = 0;
-            for history in &histories {
+            for history in &rest[..sent] {
                 run += 1;
                 let mut replay = Replay::new(history);
                 let ended = replay.run(self.port, |call, wanted| {
@@ -97,6 +114,7 @@ impl<'a> Trial<'a> {
                 if let Some(found) = replay.found {
                     self.keep(&found, history);
                 }
+                watch(replay.given);
                 if ended.is_err() {
                     // Those behind it were not run.
                     self.port.restart().expect("the port's program can be started");
@@ -104,8 +122,22 @@ impl<'a> Trial<'a> {
                     break;
                 }
             }
-            histories.drain(..run);
+            rest = &rest[run..];
         }
+    }
+
+    /// What the port gives to a history that is not counted.
+    pub fn alone(&mut self, history: &History) -> Vec<Given> {
+        replayed(self.port, history).given
+    }
+
+    pub fn tally(&mut self) -> &mut Tally {
+        &mut self.tally
+    }
+
+    /// Counts differences that were found by what calls give together.
+    pub fn differ(&mut self, differences: u64) {
+        self.differing += differences;
     }
 
     /// The shortest history of each sort is kept, since it is the easiest to make smaller.
@@ -121,7 +153,7 @@ impl<'a> Trial<'a> {
 
     /// Prints the differences and how often each answer was reached; gives the
     /// comparisons and the differences.
-    pub fn finish(mut self) -> (u64, u64) {
+    pub fn finish(mut self, title: &str) -> (u64, u64) {
         self.run();
         let found = std::mem::take(&mut self.found);
         let time = LONGEST_SHRINKING / found.len().max(1) as u32;
@@ -135,7 +167,7 @@ impl<'a> Trial<'a> {
                 None => println!("    (not seen again)"),
             }
         }
-        println!("the dictionary's answers:");
+        println!("{title}:");
         self.tally.print();
         // A run that leaves something out must not pass for one that compared it.
         for lack in self.demands.iter().flat_map(|demand| demand(&self.tally)) {
@@ -146,19 +178,34 @@ impl<'a> Trial<'a> {
     }
 }
 
-fn send(port: &mut Port, histories: &[History]) {
-    let words: Vec<u64> = histories.iter().flat_map(link::commands).collect();
+/// Sends as many of the histories as fit a batch.
+fn send(port: &mut Port, histories: &[History]) -> usize {
+    let mut words = Vec::new();
+    let mut sent = 0;
+    for history in histories {
+        let more = link::commands(history);
+        if sent > 0 && words.len() + more.len() > LARGEST_BATCH {
+            break;
+        }
+        words.extend(more);
+        sent += 1;
+    }
     port.send(Batch::Dictionary, &words).expect("the port takes commands");
+    sent
 }
 
 /// Runs a history by itself.
-fn first_difference(port: &mut Port, history: &History) -> Option<Difference> {
+fn replayed<'a>(port: &mut Port, history: &'a History) -> Replay<'a> {
     send(port, std::slice::from_ref(history));
     let mut replay = Replay::new(history);
     if replay.run(port, |_, _| ()).is_err() {
         port.restart().expect("the port's program can be started");
     }
-    replay.found
+    replay
+}
+
+fn first_difference(port: &mut Port, history: &History) -> Option<Difference> {
+    replayed(port, history).found
 }
 
 /// Holds the replies to a history against what is wanted, up to the first
@@ -167,11 +214,12 @@ struct Replay<'a> {
     history: &'a History,
     world: World,
     found: Option<Difference>,
+    given: Vec<Given>,
 }
 
 impl<'a> Replay<'a> {
     fn new(history: &'a History) -> Self {
-        Self { history, world: World::new(history.first), found: None }
+        Self { history, world: World::new(history.first), found: None, given: Vec::new() }
     }
 
     /// An error where the program stopped.
@@ -204,6 +252,7 @@ impl<'a> Replay<'a> {
     ) -> Result<()> {
         let given = link::given(port, call);
         let ended = given.as_ref().map(drop).map_err(|error| error.kind().into());
+        self.given.extend(given.as_ref().ok().cloned());
         if self.found.is_none() {
             self.found = call_differs(&mut self.world, step, call, given.ok(), count);
         }
@@ -236,7 +285,7 @@ fn call_differs(
     Some(Difference { step, call: call.clone(), given, wanted, before, after })
 }
 
-fn changed(mut memory: Memory, given: &Given) -> Memory {
+pub fn changed(mut memory: Memory, given: &Given) -> Memory {
     for change in &given.changes {
         for (cell, at) in change.cells.iter().zip(change.first..) {
             memory.put(change.slice, at, *cell);

@@ -47,9 +47,11 @@ pub struct Wanted {
 /// A refusal's number, and which part of its rule gave it.
 pub type Refused = (u64, Option<&'static str>);
 
-/// What a call that is done writes into the memory lent for results.
+/// What a call that is done writes into the memory lent for results. The answer is 0 but for a
+/// check's faults.
 #[derive(Default)]
 pub struct Done {
+    pub answer: u64,
     pub numbers: Vec<u64>,
     pub out: Vec<u8>,
     pub events: Vec<u64>,
@@ -92,6 +94,7 @@ impl World {
         let mut notes = Vec::new();
         let cause = match self.done(call, &mut notes) {
             Ok(done) => {
+                outcome.answer = done.answer;
                 outcome.numbers[..done.numbers.len()].copy_from_slice(&done.numbers);
                 outcome.out[..done.out.len()].copy_from_slice(&done.out);
                 outcome.events[..done.events.len()].copy_from_slice(&done.events);
@@ -138,6 +141,8 @@ impl World {
             Call::UpdatePdoErrorObject { index, node } => {
                 Ok(dictionary.update_pdo_error_object(*index, *node, memory))
             }
+            Call::Check(channel) => Ok(dictionary.check_channel(*channel)),
+            Call::CheckAll(room) => dictionary.check_all(*room, notes),
         }
     }
 

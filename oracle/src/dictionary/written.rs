@@ -1,6 +1,7 @@
 //! Histories of writes, saves, restores and count checks, with all other calls between them.
 
 use super::calls;
+use super::checks;
 use super::image;
 use super::insertion::Insertion;
 use super::mappings;
@@ -141,9 +142,10 @@ fn history(random: &mut Random, objects: Vec<Object>) -> History {
 }
 
 fn any(random: &mut Random, objects: &[Object]) -> Call {
-    match random.below(8) {
-        0 | 1 => calls::any(random, objects),
-        2 => restores::any(random, objects),
+    match random.below(16) {
+        0..=2 => calls::any(random, objects),
+        3 => checks::any(random, objects),
+        4 | 5 => restores::any(random, objects),
         _ => writes::any(random, objects),
     }
 }
