@@ -3,35 +3,29 @@
 mod codec;
 mod rig;
 
-fn differing(right: &[bool]) -> u64 {
-    let mut n = 0;
-    let mut i = 0usize;
-    while i < right.len() {
-        if !right[i] {
-            n += 1;
-        }
-        i += 1;
+// One more that differs, unless it is right.
+fn count(differ: u64, right: bool) -> u64 {
+    if right {
+        return differ;
     }
-    n
+    std::num::wrapping_add_u64(differ, 1)
 }
 
 fn main() {
-    let right = [
-        codec::case_1(),
-        codec::case_2(),
-        codec::case_3(),
-        codec::case_4(),
-        codec::case_5(),
-        codec::case_6(),
-        rig::case_7(),
-        rig::case_8(),
-        rig::case_9(),
-        rig::case_10(),
-        rig::case_11(),
-        rig::case_12(),
-    ];
+    let n = count(0, codec::case_1());
+    let n = count(n, codec::case_2());
+    let n = count(n, codec::case_3());
+    let n = count(n, codec::case_4());
+    let n = count(n, codec::case_5());
+    let n = count(n, codec::case_6());
+    let n = count(n, rig::case_7());
+    let n = count(n, rig::case_8());
+    let n = count(n, rig::case_9());
+    let n = count(n, rig::case_10());
+    let n = count(n, rig::case_11());
+    let n = count(n, rig::case_12());
     io::print_decimal(1, 12);
     io::write_all(1, b" ");
-    io::print_decimal(1, differing(&right));
+    io::print_decimal(1, n);
     io::write_all(1, b"\n");
 }

@@ -98,8 +98,8 @@ fn is_number(a: Number, wanted: u64) -> bool {
     }
 }
 
-// What a payload comes to: 6000h, 6200h/3, the first byte of 1C81h, how many events, and the first one.
-fn comes_to(word: u64, payload: &[u8], wanted: [u64; 5]) -> bool {
+// What a payload comes to: 6000h, 6200h/3, how many events and the first one; and the first byte of 1C81h.
+fn comes_to(word: u64, payload: &[u8], wanted: [u64; 4], error: u8) -> bool {
     let mut objects = [0u64; 72];
     let mut slots = [0u64; 27];
     let mut words = [0u64; 9];
@@ -124,9 +124,9 @@ fn comes_to(word: u64, payload: &[u8], wanted: [u64; 5]) -> bool {
     (answer == 0)
         & is_number(short, wanted[0])
         & is_number(long, wanted[1])
-        & (bytes[0] as u64 == wanted[2])
-        & (count == wanted[3])
-        & (events[0] == wanted[4])
+        & (count == wanted[2])
+        & (events[0] == wanted[3])
+        & (bytes[0] == error)
 }
 
 // The bit of node 239 is in byte 29; node 240 has none.
@@ -146,7 +146,8 @@ pub fn case_8() -> bool {
     comes_to(
         TWO_BYTES,
         b"\xC4\x09\x10\x27\x00\x00",
-        [2_500, 10_000, 0, 0, 0],
+        [2_500, 10_000, 0, 0],
+        0,
     )
 }
 
@@ -155,7 +156,8 @@ pub fn case_9() -> bool {
     comes_to(
         TWO_BYTES,
         b"\xC4\x09\x10\x27\x00",
-        [2_500, 0, 0x10, 1, 0x22],
+        [2_500, 0, 1, 0x22],
+        0x10,
     )
 }
 
@@ -164,7 +166,8 @@ pub fn case_10() -> bool {
     comes_to(
         0x0008_0000_0000_6000,
         b"\xC4\x09\x10\x27\x00\x00",
-        [0, 0, 0, 1, 0x13],
+        [0, 0, 1, 0x13],
+        0,
     )
 }
 
@@ -172,7 +175,8 @@ pub fn case_11() -> bool {
     comes_to(
         0x0020_0000_0000_6000,
         b"\x90\x5F\x01\x00\x00\x00",
-        [24_464, 1, 0, 0, 0],
+        [24_464, 1, 0, 0],
+        0,
     )
 }
 
