@@ -3,14 +3,14 @@
 use crate::args::Check;
 use crate::console::Console;
 use crate::drawing;
-use crate::explain::{Element, Mapped, Target};
+use crate::explain::{Element, Mapped};
 use crate::failure::{Failure, Status};
 use crate::faults;
 use crate::json::Json;
 use crate::notes;
 use crate::rig::Rig;
 use crate::words::{self, named_place};
-use loomfinch::Checked;
+use loomfinch::{Checked, Target};
 use std::io::Write;
 
 /// A channel with what the check says of it.
@@ -108,7 +108,7 @@ fn target_words(target: Target) -> String {
         Target::Fixed { value_type, size } => {
             format!("{} of {}", words::type_with_article(value_type), words::bytes(size))
         }
-        Target::Text { value_type, room } => {
+        Target::String { value_type, room } => {
             format!("{} with room for {}", words::type_with_article(value_type), words::bytes(room))
         }
         Target::Count => "a list's count".to_string(),
@@ -194,7 +194,7 @@ fn target_json(target: Target) -> Json {
                 ("size", Json::Number(size as u64)),
             ]
         }
-        Target::Text { value_type, room } => {
+        Target::String { value_type, room } => {
             vec![
                 kind("string"),
                 ("type", Json::text(value_type.name())),

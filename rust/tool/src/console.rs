@@ -93,21 +93,22 @@ impl Console {
 
     pub fn consume(&mut self, received: Received) -> Result<Consumed, Refusal> {
         let (node, version) = (NodeId(received.sender), PDOVersion(received.version));
-        let channel = self.rig.channel_of(received.sender);
+        // A payload may change its own channel and mapping; what it is taken by is what stands before.
+        let channel = self.rig.channel_of(received.sender).filter(|_| received.ready);
+        let taken_by = channel.map(|channel| (channel, self.elements(channel)));
         let answer =
             self.dictionary.consume_pdo_payload(node, received.payload, version, received.ready)?;
         let events: Vec<EventRecord> = answer.collect();
-        let channel = match channel {
+        let (channel, elements) = match taken_by {
             _ if !received.ready => return Ok(Consumed::NotReady),
             None => return Ok(Consumed::NoChannel),
-            Some(channel) => channel,
+            Some(taken_by) => taken_by,
         };
         if events.iter().any(|record| record.event == Event::MapVersion) {
             let expected = self.rig.record_u8(0x1400 + u16::from(channel), 2).unwrap_or(0);
             let noted = self.noted(WRONG_VERSIONS);
             return Ok(Consumed::WrongVersion { channel, expected, noted });
         }
-        let elements = self.elements(channel);
         let steps = self.steps(elements, &events);
         let short = events.iter().any(|record| record.event == Event::PayloadShort(Cause::Frame));
         let noted = if short { self.noted(SHORT_PAYLOADS) } else { None };
@@ -116,8 +117,9 @@ impl Console {
 
     /// The explained mapping of a channel.
     pub fn elements(&mut self, channel: u8) -> Vec<Element> {
-        let rig = &self.rig;
-        self.explained.entry(channel).or_insert_with(|| explain::mapping(rig, channel)).clone()
+        let dictionary = &self.dictionary;
+        let explained = self.explained.entry(channel);
+        explained.or_insert_with(|| explain::mapping(dictionary, channel)).clone()
     }
 
     /// Each element with its outcome. The old values are taken before the first is read again, since two elements may

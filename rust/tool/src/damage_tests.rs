@@ -82,7 +82,7 @@ fn use_rig(text: &[u8]) -> bool {
     true
 }
 
-/// The explained elements have just the faults that the library names.
+/// The explained elements have just the faults that the check names.
 fn assert_explained(console: &mut Console) {
     for (channel, checked) in console.check().unwrap() {
         let elements = console.elements(channel);

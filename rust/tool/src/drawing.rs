@@ -1,9 +1,9 @@
 //! A payload drawn in text: which bytes go to which object, where fields overlap, what is cut.
 
-use crate::explain::{Element, Target};
+use crate::explain::Element;
 use crate::rig::Rig;
 use crate::words::named_place;
-use loomfinch::Fault;
+use loomfinch::{Fault, Target};
 use std::ops::Range;
 
 /// A field of the payload and what becomes of its bytes.

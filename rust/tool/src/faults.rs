@@ -1,9 +1,9 @@
 //! The faults of the check in plain words.
 
-use crate::explain::{Element, Mapped, Target};
+use crate::explain::{Element, Mapped};
 use crate::rig::{Place, Rig};
 use crate::words::{self, named_place, place};
-use loomfinch::{Checked, Fault, PdoMappingEntry, ValueType, MOST_PAYLOAD_BYTES};
+use loomfinch::{Checked, Fault, PdoMappingEntry, Target, ValueType, MOST_PAYLOAD_BYTES};
 
 /// Why a channel does not pass.
 pub fn sentence(rig: &Rig, channel: u8, checked: Checked, elements: &[Element]) -> String {
@@ -122,13 +122,13 @@ fn wrong_length(at: &str, mapped: &Mapped) -> String {
                 )
             }
         }
-        Target::Text { value_type, room } if length > room => format!(
+        Target::String { value_type, room } if length > room => format!(
             "{}, {} with room for {}: nothing would be written",
             maps,
             words::type_with_article(value_type),
             words::bytes(room)
         ),
-        Target::Text { value_type: ValueType::UnicodeString, .. } => {
+        Target::String { value_type: ValueType::UnicodeString, .. } => {
             format!("{maps}, a UnicodeString of 2 bytes a character: every payload stops there")
         }
         _ => maps,

@@ -1,9 +1,9 @@
 //! Why a field of a payload was not written, in plain words.
 
 use crate::console::Received;
-use crate::explain::{Element, Mapped, Target};
+use crate::explain::{Element, Mapped};
 use crate::words;
-use loomfinch::{Cause, Unwritten};
+use loomfinch::{Cause, Target, Unwritten};
 
 pub fn passed_over(element: &Element) -> &'static str {
     match &element.mapped {
@@ -18,7 +18,7 @@ pub fn passed_over(element: &Element) -> &'static str {
 pub fn refused(why: Unwritten, element: &Element) -> String {
     match (why, &element.mapped) {
         (Unwritten::CountNotWritable, _) => "it is a list's count".to_string(),
-        (Unwritten::TooLong, Some(mapped @ Mapped { target: Target::Text { room, .. }, .. })) => {
+        (Unwritten::TooLong, Some(mapped @ Mapped { target: Target::String { room, .. }, .. })) => {
             format!("{} are more than its room of {}", words::bytes(mapped.length()), room)
         }
         (Unwritten::TooLong, _) => "it is longer than its room".to_string(),

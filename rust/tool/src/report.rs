@@ -1,12 +1,12 @@
 //! What a payload changed, told line by line.
 
 use crate::console::{Change, Consumed, Outcome, Received, Step};
-use crate::explain::{Mapped, Target};
+use crate::explain::Mapped;
 use crate::faults::last_bytes;
 use crate::reasons;
 use crate::rig::{Rig, Value};
 use crate::words::{self, named_place, Style};
-use loomfinch::ValueType;
+use loomfinch::{Target, ValueType};
 
 /// A payload's story, and what of it a table counts.
 #[derive(Default)]

@@ -133,12 +133,6 @@ impl Rig {
         }
     }
 
-    /// The elements of a channel's mapping; none where 1600h+channel is no list.
-    pub fn mapping_list(&self, channel: u8) -> Option<&[Value]> {
-        let object = self.objects.get(&(0x1600 + u16::from(channel)))?;
-        Some(object.values.as_slice()).filter(|_| object.is_list())
-    }
-
     /// The sender that a channel's record names, whoever else names it.
     pub fn named_sender(&self, channel: u8) -> Option<u8> {
         match self.record_u8(0x1400 + u16::from(channel), 1)? {

@@ -25,8 +25,7 @@ fn the_set_up_of_the_cases() {
     ";
     let rig = parse(text.as_bytes()).unwrap();
     assert_eq!(rig.objects.len(), 5);
-    let words: Vec<Option<u64>> =
-        rig.mapping_list(0).unwrap().iter().map(Value::unsigned).collect();
+    let words: Vec<Option<u64>> = rig.objects[&0x1600].values.iter().map(Value::unsigned).collect();
     assert_eq!(
         words,
         [0x0010_0000_0000_6000, 0x0020_0010_0003_6200, 0x0020_0010_0003_6200].map(Some)
