@@ -41,7 +41,7 @@ fn channel(random: &mut Random, objects: &[Object]) -> u8 {
     }
 }
 
-/// Just enough numbers, most times, more, or too few.
+/// With just enough numbers, more, or too few.
 fn explain(random: &mut Random, channel: u8, element: u8) -> Call {
     let few = random.below(NUMBERS);
     let room = random.pick(&[NUMBERS, NUMBERS, NUMBERS, NUMBERS + 1, 40, NUMBERS - 1, few, 0]);

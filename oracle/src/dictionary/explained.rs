@@ -1,6 +1,6 @@
 //! What explaining an element must give: RULES.md R12.14 and R12.15 on the plain objects, written
-//! from the rules alone. What the check says of the element is told from the other numbers alone,
-//! and shares nothing with checked.rs.
+//! from the rules alone. What the check says of the element is told from the other numbers, not by
+//! checked.rs.
 
 use super::model::{Object, VARIABLE, Value, is_string};
 use super::running::{Word, row};
@@ -20,7 +20,8 @@ const UNSIGNED8: u64 = 5;
 const UNSIGNED64: u64 = 8;
 
 /// What is at an element's place (R12.14).
-const THERE: [&str; 4] = ["no object there", "no sub-index there", "a count there", "a value there"];
+const THERE: [&str; 4] =
+    ["no object there", "no sub-index there", "a count there", "a value there"];
 
 /// Numbers of the faults that name an element, and 0 for none.
 const VERDICTS: [u64; 7] = [0, 33, 34, 35, 36, 37, 38];
@@ -142,7 +143,7 @@ impl Named {
 
 const EXPLAIN: &str = "explain";
 
-/// What of a refusal must be reached.
+/// The refusals, and each way to come to them.
 const REFUSALS: [(u64, Option<&str>); 8] = [
     (1, None),
     (3, Some("no mapping")),
