@@ -8,7 +8,7 @@ int clock_gettime(int clock, void *time);
 // dictionary/link.rs has the same numbers.
 enum { BEGIN, LEND, PUT, FETCH, TIME };
 enum { NEW = 8, INSERT, READ, READ_U8, READ_U16, READ_U32, READ_U64, FIND, CNS, COUNTER };
-enum { WRITE = COUNTER + 1, VALIDATE, RESTORE, CONSUME, CYCLE, ERROR_BIT, CHECK, CHECK_ALL };
+enum { WRITE = COUNTER + 1, VALIDATE, RESTORE, CONSUME, CYCLE, ERROR_BIT, CHECK, CHECK_ALL, EXPLAIN };
 
 // The dictionary's four slices, and the store.
 enum { SLICES = 5, LARGEST = 32768 };
@@ -22,7 +22,8 @@ static int start_side;
 // is `index` and `kind`. A payload is `encodings`, its sender and version stand in
 // the sub-index's and the kind's place, ready in the access's; the payloads of a cycle
 // are `vals`. A node whose bit is set stands in the sub-index's place, and so does a channel
-// to check; the numbers of all channels are lent as `events`.
+// to check, or whose element, as `kind`, is explained; the numbers of all channels are lent as
+// `events`.
 struct call {
     u64 op, index, sub_index, kind, access, has_default;
     u64 name, vals, encodings, numbers, out, events;
@@ -76,6 +77,8 @@ static u64 answer(const struct call *c) {
         return loomfinch_check(DICTIONARY, sub_index, number);
     case CHECK_ALL:
         return loomfinch_check_all(DICTIONARY, WORDS(events), number);
+    case EXPLAIN:
+        return loomfinch_explain(DICTIONARY, sub_index, (u8)c->kind, WORDS(numbers));
     default:
         return loomfinch_increment_counter(DICTIONARY, index, sub_index);
     }

@@ -14,6 +14,7 @@ mod consumed;
 mod consuming;
 mod damage;
 mod demand;
+mod explained;
 mod faults;
 mod fields;
 mod histories;

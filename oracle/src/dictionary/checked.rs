@@ -56,6 +56,12 @@ impl Dictionary {
     }
 }
 
+/// The element that a fault of the channel names.
+pub fn named(objects: &[Object], channel: u8) -> Option<u8> {
+    let Fault(_, element, _) = fault(objects, channel, &matched(objects))?;
+    (element > 0).then_some(element as u8)
+}
+
 /// The first match of each sender.
 fn matched(objects: &[Object]) -> Vec<Option<u16>> {
     (0..=u8::MAX).map(|sender| channel_of(objects, sender)).collect()

@@ -5,6 +5,7 @@ use super::calls;
 use super::checked::LEAST_NUMBERS;
 use super::checks;
 use super::consumed;
+use super::explained;
 use super::fields;
 use super::image::{self, Record};
 use super::malice;
@@ -51,9 +52,10 @@ pub fn compare(trial: &mut Trial, random: &mut Random) {
         trial.compare(damaged(random));
     }
     trial.demand(lacking);
+    trial.demand(explained::lacking);
 }
 
-/// A check, most times.
+/// A check or an explanation, most times.
 fn any(random: &mut Random, objects: &[Object]) -> Call {
     match random.below(10) {
         0 => calls::any(random, objects),
@@ -65,7 +67,7 @@ fn any(random: &mut Random, objects: &[Object]) -> Call {
 }
 
 /// One dictionary after another in the same memory, each with the checks of two channels and of
-/// all.
+/// all, and the elements of one explained.
 fn in_turn(random: &mut Random, dictionaries: &[Vec<Object>]) -> History {
     let needed = dictionaries.iter().map(|objects| Used::of(objects).lengths());
     let most = |a: [usize; 4], b: [usize; 4]| std::array::from_fn(|slice| a[slice].max(b[slice]));
@@ -73,8 +75,9 @@ fn in_turn(random: &mut Random, dictionaries: &[Vec<Object>]) -> History {
     let mut steps = Vec::new();
     for objects in dictionaries {
         steps.push(Step::Lay(objects.clone()));
-        let checks = [Call::Check(0), Call::Check(1), Call::CheckAll(LEAST_NUMBERS)];
+        let checks = [Call::Check(1), Call::CheckAll(LEAST_NUMBERS), Call::Check(0)];
         steps.extend(checks.map(Step::Call));
+        steps.extend(checks::explain_all(random, objects, 0).into_iter().map(Step::Call));
     }
     History { first: Lent { at_start: random.below(2) == 0, lengths, store: 0 }, steps }
 }

@@ -2,6 +2,7 @@
 //! crates/cases/src/history.rt reads; its first comment is their format.
 
 use super::checked::{NO_SENDER, TOO_FAR};
+use super::explained;
 use super::insertion::Insertion;
 use super::memory::{Lent, Memory};
 use super::model::{self, Object, is_string};
@@ -87,9 +88,20 @@ impl Lines {
         };
         let given = given(&call, self.memory().store.len());
         self.line(&format!("{given} {answer:X}{found}"));
-        self.calls += 1;
-        if self.calls.is_multiple_of(CALLS_A_SUM) {
-            self.sum();
+        // An explanation belongs to its check, and has no turn of its own: the file has little room.
+        if !matches!(call, Call::Explain { .. }) {
+            self.calls += 1;
+            if self.calls.is_multiple_of(CALLS_A_SUM) {
+                self.sum();
+            }
+        }
+    }
+
+    /// The check of a channel, and the explanation of the element that it names.
+    pub fn check(&mut self, channel: u8) {
+        self.call(Call::Check(channel));
+        if let Some(element) = self.world.named.element() {
+            self.call(Call::Explain { channel, element, room: MOST_NUMBERS_GIVEN });
         }
     }
 
@@ -156,6 +168,7 @@ pub fn sayable(call: &Call) -> bool {
                 && given.payloads.len().max(given.room) <= MOST_NUMBERS_GIVEN
         }
         Call::CheckAll(room) => *room <= MOST_NUMBERS_GIVEN,
+        Call::Explain { room, .. } => *room == MOST_NUMBERS_GIVEN,
         Call::UpdatePdoErrorObject { .. } | Call::Check(_) => true,
     }
 }
@@ -193,6 +206,7 @@ fn given(call: &Call, store: usize) -> String {
         Call::UpdatePdoErrorObject { index, node } => format!("B {index:X} {node:X}"),
         Call::Check(channel) => format!("K {channel:X}"),
         Call::CheckAll(room) => format!("L {room:X}"),
+        Call::Explain { channel, element, .. } => format!("X {channel:X} {element:X}"),
     }
 }
 
@@ -215,6 +229,7 @@ fn found(call: &Call, outcome: &Outcome, memory: &Memory) -> String {
             let [consumed, count] = [numbers[0], numbers[1]];
             format!(" {consumed:X} {count:X}{}", listed(&events[..count as usize]))
         }
+        Call::Explain { .. } => listed(&numbers[..explained::NUMBERS]),
         Call::Read { .. } => {
             let (kind, word, start) = (numbers[0], numbers[1], numbers[2] as usize);
             // World has held the string in memory against the Rust's.

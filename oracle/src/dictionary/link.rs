@@ -29,6 +29,7 @@ const CYCLE: u64 = 22;
 const ERROR_BIT: u64 = 23;
 const CHECK: u64 = 24;
 const CHECK_ALL: u64 = 25;
+const EXPLAIN: u64 = 26;
 
 /// Cells of one slice that a call changed, from the first one on.
 #[derive(Clone)]
@@ -122,6 +123,7 @@ fn place(call: &Call) -> (u64, u64, u64) {
         Call::UpdatePdoErrorObject { index, node } => at(ERROR_BIT, index, node),
         Call::Check(channel) => at(CHECK, &0, channel),
         Call::CheckAll(_) => (CHECK_ALL, 0, 0),
+        Call::Explain { channel, .. } => at(EXPLAIN, &0, channel),
     }
 }
 
@@ -134,6 +136,9 @@ fn calling(call: &Call) -> Vec<u64> {
         }
         Call::RestorePowerOnValues { last, .. } => {
             Insertion { shape: u64::from(*last), ..Insertion::default() }
+        }
+        Call::Explain { element, .. } => {
+            Insertion { shape: u64::from(*element), ..Insertion::default() }
         }
         Call::ConsumePdoPayload(Received { payload, version, ready, .. }) => Insertion {
             shape: u64::from(*version),

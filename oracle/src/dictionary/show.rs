@@ -100,6 +100,9 @@ pub fn call(call: &Call) -> String {
         Call::UpdatePdoErrorObject { index, node } => format!("{name} {index:04X}h, node {node}"),
         Call::Check(channel) => format!("{name} channel {channel}"),
         Call::CheckAll(room) => format!("{name}, {room} numbers lent"),
+        Call::Explain { channel, element, room } => {
+            format!("{name} channel {channel} element {element}, {room} numbers lent")
+        }
     }
 }
 

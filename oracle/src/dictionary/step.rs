@@ -45,6 +45,12 @@ pub enum Call {
     Check(u8),
     /// With how many numbers are lent, which stand among the outcome's events.
     CheckAll(usize),
+    /// Of an element of a channel's list, with how many numbers are lent.
+    Explain {
+        channel: u8,
+        element: u8,
+        room: usize,
+    },
 }
 
 /// A place, and the value for it as its type and its encoding.
@@ -165,6 +171,7 @@ impl Call {
             Self::UpdatePdoErrorObject { .. } => "update_pdo_error_object",
             Self::Check(_) => "check",
             Self::CheckAll(_) => "check_all",
+            Self::Explain { .. } => "explain",
         }
     }
 
@@ -179,6 +186,7 @@ impl Call {
             Self::RestorePowerOnValues { .. } | Self::UpdatePdoErrorObject { .. } => (0, 0),
             Self::ConsumePdoPayload(_) | Self::Check(_) | Self::CheckAll(_) => (1, 0),
             Self::ConsumeCycle(_) => (2, 0),
+            Self::Explain { room, .. } => (*room, 0),
         }
     }
 
@@ -200,7 +208,7 @@ impl Call {
             Self::ConsumePdoPayload(_) | Self::ConsumeCycle(_) => true,
             Self::Read { .. } | Self::ReadNumber { .. } | Self::FindByName(_) => false,
             Self::GetConfiguredCns(_) | Self::ValidatePdoMapping { .. } => false,
-            Self::Check(_) | Self::CheckAll(_) => false,
+            Self::Check(_) | Self::CheckAll(_) | Self::Explain { .. } => false,
         }
     }
 }

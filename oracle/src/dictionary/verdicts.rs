@@ -3,6 +3,7 @@
 use super::checked::LEAST_NUMBERS;
 use super::checks;
 use super::consuming::LEAST_ROOM;
+use super::explained::lacking_named;
 use super::faults::{lacking, mapped};
 use super::fields;
 use super::lines::{LENT, Lines, STORE_BYTES, sayable};
@@ -35,12 +36,12 @@ pub fn print() {
         mixture(&mut lines, random);
     }
     damage(&mut lines);
-    let lacking = lacking(&lines.tally);
+    let lacking = [lacking(&lines.tally), lacking_named(&lines.tally)].concat();
     assert!(lacking.is_empty(), "the lines lack {lacking:?}");
     print!("{}", lines.finish());
 }
 
-/// Of every channel that has an object, and of all.
+/// Of every channel that has an object, each with the element that it names, and of all.
 fn each_check(lines: &mut Lines, objects: &[Object]) {
     let of_channels = |index: u64| matches!(index, 0x1400..=0x14FF | 0x1600..=0x16FF);
     let channels = objects.iter().filter(|object| of_channels(object.index));
@@ -50,7 +51,7 @@ fn each_check(lines: &mut Lines, objects: &[Object]) {
     if channels.is_empty() {
         channels.push(0);
     }
-    channels.into_iter().for_each(|channel| lines.call(Call::Check(channel)));
+    channels.into_iter().for_each(|channel| lines.check(channel));
     lines.call(Call::CheckAll(LEAST_NUMBERS));
 }
 
@@ -137,7 +138,7 @@ fn mixture(lines: &mut Lines, random: &mut Random) {
         let call = until(|| {
             let call = match random.below(3) {
                 0 => payloads::any(random, &objects),
-                _ => checks::any(random, &objects),
+                _ => checks::check(random, &objects),
             };
             Some(call).filter(is_short)
         });

@@ -1,6 +1,7 @@
 //! What a history must give, call by call: the memory after it, and the answer
 //! that the Rust has for it, or where the Rust has none, document 01.
 
+use super::explained::Named;
 use super::insertion::Insertion;
 use super::malformed;
 use super::memory::{Lent, Memory, ROW};
@@ -34,6 +35,7 @@ pub struct Dictionary {
 pub struct World {
     pub memory: Memory,
     known: Known,
+    pub named: Named,
 }
 
 /// The wanted outcome, and which part of its rule gave it.
@@ -65,7 +67,7 @@ impl World {
 
     /// Memory with anything in it.
     pub fn on(memory: Memory) -> Self {
-        Self { memory, known: Known::Nothing }
+        Self { memory, known: Known::Nothing, named: Named::default() }
     }
 
     /// What is done without a call.
@@ -81,6 +83,7 @@ impl World {
             Step::Call(_) => unreachable!("a call has an answer"),
         }
         self.known = Known::Nothing;
+        self.named = Named::default();
     }
 
     pub fn call(&mut self, call: &Call) -> Wanted {
@@ -105,6 +108,7 @@ impl World {
                 cause
             }
         };
+        self.named.follow(call, &outcome, &mut notes);
         Wanted { outcome, cause, notes }
     }
 
@@ -112,7 +116,7 @@ impl World {
         if *call == Call::New {
             return self.make_new();
         }
-        let Self { memory, known } = self;
+        let Self { memory, known, .. } = self;
         let dictionary = judged(memory, known)?;
         match call {
             Call::New => unreachable!("new judges no dictionary"),
@@ -143,6 +147,9 @@ impl World {
             }
             Call::Check(channel) => Ok(dictionary.check_channel(*channel)),
             Call::CheckAll(room) => dictionary.check_all(*room, notes),
+            Call::Explain { channel, element, room } => {
+                dictionary.explain(*channel, *element, *room, notes)
+            }
         }
     }
 
