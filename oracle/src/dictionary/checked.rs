@@ -10,12 +10,12 @@ use crate::original::{BUFFER_TOO_SHORT, UNICODE_STRING, size};
 /// Numbers of the faults (R12.12).
 pub const NO_SENDER: u64 = 31;
 const NO_LIST: u64 = 32;
-const NOT_MAPPING: u64 = 33;
-const MISALIGNED: u64 = 34;
-const HAND_OFF: u64 = 35;
-const NO_TARGET: u64 = 36;
-const COUNT_TARGET: u64 = 37;
-const WRONG_LENGTH: u64 = 38;
+pub const NOT_MAPPING: u64 = 33;
+pub const MISALIGNED: u64 = 34;
+pub const HAND_OFF: u64 = 35;
+pub const NO_TARGET: u64 = 36;
+pub const COUNT_TARGET: u64 = 37;
+pub const WRONG_LENGTH: u64 = 38;
 pub const TOO_FAR: u64 = 39;
 
 /// Three for each of 256 channels.

@@ -1,7 +1,8 @@
 //! What explaining an element must give: RULES.md R12.14 and R12.15 on the plain objects, written
-//! from the rules alone. What the check says of the element is told from the other numbers, not by
-//! checked.rs.
+//! from the rules alone. What the check says of the element is told from the other numbers, and
+//! only the faults' numbers are those of checked.rs.
 
+use super::checked::{COUNT_TARGET, HAND_OFF, MISALIGNED, NO_TARGET, NOT_MAPPING, WRONG_LENGTH};
 use super::model::{Object, VARIABLE, Value, is_string};
 use super::running::{Word, row};
 use super::step::{Call, Outcome};
@@ -19,12 +20,17 @@ const SUB_OBJECT_NOT_FOUND: u64 = 4;
 const UNSIGNED8: u64 = 5;
 const UNSIGNED64: u64 = 8;
 
-/// What is at an element's place (R12.14).
+/// What is at an element's place, and the names of these for the tally.
+const NO_OBJECT: u64 = 0;
+const NO_SUB_OBJECT: u64 = 1;
+const A_COUNT: u64 = 2;
+const A_VALUE: u64 = 3;
 const THERE: [&str; 4] =
     ["no object there", "no sub-index there", "a count there", "a value there"];
 
 /// Numbers of the faults that name an element, and 0 for none.
-const VERDICTS: [u64; 7] = [0, 33, 34, 35, 36, 37, 38];
+const VERDICTS: [u64; 7] =
+    [0, NOT_MAPPING, MISALIGNED, HAND_OFF, NO_TARGET, COUNT_TARGET, WRONG_LENGTH];
 
 impl Dictionary {
     pub fn explain(
@@ -40,7 +46,7 @@ impl Dictionary {
         }
         let numbers = match value.kind {
             UNSIGNED64 => of_word(&self.objects, value.word),
-            kind => [33, kind, 0, 0, 0, 0, 0, 0, 0, 0, 0],
+            kind => [NOT_MAPPING, kind, 0, 0, 0, 0, 0, 0, 0, 0, 0],
         };
         if value.kind == UNSIGNED64 {
             notes.push(THERE[numbers[8] as usize]);
@@ -70,13 +76,13 @@ fn of_word(objects: &[Object], word: u64) -> [u64; NUMBERS] {
     let [first, bytes] = if word.is_aligned() { [offset / 8, length / 8] } else { [0, 0] };
     let [there, kind, holds] = target(objects, word.index, word.sub_index);
     let said = match word.index {
-        _ if !word.is_aligned() => 34,
-        0x1200..=0x12FF => 35,
+        _ if !word.is_aligned() => MISALIGNED,
+        0x1200..=0x12FF => HAND_OFF,
         _ => match there {
-            0 | 1 => 36,
-            2 => 37,
+            NO_OBJECT | NO_SUB_OBJECT => NO_TARGET,
+            A_COUNT => COUNT_TARGET,
             _ if fits(kind, holds, bytes) => 0,
-            _ => 38,
+            _ => WRONG_LENGTH,
         },
     };
     let (index, sub_index) = (word.index.into(), word.sub_index.into());
@@ -86,15 +92,17 @@ fn of_word(objects: &[Object], word: u64) -> [u64; NUMBERS] {
 /// What is there, its type, and how many bytes it holds.
 fn target(objects: &[Object], index: u16, sub_index: u8) -> [u64; 3] {
     let Some(row) = row(objects, index) else {
-        return [0, 0, 0];
+        return [NO_OBJECT, 0, 0];
     };
     let object = &objects[row];
     if object.shape != VARIABLE && sub_index == 0 {
-        return [2, UNSIGNED8, 1];
+        return [A_COUNT, UNSIGNED8, 1];
     }
     match element(object, sub_index).map(|place| &object.values[place]) {
-        Some(Value { kind, room, .. }) => [3, *kind, size(*kind).unwrap_or(room.len()) as u64],
-        None => [1, 0, 0],
+        Some(Value { kind, room, .. }) => {
+            [A_VALUE, *kind, size(*kind).unwrap_or(room.len()) as u64]
+        }
+        None => [NO_SUB_OBJECT, 0, 0],
     }
 }
 
