@@ -9,3 +9,4 @@ pub mod ExplainLaws
 pub mod LastLaws
 pub mod CallLaws
 pub mod HoldLaws
+pub mod NewLaws
