@@ -49,6 +49,7 @@ mod step;
 mod stored;
 mod stores;
 mod tally;
+mod times;
 mod traps;
 mod trial;
 mod tried;

@@ -9,9 +9,10 @@ use super::model::{Object, Used};
 use super::objects::using;
 use super::payload_times;
 use super::restores;
-use super::rooms::table;
+use super::rooms;
 use super::rust::Rust;
 use super::step::{Call, Cycle, History, Received, Step, Write};
+use super::times::{Table, count};
 use super::writes;
 use crate::original;
 use crate::port::Port;
@@ -40,61 +41,75 @@ pub struct Setting {
     pub records: Vec<Record>,
 }
 
+/// The most of each that a dictionary has.
+const LARGEST: Used = Used { objects: 1024, values: 6144, bytes: 32_768 };
+
 pub fn print(port: &mut Port, random: &mut Random) {
-    println!("objects  values  call                         port ns     Rust ns   ratio");
+    let mut table = Table::begin();
     for objects in [20, 200, 1000] {
-        let setting =
-            third_saved(random, Used { objects, values: 4 * objects, bytes: 20 * objects });
-        for (name, call) in calls(&setting.objects) {
-            row(port, &setting, name, &call);
-        }
+        let used = Used { objects, values: 4 * objects, bytes: 20 * objects };
+        let setting = saved(random, used, 3);
+        row(port, &mut table, &setting, "insert", &insertion(&setting.objects));
+        rows(port, &mut table, &setting);
     }
+    // A fourth is saved: a third would be over 2,048 records.
+    rows(port, &mut table, &saved(random, LARGEST, 4));
     for records in [0, 512, 1024, 2048] {
         let setting = evenly_saved(random, records);
-        let name = format!("restore, {records} records");
-        row(port, &setting, &name, &restores::everything());
+        let name = format!("restore_power_on_values, {} records", count(records));
+        row(port, &mut table, &setting, &name, &restores::everything());
     }
+    payload_times::print(port, random, &mut table);
     judging(port, random);
-    payload_times::print(port, random);
 }
 
-fn row(port: &mut Port, setting: &Setting, name: &str, call: &Call) {
+fn rows(port: &mut Port, table: &mut Table, setting: &Setting) {
+    for (name, call) in calls() {
+        row(port, table, setting, name, &call);
+    }
+}
+
+fn row(port: &mut Port, table: &mut Table, setting: &Setting, name: &str, call: &Call) {
     let port_time = port_time(port, setting, call);
     let rust_time = least(|_| rust_time(setting, call));
-    let ratio = port_time / rust_time;
-    let Used { objects, values, .. } = Used::of(&setting.objects);
-    println!("{objects:7} {values:7}  {name:24} {port_time:11.0} {rust_time:11.1} {ratio:7.1}");
+    let Used { objects, values, bytes } = Used::of(&setting.objects);
+    let [objects, values, bytes] = [objects, values, bytes].map(count);
+    let dictionary = format!("{objects} objects, {values} values, {bytes} bytes");
+    table.row(&dictionary, name, port_time, Some(rust_time));
 }
 
-/// Every third object is saved: of 4,000 values more would be over 2,048 records.
-fn third_saved(random: &mut Random, used: Used) -> Setting {
+/// Every so manyth object is saved.
+fn saved(random: &mut Random, used: Used, every: usize) -> Setting {
     let mut objects = using(random, used);
-    objects.iter_mut().step_by(3).for_each(|object| object.access = READ_WRITE_STORE);
+    objects.iter_mut().step_by(every).for_each(|object| object.access = READ_WRITE_STORE);
     let saved = objects.iter().filter(|object| object.access == READ_WRITE_STORE);
-    let records = table(&saved.cloned().collect::<Vec<Object>>());
+    let records = rooms::table(&saved.cloned().collect::<Vec<Object>>());
     Setting { objects, records }
 }
 
 /// The most values, and so many records, which lie evenly among them.
 fn evenly_saved(random: &mut Random, records: usize) -> Setting {
     let objects = using(random, Used { objects: 1000, values: 6144, bytes: 0 });
-    let all = table(&objects);
+    let all = rooms::table(&objects);
     let records = (0..records).map(|k| all[k * all.len() / records].clone()).collect();
     Setting { objects, records }
 }
 
-fn calls(dictionary: &[Object]) -> [(&'static str, Call); 8] {
+fn insertion(dictionary: &[Object]) -> Call {
     let mut inserted = dictionary[9].clone();
     inserted.index = BETWEEN.into();
+    Call::Insert(Insertion::of(&inserted))
+}
+
+fn calls() -> [(&'static str, Call); 7] {
     let sub_index = 1;
     [
-        ("insert", Call::Insert(Insertion::of(&inserted))),
         ("read", Call::Read { index: PRESENT, sub_index, numbers: 3 }),
-        ("read, no such object", Call::Read { index: MISSING, sub_index, numbers: 3 }),
-        ("find_by_name, none", Call::FindByName(b"no such name".to_vec())),
+        ("read, no such object", missing()),
+        ("find_by_name, no such name", Call::FindByName(b"no such name".to_vec())),
         ("increment_counter", Call::IncrementCounter { index: PRESENT, sub_index }),
         ("write", writes::write(PRESENT, sub_index, UNSIGNED32, &[1, 2, 3, 4])),
-        ("write, save", writes::save(1)),
+        ("write, a save of everything", writes::save(1)),
         ("restore_power_on_values", restores::everything()),
     ]
 }
@@ -102,18 +117,18 @@ fn calls(dictionary: &[Object]) -> [(&'static str, Call); 8] {
 /// A call that does little else than judge, on dictionaries of ever more
 /// objects, values and bytes of text: what one more of each costs.
 fn judging(port: &mut Port, random: &mut Random) {
-    let call = Call::Read { index: MISSING, sub_index: 1, numbers: 3 };
     let mut time = |objects, values, bytes| {
         let objects = using(random, Used { objects, values, bytes });
-        port_time(port, &Setting { objects, records: Vec::new() }, &call)
+        port_time(port, &Setting { objects, records: Vec::new() }, &missing())
     };
     let bare = time(1000, 0, 0);
     let named = time(1000, 0, 32_000);
     let valued = time(1000, 6000, 0);
     let [object, value] = [bare / 1000.0, (valued - bare) / 6000.0];
     let byte = (named - bare) / 32_000.0;
+    println!();
     println!(
-        "judging, in the port: {object:.1} ns an object, {value:.1} ns a value, {byte:.2} ns a byte of a name"
+        "Judging alone: {object:.1} ns an object, {value:.1} ns a value, {byte:.2} ns a byte of a name."
     );
 }
 

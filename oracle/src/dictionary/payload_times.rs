@@ -5,6 +5,7 @@ use super::bench::{self, Setting};
 use super::consuming::LEAST_ROOM;
 use super::model::*;
 use super::step::{Call, Cycle, Received};
+use super::times::{Table, count};
 use crate::port::Port;
 use crate::random::Random;
 
@@ -21,32 +22,49 @@ const TARGET: u64 = 0x6000;
 const PAYLOADS: u64 = 32;
 const LENGTH: u64 = 4 * FIELDS;
 
-pub fn print(port: &mut Port, random: &mut Random) {
-    println!(
-        "objects records channel  call                port ns     Rust ns   ratio  judging ns"
-    );
+/// Numbers that are lent to a check of all channels, and to an explanation.
+const CHECK_ALL: usize = 768;
+const EXPLAIN: usize = 11;
+
+pub fn print(port: &mut Port, random: &mut Random, table: &mut Table) {
     for objects in [20, 200, 1000] {
         for records in [1, 256] {
             for channel in [0, 255] {
                 let setting = setting(objects, records, channel);
-                rows(port, random, &setting, records, channel);
+                rows(port, random, table, &setting, records, channel);
             }
         }
     }
 }
 
-/// Judging is the time of a call that does nothing else: a read of what is not there.
-fn rows(port: &mut Port, random: &mut Random, setting: &Setting, records: u64, channel: u64) {
-    let judging = bench::port_time(port, setting, &bench::missing());
-    let objects = setting.objects.len();
-    for (name, call) in [("payload", payload(random)), ("cycle of 32", cycle(random))] {
+/// The Rust has no check. Judging is the time of a call that does nothing else: a read of what is
+/// not there.
+fn rows(
+    port: &mut Port,
+    random: &mut Random,
+    table: &mut Table,
+    setting: &Setting,
+    records: u64,
+    channel: u64,
+) {
+    let objects = count(setting.objects.len());
+    let dictionary =
+        format!("{objects} objects, channel {channel}, records of channels: {records}");
+    let consumed = [("a payload", payload(random)), ("a cycle of 32 payloads", cycle(random))];
+    for (name, call) in consumed {
         let port_time = bench::port_time(port, setting, &call);
         let rust_time = bench::least(|_| bench::rust_time(setting, &call));
-        let ratio = port_time / rust_time;
-        println!(
-            "{objects:7} {records:7} {channel:7}  {name:15} {port_time:11.0} {rust_time:11.0} \
-             {ratio:7.2} {judging:11.0}"
-        );
+        table.row(&dictionary, name, port_time, Some(rust_time));
+    }
+    let channel = channel as u8;
+    let added = [
+        ("check", Call::Check(channel)),
+        ("check_all", Call::CheckAll(CHECK_ALL)),
+        ("explain", Call::Explain { channel, element: 1, room: EXPLAIN }),
+        ("judging alone", bench::missing()),
+    ];
+    for (name, call) in added {
+        table.row(&dictionary, name, bench::port_time(port, setting, &call), None);
     }
 }
 
