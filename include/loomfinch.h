@@ -1,4 +1,4 @@
-/* The calls of libloomfinch.a (rt staticlib loomfinch), for x86-64.
+/* The calls of libloomfinch.a (./library), for x86-64.
  *
  * A slice is a pointer and then a length in elements; the pointer is never null, also where the length is 0. What is lent to
  * one call does not overlap. A call answers a number of docs/RULES.md, 0 for done; a refusal changes nothing that was lent.

@@ -18,7 +18,7 @@ fn main() {
     println!("cargo:rerun-if-changed={}", library.display());
     if !library.is_file() {
         stop(&format!(
-            "{} is missing: make it with `rt staticlib loomfinch`, or name its folder in LOOMFINCH_LIB, by an absolute path",
+            "{} is missing: make it with `./library`, or name its folder in LOOMFINCH_LIB, by an absolute path",
             library.display()
         ));
     }

@@ -48,7 +48,7 @@
 //! program fails, the call panics.
 //!
 //! The library is looked for in the folder that the environment variable `LOOMFINCH_LIB` names by an absolute path, else in
-//! the repository's target/staticlib, where `rt staticlib loomfinch` makes it.
+//! the repository's target/staticlib, where `./library` makes it.
 
 // sys.rs alone has unsafe code, and stands in the crate on x86-64 alone.
 #![cfg_attr(target_arch = "x86_64", deny(unsafe_code))]
