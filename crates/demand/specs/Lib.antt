@@ -1,3 +1,4 @@
 pub mod Demand
 pub mod Lasting
 pub mod Ends
+pub mod Twelve

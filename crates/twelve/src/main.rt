@@ -1,5 +1,5 @@
 // Runs document 01's twelve cases on the public calls, and writes how many were run, a space, how many differ, and a newline.
-// specs/Twelve.antt has the same table, computed.
+// crates/demand/specs/Twelve.antt has the same table, computed.
 mod codec;
 mod rig;
 
