@@ -8,7 +8,7 @@ use Rattle.lists.specs.Lists.{over}
 use Rattle.text.specs.Machine.{judgeAt}
 use Rattle.mapping.specs.Word.{entryOf, fieldOf}
 use Rattle.value.specs.Codec.{sizeOf, wordAt, textWord, encoding}
-use Rattle.entry.specs.Model.{Val, Obj, allObjects, allSlots, allWords, allBytes, rowsOf, slotsOf, wordsOf, rooms}
+use Rattle.entry.specs.Model.{Val, allObjects, allSlots, allWords, allBytes, rowsOf, slotsOf, wordsOf, rooms}
 use Rattle.entry.specs.Table.{Dict, dict}
 use Rattle.entry.specs.Rules.{wordOk, valOk, heldOk, headOk}
 use Rattle.entry.specs.Judge.{slotOk, slotsFrom, rowReserved, rowOk, rowFits, rowsFrom, reserved, headerOk, wellFormed}
@@ -28,12 +28,7 @@ use Rattle.channel.specs.declared.Fault.the-variants.{NoTarget, WrongLength}
 use Rattle.channel.specs.declared.Checked.the-variants.{Pass, Element}
 use Rattle.channel.specs.Elements.{wordVerdict}
 use Rattle.channel.specs.Check.{faultFrom, checkOf}
-
-abbrev value : ℕ → ℕ → Val
-value t w = record { type = t; word = w; room = [] }
-
-abbrev object : ℕ → ℕ → ℕ → List Val → Obj
-object x kind default vs = record { index = x; kind = kind; access = 0; default = default; name = []; values = vs }
+use Rattle.demand.specs.Twelve.{value, object}
 
 -- node 5's channel 0 with a list, and 6000h, an Unsigned16 with a default of another type
 abbrev rig : List Val → Dict

@@ -1,4 +1,4 @@
 pub mod Demand
 pub mod Lasting
-pub mod Ends
 pub mod Twelve
+pub mod Ends

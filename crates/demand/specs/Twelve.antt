@@ -35,22 +35,23 @@ use Rattle.entry.specs.Rules.{wordOk, valOk, heldOk, headOk}
 use Rattle.entry.specs.Judge.{slotOk, slotsFrom, rowReserved, rowOk, rowFits, rowsFrom, reserved, headerOk, wellFormed}
 
 -- ---- the set-up of R14.2, with the first mapping word as a case has it
-abbrev value : ℕ → ℕ → Val
+abbrev pub value : ℕ → ℕ → Val
 value t w = record { type = t; word = w; room = [] }
 
-abbrev object : ℕ → ℕ → List Val → Obj
-object x kind vs = record { index = x; kind = kind; access = 0; default = 0; name = []; values = vs }
+-- no name, access absent
+abbrev pub object : ℕ → ℕ → ℕ → List Val → Obj
+object x kind default vs = record { index = x; kind = kind; access = 7; default = default; name = []; values = vs }
 
 abbrev zeros : List ℕ
 zeros = 0 ∷ 0 ∷ 0 ∷ 0 ∷ 0 ∷ 0 ∷ 0 ∷ 0 ∷ 0 ∷ 0 ∷ 0 ∷ 0 ∷ 0 ∷ 0 ∷ 0 ∷ 0 ∷ 0 ∷ 0 ∷ 0 ∷ 0 ∷ 0 ∷ 0 ∷ 0 ∷ 0 ∷ 0 ∷ 0 ∷ 0 ∷ 0 ∷ 0 ∷ 0 ∷ 0 ∷ 0 ∷ []
 
 abbrev setUp : ℕ → List Obj
 setUp w =
-    object 0x1400 2 (value 5 5 ∷ value 5 0x10 ∷ [])
-    ∷ object 0x1600 1 (value 8 w ∷ value 8 0x0020001000036200 ∷ [])
-    ∷ object 0x1C81 0 (record { type = 12; word = 32; room = zeros } ∷ [])
-    ∷ object 0x6000 0 (value 6 0 ∷ [])
-    ∷ object 0x6200 1 (value 7 0 ∷ value 7 0 ∷ value 7 0 ∷ [])
+    object 0x1400 2 0 (value 5 5 ∷ value 5 0x10 ∷ [])
+    ∷ object 0x1600 1 0 (value 8 w ∷ value 8 0x0020001000036200 ∷ [])
+    ∷ object 0x1C81 0 0 (record { type = 12; word = 32; room = zeros } ∷ [])
+    ∷ object 0x6000 0 0 (value 6 0 ∷ [])
+    ∷ object 0x6200 1 0 (value 7 0 ∷ value 7 0 ∷ value 7 0 ∷ [])
     ∷ []
 
 abbrev pub laid : ℕ → Dict

@@ -7,7 +7,7 @@ use loomfinch::Number;
 // A mapping of two bytes onto 6000h.
 const TWO_BYTES: u64 = 0x0010_0000_0000_6000;
 
-// An object without a name that can be read and written.
+// An object without a name, its access absent.
 fn insert(
     objects: &mut [u64],
     slots: &mut [u64],
@@ -21,7 +21,7 @@ fn insert(
     let head = Head {
         index,
         kind,
-        access: 3,
+        access: 7,
         default: 0,
     };
     loomfinch::insert(objects, slots, words, bytes, head, b"", vals, encodings);
