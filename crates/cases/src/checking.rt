@@ -80,7 +80,7 @@ pub fn element_line(
     let answer = next(s, element);
     let expected = number(s, answer);
     let mut out = numbers();
-    let a = loomfinch::loomfinch_explain(
+    let a = c_checking::loomfinch_explain(
         objects,
         slots,
         words,

@@ -1,8 +1,7 @@
--- One element's turn, what is no element, and the sender of a channel. Assumes nothing.
+-- One element's turn, and the sender of a channel. Assumes nothing.
 use mathlib.Core.Path.{_≡_, refl, sym, ap, _∙_}
 use mathlib.Core.Bool.{Bool, true, false, cond}
 use mathlib.Core.List.{List, [], _∷_}
-use mathlib.Core.Logic.{⊎-elim}
 use Prim.Native.Nat.{ℕ, _+_, _<_, _≤_}
 use native.Mathlib.Numerals.{add-one}
 use native.Mathlib.Omega.{arith}
@@ -10,9 +9,6 @@ use borrow.Author.Tests.{eqb-true, ltb-true}
 use lib.Dec.{eqb}
 use lib.ListN.{length, drop, getD, drop-of-length-le}
 use lib.Seq.{drop-cons}
-use types.Run.{OneOf}
-use denote.Enum.Declared.{tagOf}
-use Rattle.answers.specs.declared.Refusal.the-variants.{SubObjectNotFound}
 use Rattle.value.specs.Codec.{isText, sizeOf, fitsType}
 use Rattle.entry.specs.Table.{Dict, typeAt}
 use Rattle.entry.specs.Find.{placeOf}
@@ -20,21 +16,11 @@ use Rattle.entry.specs.Judge.{wellFormed}
 use Rattle.entry.specs.declared.Found.the-variants.{At, Nothing}
 use Rattle.entry.specs.declared.Place.{Place}
 use Rattle.entry.specs.declared.Place.the-variants.{NoObject, NoSub, Count, Value}
-use Rattle.entry.proofs.Place.{the-type as place-type}
 use Rattle.entry.proofs.ValueLaws.{element-of, element-facts}
 use Rattle.pdo_channel.specs.Channel.{u8In, u8At}
-use Rattle.channel.specs.declared.Explained.the-variants.{Refused}
 use Rattle.channel.specs.declared.Checked.{Checked}
-use Rattle.channel.specs.Explain.{ofPlace}
-use Rattle.channel.specs.Elements.{verdictOf}
+use Rattle.element.specs.Elements.{verdictOf}
 use Rattle.channel.specs.Check.{onVerdict, faultFrom}
-
--- a place that is no value's is no element's
-pub no-element : (d : Dict) (f : Place) → OneOf (0 ∷ 1 ∷ 2 ∷ []) (tagOf place-type f) → Refused SubObjectNotFound ≡ ofPlace d f
-no-element d NoObject o = refl
-no-element d NoSub o = refl
-no-element d (Count c) o = refl
-no-element d (Value p) o = absurd (⊎-elim (λ e. omega arith) (⊎-elim (λ e. omega arith) (λ e. omega arith)) o)
 
 -- ---- the elements, one at a time
 module _ (objects slots : List ℕ) (p : ℕ) (list : List ℕ) (j : ℕ) (last : Checked) where

@@ -14,11 +14,11 @@ use Rattle.pdo_validator.specs.declared.Mapped.{Mapped}
 use Rattle.pdo_validator.specs.declared.Mapped.the-variants.{Upto, Missing}
 use Rattle.pdo_channel.specs.Channel.{u8At, commIndex, firstMatch}
 use Rattle.pdo_run.specs.Run.{listIn}
-use Rattle.channel.specs.declared.Verdict.{Verdict}
-use Rattle.channel.specs.declared.Verdict.the-variants.{Clean, Faulty}
+use Rattle.element.specs.declared.Verdict.{Verdict}
+use Rattle.element.specs.declared.Verdict.the-variants.{Clean, Faulty}
 use Rattle.channel.specs.declared.Checked.{Checked}
 use Rattle.channel.specs.declared.Checked.the-variants.{Pass, NoSender, NoList, Element, TooFar, Refused}
-use Rattle.channel.specs.Elements.{verdictOf}
+use Rattle.element.specs.Elements.{verdictOf}
 
 -- R12.2: the first fault of a list's elements, of which j lie before, and the first is slot p; else what comes last
 abbrev pub onVerdict : ℕ → Checked → Verdict → Checked

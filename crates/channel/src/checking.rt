@@ -11,10 +11,10 @@ ghost use Rattle.pdo_channel.specs.Channel.{u8At, commIndex};
 ghost use Rattle.pdo_step.specs.Outcomes.{Shape};
 ghost use Rattle.channel.specs.Check.{faultFrom, isFar, onElements, onList, senderFor, hasSender, checkOf};
 use crate::Checked;
-use crate::Fault;
-use crate::Verdict;
-use crate::elements::verdict;
 use answers::Refusal;
+use element::Fault;
+use element::Verdict;
+use element::word_verdict;
 use entry::Found;
 use pdo_validator::Mapped;
 
@@ -39,7 +39,7 @@ fn first_fault(
                 fault: Fault::NotMapping,
             };
         }
-        if let Verdict::Faulty(fault) = verdict(objects, slots, words[first + j]) {
+        if let Verdict::Faulty(fault) = word_verdict(objects, slots, words[first + j]) {
             return Checked::Element {
                 element: j + 1,
                 fault,

@@ -24,9 +24,9 @@ use Rattle.entry.proofs.JudgeLaws.{and-true}
 use Rattle.pdo_step.specs.declared.Outcome.the-variants.{Stored}
 use Rattle.pdo_step.specs.Outcomes.{part, within, onValue, onIndex, outcomeOf}
 use Rattle.pdo_step.proofs.CaseLaws.{within-low, within-high}
-use Rattle.channel.specs.declared.Verdict.the-variants.{Clean, Faulty}
-use Rattle.channel.specs.declared.Fault.the-variants as fault
-use Rattle.channel.specs.Elements.{lengthFits, onTarget, onField, wordVerdict}
+use Rattle.element.specs.declared.Verdict.the-variants.{Clean, Faulty}
+use Rattle.element.specs.declared.Fault.the-variants as fault
+use Rattle.element.specs.Elements.{lengthFits, onTarget, onField, wordVerdict}
 use Rattle.demand.specs.Demand.{TextAt}
 
 -- what a clean word says

@@ -21,11 +21,11 @@ use Rattle.pdo_run.specs.Run.{frame, listIn}
 use Rattle.pdo_handler.specs.declared.Consumed.the-variants.{Done}
 use Rattle.pdo_handler.specs.Consume.{consumedBy, after, done, consumeOf}
 use Rattle.pdo_run.proofs.RunLaws.{finished-none}
-use Rattle.channel.specs.declared.Verdict.{Verdict}
-use Rattle.channel.specs.declared.Verdict.the-variants.{Clean, Faulty}
+use Rattle.element.specs.declared.Verdict.{Verdict}
+use Rattle.element.specs.declared.Verdict.the-variants.{Clean, Faulty}
 use Rattle.channel.specs.declared.Checked.{Checked}
 use Rattle.channel.specs.declared.Checked.the-variants.{Pass, NoSender, NoList, TooFar, Refused}
-use Rattle.channel.specs.Elements.{verdictOf}
+use Rattle.element.specs.Elements.{verdictOf}
 use Rattle.channel.specs.Check.{onVerdict, faultFrom, isFar, lastOf, onElements, onList, senderFor, isAt, hasSender, checkOf}
 use Rattle.demand.specs.Demand.{Admitted, Written, putAll}
 use Rattle.demand.proofs.PassLaws.{AllClean, clean-run}

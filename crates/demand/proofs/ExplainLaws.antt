@@ -11,13 +11,13 @@ use Rattle.entry.specs.Table.{Dict, kindAt, countAt, firstAt, typeAt}
 use Rattle.entry.specs.Find.{subAt}
 use Rattle.entry.specs.declared.Place.{Place}
 use Rattle.entry.specs.declared.Place.the-variants.{Value}
-use Rattle.channel.specs.declared.Fault.{Fault}
-use Rattle.channel.specs.declared.Fault.the-variants.{NotMapping}
-use Rattle.channel.specs.declared.Verdict.the-variants.{Faulty}
+use Rattle.element.specs.declared.Fault.{Fault}
+use Rattle.element.specs.declared.Fault.the-variants.{NotMapping}
+use Rattle.element.specs.declared.Verdict.the-variants.{Faulty}
 use Rattle.channel.specs.declared.Checked.the-variants.{Element}
-use Rattle.channel.specs.declared.Explained.the-variants.{Other}
-use Rattle.channel.specs.Explain.{ofWord, ofElement, ofPlace, explainOf}
-use Rattle.channel.specs.Elements.{saidOf, wordVerdict, verdictOf}
+use Rattle.element.specs.declared.Explained.the-variants.{Other}
+use Rattle.element.specs.Explain.{ofWord, ofElement, ofPlace, explainOf}
+use Rattle.element.specs.Elements.{saidOf, wordVerdict, verdictOf}
 use Rattle.channel.specs.Check.{checkOf}
 use Rattle.demand.proofs.ExactLaws.{list-length, list-word}
 use Rattle.demand.proofs.NamedLaws.{named-never}

@@ -19,9 +19,9 @@ use Rattle.entry.specs.declared.Place.the-variants.{Value}
 use Rattle.entry.proofs.ValueLaws.{Element, element-of}
 use Rattle.pdo_run.specs.Run.{frame, listIn}
 use Rattle.pdo_handler.specs.Consume.{consumedBy}
-use Rattle.channel.specs.declared.Verdict.the-variants.{Clean}
+use Rattle.element.specs.declared.Verdict.the-variants.{Clean}
 use Rattle.channel.specs.declared.Checked.the-variants.{Pass}
-use Rattle.channel.specs.Elements.{wordVerdict}
+use Rattle.element.specs.Elements.{wordVerdict}
 use Rattle.channel.specs.Check.{checkOf}
 use Rattle.demand.specs.Demand.{Admitted, Written}
 use Rattle.demand.specs.Lasting.{SameRow, Shaped, SameWords}

@@ -20,12 +20,12 @@ use Rattle.entry.specs.declared.Found.the-variants.{At, Nothing}
 use Rattle.pdo_validator.specs.Counting.{endsFrom}
 use Rattle.pdo_channel.specs.Channel.{u8At, commIndex, firstMatch}
 use Rattle.pdo_run.specs.Run.{frame, listIn}
-use Rattle.channel.specs.declared.Fault.{Fault}
-use Rattle.channel.specs.declared.Verdict.{Verdict}
-use Rattle.channel.specs.declared.Verdict.the-variants.{Clean, Faulty}
+use Rattle.element.specs.declared.Fault.{Fault}
+use Rattle.element.specs.declared.Verdict.{Verdict}
+use Rattle.element.specs.declared.Verdict.the-variants.{Clean, Faulty}
 use Rattle.channel.specs.declared.Checked.{Checked}
 use Rattle.channel.specs.declared.Checked.the-variants.{Pass, NoSender, NoList, Element, TooFar, Refused}
-use Rattle.channel.specs.Elements.{verdictOf}
+use Rattle.element.specs.Elements.{verdictOf}
 use Rattle.channel.specs.Check.{faultFrom, isFar, lastOf, senderFor, hasSender, checkOf}
 use Rattle.demand.specs.Demand.{Long, Whole}
 use Rattle.demand.proofs.PassLaws.{AllClean}

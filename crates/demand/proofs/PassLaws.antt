@@ -25,9 +25,9 @@ use Rattle.pdo_step.specs.Outcomes.{part}
 use Rattle.pdo_step.specs.Steps.{applied}
 use Rattle.pdo_run.specs.Run.{Frame, held, decided, eventOf, stopsOf, actOf, ran, runFrom}
 use Rattle.pdo_handler.proofs.ConsumeLaws.{Sane, act-sane}
-use Rattle.channel.specs.declared.Fault.the-variants as fault
-use Rattle.channel.specs.declared.Verdict.the-variants.{Clean, Faulty}
-use Rattle.channel.specs.Elements.{lengthFits, wordVerdict, verdictOf}
+use Rattle.element.specs.declared.Fault.the-variants as fault
+use Rattle.element.specs.declared.Verdict.the-variants.{Clean, Faulty}
+use Rattle.element.specs.Elements.{lengthFits, wordVerdict, verdictOf}
 use Rattle.demand.specs.Demand.{Long, TextAt, Texts, Whole, putWord, putAll, AllWhole}
 use Rattle.demand.proofs.CleanLaws.{clean-word, clean-stored}
 

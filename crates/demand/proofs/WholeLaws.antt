@@ -25,8 +25,8 @@ use Rattle.pdo_validator.specs.Counting.{isMapping}
 use Rattle.pdo_step.specs.declared.Outcome.the-variants as outcome
 use Rattle.pdo_step.specs.Outcomes.{part, within, onCount, onValue, onPlace, onIndex, outcomeOf}
 use Rattle.pdo_run.specs.Run.{Frame}
-use Rattle.channel.specs.declared.Verdict.the-variants.{Clean}
-use Rattle.channel.specs.Elements.{lengthFits, wordVerdict}
+use Rattle.element.specs.declared.Verdict.the-variants.{Clean}
+use Rattle.element.specs.Elements.{lengthFits, wordVerdict}
 use Rattle.demand.specs.Demand.{Whole}
 use Rattle.demand.proofs.CleanLaws.{joined-range}
 

@@ -24,9 +24,9 @@ use Rattle.pdo_step.specs.Steps.{applied}
 use Rattle.pdo_channel.specs.Channel.{channelFrom}
 use Rattle.pdo_run.specs.Run.{actOf, runFrom}
 use Rattle.pdo_handler.specs.Consume.{consumedBy, consumeOf}
-use Rattle.channel.specs.declared.Fault.the-variants.{NoTarget, WrongLength}
+use Rattle.element.specs.declared.Fault.the-variants.{NoTarget, WrongLength}
 use Rattle.channel.specs.declared.Checked.the-variants.{Pass, Element}
-use Rattle.channel.specs.Elements.{wordVerdict}
+use Rattle.element.specs.Elements.{wordVerdict}
 use Rattle.channel.specs.Check.{faultFrom, checkOf}
 use Rattle.demand.specs.Twelve.{value, object}
 

@@ -26,10 +26,10 @@ use Rattle.pdo_channel.specs.Channel.{rightVersion, channelFrom}
 use Rattle.pdo_run.specs.Run.{frame, Ran, ran, packed, actOf, runFrom}
 use Rattle.pdo_handler.specs.Consume.{consumedBy}
 use Rattle.pdo_validator.specs.Counting.{endsFrom}
-use Rattle.channel.specs.declared.Fault.the-variants.{WrongLength}
+use Rattle.element.specs.declared.Fault.the-variants.{WrongLength}
 use Rattle.channel.specs.declared.Checked.{Checked}
 use Rattle.channel.specs.declared.Checked.the-variants.{Pass, Element}
-use Rattle.channel.specs.Elements.{wordVerdict}
+use Rattle.element.specs.Elements.{wordVerdict}
 use Rattle.channel.specs.Check.{faultFrom, checkOf}
 use Rattle.entry.specs.Rules.{wordOk, valOk, heldOk, headOk}
 use Rattle.entry.specs.Judge.{slotOk, slotsFrom, rowReserved, rowOk, rowFits, rowsFrom, reserved, headerOk, wellFormed}

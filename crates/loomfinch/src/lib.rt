@@ -1,19 +1,14 @@
-// The public calls. None has a `requires`: each judges its own input and refuses what breaks a rule.
-mod c;
-mod checking;
-mod dictionary;
-mod receiving;
-mod storing;
-
+// The public calls. None has a `requires`: each judges its own input and refuses what breaks a rule. The crates c_* have the same
+// calls for C.
 pub use channel::Checked;
 pub use channel::CheckedAll;
-pub use channel::Explained;
-pub use channel::Fault;
-pub use channel::Target;
 pub use channel::check;
 pub use channel::check_all;
-pub use channel::explain;
 pub use counter::increment_counter;
+pub use element::Explained;
+pub use element::Fault;
+pub use element::Target;
+pub use element::explain;
 pub use events::Cause;
 pub use events::Event;
 pub use events::EventRecord;
@@ -54,28 +49,3 @@ pub use value::Encoded;
 pub use value::ObjectValue;
 pub use writing::Wrote;
 pub use writing::write;
-
-// For C.
-pub use c::loomfinch_decode;
-pub use c::loomfinch_encode;
-pub use c::loomfinch_from_u64;
-pub use c::loomfinch_to_u64;
-pub use checking::loomfinch_check;
-pub use checking::loomfinch_check_all;
-pub use checking::loomfinch_explain;
-pub use dictionary::loomfinch_find_by_name;
-pub use dictionary::loomfinch_get_configured_cns;
-pub use dictionary::loomfinch_increment_counter;
-pub use dictionary::loomfinch_insert;
-pub use dictionary::loomfinch_new;
-pub use dictionary::loomfinch_read;
-pub use dictionary::loomfinch_read_u8;
-pub use dictionary::loomfinch_read_u16;
-pub use dictionary::loomfinch_read_u32;
-pub use dictionary::loomfinch_read_u64;
-pub use receiving::loomfinch_consume_cycle;
-pub use receiving::loomfinch_consume_pdo_payload;
-pub use receiving::loomfinch_update_pdo_error_object;
-pub use storing::loomfinch_restore_power_on_values;
-pub use storing::loomfinch_validate_pdo_mapping;
-pub use storing::loomfinch_write;

@@ -107,7 +107,7 @@ fn comes_to(word: u64, payload: &[u8], wanted: [u64; 4], error: u8) -> bool {
     let mut events = [0u64; 254];
     let mut count = 0u64;
     lay(&mut objects, &mut slots, &mut words, &mut bytes, word);
-    let answer = loomfinch::loomfinch_consume_pdo_payload(
+    let answer = c_receiving::loomfinch_consume_pdo_payload(
         &objects,
         &slots,
         &mut words,

@@ -63,8 +63,8 @@ use Rattle.channel.proofs.check.Reads as check
 use Rattle.channel.proofs.check.Kinds as check-kinds
 use Rattle.channel.proofs.check_all.Reads as check-all
 use Rattle.channel.proofs.check_all.Kinds as check-all-kinds
-use Rattle.channel.proofs.explain.Reads as explain
-use Rattle.channel.proofs.explain.Kinds as explain-kinds
+use Rattle.element.proofs.explain.Reads as explain
+use Rattle.element.proofs.explain.Kinds as explain-kinds
 use Rattle.events.proofs.event_record.Reads as event-record
 use Rattle.events.proofs.event_record.Kinds as event-record-kinds
 use Rattle.pdo_cycle.proofs.consume_cycle.Reads as consume-cycle

@@ -1,56 +1,55 @@
 -- The same of each call for C. Assumes nothing.
 use mathlib.Core.Path.{refl, ap, ap₂, _∙_, sym}
 use Rattle.entry.specs.Table.{Dict}
-use Rattle.loomfinch.specs.C.{Lent, Written}
-use Rattle.loomfinch.specs.Dictionary.{Told}
-use Rattle.loomfinch.specs.Receiving.{Heard}
+use Rattle.c_answers.specs.Answers.{Told, Lent, Written}
+use Rattle.c_receiving.specs.Receiving.{Heard}
 use Rattle.uniqueness.proofs.Unique.{Unique, both}
-use Rattle.loomfinch.proofs.loomfinch_decode.Reads as c-decode
-use Rattle.loomfinch.proofs.loomfinch_decode.Kinds as c-decode-kinds
-use Rattle.loomfinch.proofs.loomfinch_encode.Reads as c-encode
-use Rattle.loomfinch.proofs.loomfinch_encode.Kinds as c-encode-kinds
-use Rattle.loomfinch.proofs.loomfinch_from_u64.Reads as c-from-u64
-use Rattle.loomfinch.proofs.loomfinch_from_u64.Kinds as c-from-u64-kinds
-use Rattle.loomfinch.proofs.loomfinch_to_u64.Reads as c-to-u64
-use Rattle.loomfinch.proofs.loomfinch_to_u64.Kinds as c-to-u64-kinds
-use Rattle.loomfinch.proofs.loomfinch_new.Reads as c-new
-use Rattle.loomfinch.proofs.loomfinch_new.Kinds as c-new-kinds
-use Rattle.loomfinch.proofs.loomfinch_insert.Reads as c-insert
-use Rattle.loomfinch.proofs.loomfinch_insert.Kinds as c-insert-kinds
-use Rattle.loomfinch.proofs.loomfinch_read.Reads as c-read
-use Rattle.loomfinch.proofs.loomfinch_read.Kinds as c-read-kinds
-use Rattle.loomfinch.proofs.loomfinch_read_u8.Reads as c-read-u8
-use Rattle.loomfinch.proofs.loomfinch_read_u8.Kinds as c-read-u8-kinds
-use Rattle.loomfinch.proofs.loomfinch_read_u16.Reads as c-read-u16
-use Rattle.loomfinch.proofs.loomfinch_read_u16.Kinds as c-read-u16-kinds
-use Rattle.loomfinch.proofs.loomfinch_read_u32.Reads as c-read-u32
-use Rattle.loomfinch.proofs.loomfinch_read_u32.Kinds as c-read-u32-kinds
-use Rattle.loomfinch.proofs.loomfinch_read_u64.Reads as c-read-u64
-use Rattle.loomfinch.proofs.loomfinch_read_u64.Kinds as c-read-u64-kinds
-use Rattle.loomfinch.proofs.loomfinch_find_by_name.Reads as c-find-by-name
-use Rattle.loomfinch.proofs.loomfinch_find_by_name.Kinds as c-find-by-name-kinds
-use Rattle.loomfinch.proofs.loomfinch_get_configured_cns.Reads as c-get-configured-cns
-use Rattle.loomfinch.proofs.loomfinch_get_configured_cns.Kinds as c-get-configured-cns-kinds
-use Rattle.loomfinch.proofs.loomfinch_increment_counter.Reads as c-increment-counter
-use Rattle.loomfinch.proofs.loomfinch_increment_counter.Kinds as c-increment-counter-kinds
-use Rattle.loomfinch.proofs.loomfinch_restore_power_on_values.Reads as c-restore
-use Rattle.loomfinch.proofs.loomfinch_restore_power_on_values.Kinds as c-restore-kinds
-use Rattle.loomfinch.proofs.loomfinch_write.Reads as c-write
-use Rattle.loomfinch.proofs.loomfinch_write.Kinds as c-write-kinds
-use Rattle.loomfinch.proofs.loomfinch_validate_pdo_mapping.Reads as c-validate-pdo-mapping
-use Rattle.loomfinch.proofs.loomfinch_validate_pdo_mapping.Kinds as c-validate-pdo-mapping-kinds
-use Rattle.loomfinch.proofs.loomfinch_check.Reads as c-check
-use Rattle.loomfinch.proofs.loomfinch_check.Kinds as c-check-kinds
-use Rattle.loomfinch.proofs.loomfinch_check_all.Reads as c-check-all
-use Rattle.loomfinch.proofs.loomfinch_check_all.Kinds as c-check-all-kinds
-use Rattle.loomfinch.proofs.loomfinch_explain.Reads as c-explain
-use Rattle.loomfinch.proofs.loomfinch_explain.Kinds as c-explain-kinds
-use Rattle.loomfinch.proofs.loomfinch_consume_pdo_payload.Reads as c-consume
-use Rattle.loomfinch.proofs.loomfinch_consume_pdo_payload.Kinds as c-consume-kinds
-use Rattle.loomfinch.proofs.loomfinch_consume_cycle.Reads as c-consume-cycle
-use Rattle.loomfinch.proofs.loomfinch_consume_cycle.Kinds as c-consume-cycle-kinds
-use Rattle.loomfinch.proofs.loomfinch_update_pdo_error_object.Reads as c-update
-use Rattle.loomfinch.proofs.loomfinch_update_pdo_error_object.Kinds as c-update-kinds
+use Rattle.c_codec.proofs.loomfinch_decode.Reads as c-decode
+use Rattle.c_codec.proofs.loomfinch_decode.Kinds as c-decode-kinds
+use Rattle.c_codec.proofs.loomfinch_encode.Reads as c-encode
+use Rattle.c_codec.proofs.loomfinch_encode.Kinds as c-encode-kinds
+use Rattle.c_codec.proofs.loomfinch_from_u64.Reads as c-from-u64
+use Rattle.c_codec.proofs.loomfinch_from_u64.Kinds as c-from-u64-kinds
+use Rattle.c_codec.proofs.loomfinch_to_u64.Reads as c-to-u64
+use Rattle.c_codec.proofs.loomfinch_to_u64.Kinds as c-to-u64-kinds
+use Rattle.c_dictionary.proofs.loomfinch_new.Reads as c-new
+use Rattle.c_dictionary.proofs.loomfinch_new.Kinds as c-new-kinds
+use Rattle.c_dictionary.proofs.loomfinch_insert.Reads as c-insert
+use Rattle.c_dictionary.proofs.loomfinch_insert.Kinds as c-insert-kinds
+use Rattle.c_dictionary.proofs.loomfinch_read.Reads as c-read
+use Rattle.c_dictionary.proofs.loomfinch_read.Kinds as c-read-kinds
+use Rattle.c_dictionary.proofs.loomfinch_read_u8.Reads as c-read-u8
+use Rattle.c_dictionary.proofs.loomfinch_read_u8.Kinds as c-read-u8-kinds
+use Rattle.c_dictionary.proofs.loomfinch_read_u16.Reads as c-read-u16
+use Rattle.c_dictionary.proofs.loomfinch_read_u16.Kinds as c-read-u16-kinds
+use Rattle.c_dictionary.proofs.loomfinch_read_u32.Reads as c-read-u32
+use Rattle.c_dictionary.proofs.loomfinch_read_u32.Kinds as c-read-u32-kinds
+use Rattle.c_dictionary.proofs.loomfinch_read_u64.Reads as c-read-u64
+use Rattle.c_dictionary.proofs.loomfinch_read_u64.Kinds as c-read-u64-kinds
+use Rattle.c_dictionary.proofs.loomfinch_find_by_name.Reads as c-find-by-name
+use Rattle.c_dictionary.proofs.loomfinch_find_by_name.Kinds as c-find-by-name-kinds
+use Rattle.c_dictionary.proofs.loomfinch_get_configured_cns.Reads as c-get-configured-cns
+use Rattle.c_dictionary.proofs.loomfinch_get_configured_cns.Kinds as c-get-configured-cns-kinds
+use Rattle.c_dictionary.proofs.loomfinch_increment_counter.Reads as c-increment-counter
+use Rattle.c_dictionary.proofs.loomfinch_increment_counter.Kinds as c-increment-counter-kinds
+use Rattle.c_storing.proofs.loomfinch_restore_power_on_values.Reads as c-restore
+use Rattle.c_storing.proofs.loomfinch_restore_power_on_values.Kinds as c-restore-kinds
+use Rattle.c_storing.proofs.loomfinch_write.Reads as c-write
+use Rattle.c_storing.proofs.loomfinch_write.Kinds as c-write-kinds
+use Rattle.c_storing.proofs.loomfinch_validate_pdo_mapping.Reads as c-validate-pdo-mapping
+use Rattle.c_storing.proofs.loomfinch_validate_pdo_mapping.Kinds as c-validate-pdo-mapping-kinds
+use Rattle.c_checking.proofs.loomfinch_check.Reads as c-check
+use Rattle.c_checking.proofs.loomfinch_check.Kinds as c-check-kinds
+use Rattle.c_checking.proofs.loomfinch_check_all.Reads as c-check-all
+use Rattle.c_checking.proofs.loomfinch_check_all.Kinds as c-check-all-kinds
+use Rattle.c_checking.proofs.loomfinch_explain.Reads as c-explain
+use Rattle.c_checking.proofs.loomfinch_explain.Kinds as c-explain-kinds
+use Rattle.c_receiving.proofs.loomfinch_consume_pdo_payload.Reads as c-consume
+use Rattle.c_receiving.proofs.loomfinch_consume_pdo_payload.Kinds as c-consume-kinds
+use Rattle.c_receiving.proofs.loomfinch_consume_cycle.Reads as c-consume-cycle
+use Rattle.c_receiving.proofs.loomfinch_consume_cycle.Kinds as c-consume-cycle-kinds
+use Rattle.c_receiving.proofs.loomfinch_update_pdo_error_object.Reads as c-update
+use Rattle.c_receiving.proofs.loomfinch_update_pdo_error_object.Kinds as c-update-kinds
 
 pub c-decode-unique : Unique 2 c-decode-kinds.ps c-decode-kinds.r c-decode.Post
 c-decode-unique κs a z₁ z₂ w₁ w₂ p q = both (λ (x : Lent). x .answer) (λ x. (tt, (tt, (x .numbers, tt)))) p q

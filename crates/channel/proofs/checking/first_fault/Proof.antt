@@ -7,7 +7,7 @@ use borrow.Author.Tests.{eq-eqb, ne-eqb}
 use lib.ListN.{length, take, drop, getD, length-drop}
 use lib.Seq.{length-take-le, getD-take, getD-drop}
 use Rattle.entry.specs.Table.{typeAt}
-use Rattle.channel.specs.Elements.{verdictOf}
+use Rattle.element.specs.Elements.{verdictOf}
 use Rattle.channel.specs.Check.{onVerdict, faultFrom}
 use Rattle.channel.proofs.CheckLaws.{fault-end, fault-step}
 use native.Mathlib.Omega.{arith}
@@ -44,9 +44,9 @@ decided i =
     ap (λ w. onVerdict (l .loop .j + 1) (faultFrom (now (a .objects)) (now (a .slots)) (a .first) (drop (l .loop .j + 1) (list l)) (l .loop .j + 1) (a .last)) (verdictOf (now (a .objects)) (now (a .slots)) (typeAt (now (a .slots)) (a .first + l .loop .j)) w)) (sym (word-is i))
     ∙ sym (fault-step (now (a .objects)) (now (a .slots)) (a .first) (list l) (l .loop .j) (a .last) (omega (arith, as-long l, i .loop-test .taken))) ∙ l .loop .inv .1
 
-verdict-is : (v : tie.After-verdict Inv-loop μ-loop) → let l = v .before .before .before .before .before in let a = start l .args in
-    verdictOf (now (a .objects)) (now (a .slots)) (typeAt (now (a .slots)) (a .first + l .loop .j)) (getD (now (a .words)) (a .first + l .loop .j) 0) ≡ v .verdict .result
-verdict-is v = let e = v .before .before in rw (eq-eqb _ 8 (sym (e .before .type-at .ensures) ∙ e .if1 .left)) (sym (v .verdict .ensures))
+verdict-is : (v : tie.After-word-verdict Inv-loop μ-loop) → let l = v .before .before .before .before .before in let a = start l .args in
+    verdictOf (now (a .objects)) (now (a .slots)) (typeAt (now (a .slots)) (a .first + l .loop .j)) (getD (now (a .words)) (a .first + l .loop .j) 0) ≡ v .word-verdict .result
+verdict-is v = let e = v .before .before in rw (eq-eqb _ 8 (sym (e .before .type-at .ensures) ∙ e .if1 .left)) (sym (v .word-verdict .ensures))
 
 loop-holds : tie.Need-loop-holds Inv-loop μ-loop
 loop-holds c = (omega arith, refl)
@@ -66,17 +66,17 @@ returns c =
     let i = t .before in
     sym (rw (ne-eqb _ 8 (λ z. c .if1 .taken (t .type-at .ensures ∙ z)))) ∙ decided i
 
-add-verdict : tie.Need-add-verdict Inv-loop μ-loop
-add-verdict c = let i = c .before .before in omega (arith, i .loop-test .taken, start (i .before) .pre .1 .low)
+add-word-verdict : tie.Need-add-word-verdict Inv-loop μ-loop
+add-word-verdict c = let i = c .before .before in omega (arith, i .loop-test .taken, start (i .before) .pre .1 .low)
 
-mul-verdict : tie.Need-mul-verdict Inv-loop μ-loop
-mul-verdict c = let i = c .before .before in omega (arith, i .loop-test .taken, start (i .before) .pre .1 .low)
+mul-word-verdict : tie.Need-mul-word-verdict Inv-loop μ-loop
+mul-word-verdict c = let i = c .before .before in omega (arith, i .loop-test .taken, start (i .before) .pre .1 .low)
 
-shared-slice-read-verdict : tie.Need-shared-slice-read-verdict Inv-loop μ-loop
-shared-slice-read-verdict c = let i = c .before .before .before in omega (arith, i .loop-test .taken, start (i .before) .pre .1 .worded)
+shared-slice-read-word-verdict : tie.Need-shared-slice-read-word-verdict Inv-loop μ-loop
+shared-slice-read-word-verdict c = let i = c .before .before .before in omega (arith, i .loop-test .taken, start (i .before) .pre .1 .worded)
 
-verdict-requires : tie.Need-verdict-requires Inv-loop μ-loop
-verdict-requires c κs = let i = c .before .before .before in start (i .before) .pre .0
+word-verdict-requires : tie.Need-word-verdict-requires Inv-loop μ-loop
+word-verdict-requires c κs = let i = c .before .before .before in start (i .before) .pre .0
 
 enum-known-fault : tie.Need-enum-known-fault Inv-loop μ-loop
 enum-known-fault c = search needs
@@ -122,10 +122,10 @@ first-fault-spec =
     type-at-requires
     add-t12
     returns
-    add-verdict
-    mul-verdict
-    shared-slice-read-verdict
-    verdict-requires
+    add-word-verdict
+    mul-word-verdict
+    shared-slice-read-word-verdict
+    word-verdict-requires
     enum-known-fault
     add-t17
     returns-2

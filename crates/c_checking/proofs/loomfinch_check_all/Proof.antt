@@ -1,0 +1,60 @@
+-- `c_checking::loomfinch_check_all` meets its contract: each arm is a case of `allNumbers`. Assumes nothing.
+use mathlib.Core.Path.{ap, _∙_, sym}
+use denote.Ref.{now}
+use Rattle.channel.specs.All.{After}
+use Rattle.c_answers.specs.Answers.{wrote}
+use Rattle.c_checking.specs.Checking.{allNumbers, checkAllNumbers}
+use borrow.Author.Needs.{needs}
+use Rattle.c_checking.proofs.loomfinch_check_all.Statement.{statement}
+use Rattle.c_checking.proofs.loomfinch_check_all.Tie as tie
+
+abbrev start : tie.After-check-all → tie.Start
+start u = u .before .before .before .before .before .before .before
+
+check-all-requires : tie.Need-check-all-requires
+check-all-requires c κs = search needs
+
+enum-known-n : tie.Need-enum-known-n
+enum-known-n c = search needs
+
+enum-known-r : tie.Need-enum-known-r
+enum-known-r c = search needs
+
+number-requires : tie.Need-number-requires
+number-requires c κs = search needs
+
+same-length : tie.Need-same-length
+same-length c = search needs
+
+returns : tie.Need-returns
+unfolding checkAllNumbers
+returns c =
+    let n = c .before in
+    let u = n .before .before .before .before in
+    let m = now (start u .args .count) in
+    ap (λ a. allNumbers a (u .check-all .last .1 .1 .1 .1 .0) m) (sym (n .n .given .1)) ∙ ap (λ (a : After). checkAllNumbers a m) (u .check-all .ensures)
+
+same-length-2 : tie.Need-same-length-2
+same-length-2 c = search needs
+
+returns-2 : tie.Need-returns-2
+unfolding checkAllNumbers
+returns-2 c =
+    let r = c .before .before in
+    let u = r .before .before .before .before in
+    let m = now (start u .args .count) in
+    let out = u .check-all .last .1 .1 .1 .1 .0 in
+    ap (λ n. wrote n out m) (c .number .ensures) ∙ ap (λ a. allNumbers a out m) (sym (r .r .given .1)) ∙ ap (λ (a : After). checkAllNumbers a m) (u .check-all .ensures)
+
+pub loomfinch-check-all-spec : {M : Type 1} → statement M
+loomfinch-check-all-spec =
+    tie.close
+    (tie.spec
+    check-all-requires
+    enum-known-n
+    enum-known-r
+    number-requires
+    same-length
+    returns
+    same-length-2
+    returns-2)

@@ -1,0 +1,60 @@
+-- `c_codec::loomfinch_encode` meets its contract: each arm is a case of `encodedNumbers`. Assumes nothing.
+use mathlib.Core.Path.{ap, _∙_, sym}
+use denote.Ref.{now}
+use Rattle.value.specs.Codec.{After}
+use Rattle.c_answers.specs.Answers.{wrote}
+use Rattle.c_codec.specs.Codec.{encodeNumbers, encodedNumbers}
+use borrow.Author.Needs.{needs}
+use Rattle.c_codec.proofs.loomfinch_encode.Statement.{statement}
+use Rattle.c_codec.proofs.loomfinch_encode.Tie as tie
+
+encode-word-requires : tie.Need-encode-word-requires
+encode-word-requires c κs = search needs
+
+enum-known-n : tie.Need-enum-known-n
+enum-known-n c = search needs
+
+enum-known-r : tie.Need-enum-known-r
+enum-known-r c = search needs
+
+number-requires : tie.Need-number-requires
+number-requires c κs = search needs
+
+same-length : tie.Need-same-length
+same-length c = search needs
+
+returns : tie.Need-returns
+unfolding encodeNumbers
+returns c =
+    let n = c .before in
+    let e = n .before .before .before .before in
+    let m = now (e .before .before .before .before .args .written) in
+    ap (λ r. encodedNumbers r (e .encode-word .last .1 .1 .1 .0) m) (sym (n .n .given .1))
+    ∙ ap (λ (a : After). encodedNumbers (a .answer) (a .out) m) (e .encode-word .ensures)
+
+same-length-2 : tie.Need-same-length-2
+same-length-2 c = search needs
+
+returns-2 : tie.Need-returns-2
+unfolding encodeNumbers
+returns-2 c =
+    let r = c .before .before in
+    let e = r .before .before .before .before in
+    let m = now (e .before .before .before .before .args .written) in
+    let o = e .encode-word .last .1 .1 .1 .0 in
+    ap (λ n. wrote n o m) (c .number .ensures)
+    ∙ ap (λ r. encodedNumbers r o m) (sym (r .r .given .1))
+    ∙ ap (λ (a : After). encodedNumbers (a .answer) (a .out) m) (e .encode-word .ensures)
+
+pub loomfinch-encode-spec : {M : Type 1} → statement M
+loomfinch-encode-spec =
+    tie.close
+    (tie.spec
+    encode-word-requires
+    enum-known-n
+    enum-known-r
+    number-requires
+    same-length
+    returns
+    same-length-2
+    returns-2)

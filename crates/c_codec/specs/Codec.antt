@@ -1,0 +1,61 @@
+-- What the calls for C answer of values and mapping words, and what they leave in what was lent. RULES.md 13. Assumes nothing.
+use Prim.Native.Nat.{ℕ}
+use mathlib.Core.List.{List, [], _∷_}
+use Rattle.answers.specs.Numbers.{numberOf}
+use Rattle.answers.specs.declared.Refusal.the-variants.{BadValue}
+use Rattle.value.specs.declared.ObjectValue.{ObjectValue}
+use Rattle.value.specs.declared.Decoded.{Decoded}
+use Rattle.value.specs.declared.Decoded.the-variants.{Value, Fails, NoType}
+use Rattle.value.specs.Meaning.{wordOf, fieldsOf}
+use Rattle.value.specs.declared.Encoded.{Encoded}
+use Rattle.value.specs.declared.Encoded.the-variants.{Wrote, Refused}
+use Rattle.value.specs.Codec.{decodeOf, refusalOf, encodeOf}
+use Rattle.mapping.specs.declared.Aligned.{Aligned}
+use Rattle.mapping.specs.declared.Aligned.the-variants.{Bytes, Misaligned}
+use Rattle.mapping.specs.declared.PdoMappingEntry.{PdoMappingEntry}
+use Rattle.mapping.specs.Word.{entryOf, alignedOf, endOf}
+use Rattle.c_answers.specs.Answers.{Lent, lent, results, Written, wrote}
+
+unfoldable pub given : ObjectValue → List ℕ → Lent
+given v ns = results (wordOf v ∷ fieldsOf v) ns
+
+abbrev pub decodedNumbers : Decoded → List ℕ → Lent
+decodedNumbers (Value v) ns = given v ns
+decodedNumbers (Fails f) ns = lent (numberOf (refusalOf f)) ns
+decodedNumbers NoType ns = lent (numberOf BadValue) ns
+
+unfoldable pub decodeNumbers : ℕ → List ℕ → List ℕ → Lent
+decodeNumbers t s ns = decodedNumbers (decodeOf t s) ns
+
+abbrev pub encodedNumbers : Encoded → List ℕ → ℕ → Written
+encodedNumbers (Wrote n) out m = wrote 0 out n
+encodedNumbers (Refused r) out m = wrote (numberOf r) out m
+
+unfoldable pub encodeNumbers : ℕ → ℕ → List ℕ → List ℕ → ℕ → Written
+encodeNumbers t w part out m = let a = encodeOf t w part out in encodedNumbers (a .answer) (a .out) m
+
+-- 1 and the number of bytes, where bits are whole bytes; else 0 and 0
+abbrev pub wholeOf : Aligned → ℕ
+wholeOf (Bytes n) = 1
+wholeOf Misaligned = 0
+
+abbrev pub countOf : Aligned → ℕ
+countOf (Bytes n) = n
+countOf Misaligned = 0
+
+-- a mapping word's parts; its offset and its length in bytes; its end in bytes
+abbrev pub partsOf : PdoMappingEntry → List ℕ
+partsOf e =
+    e .index
+    ∷ e .«sub_index»
+    ∷ e .«offset_bits»
+    ∷ e .«length_bits»
+    ∷ wholeOf (alignedOf (e .«offset_bits»))
+    ∷ countOf (alignedOf (e .«offset_bits»))
+    ∷ wholeOf (alignedOf (e .«length_bits»))
+    ∷ countOf (alignedOf (e .«length_bits»))
+    ∷ endOf e
+    ∷ []
+
+unfoldable pub entryNumbers : ℕ → List ℕ
+entryNumbers w = partsOf (entryOf w)

@@ -1,0 +1,25 @@
+-- `c_dictionary::loomfinch_increment_counter` meets its contract. Assumes nothing.
+use mathlib.Core.Path.{ap, _∙_}
+use Rattle.c_answers.specs.Answers.{answerNumber}
+use Rattle.counter.specs.Counter.{Counted}
+use borrow.Author.Needs.{needs}
+use Rattle.c_dictionary.proofs.loomfinch_increment_counter.Statement.{statement}
+use Rattle.c_dictionary.proofs.loomfinch_increment_counter.Tie as tie
+
+increment-counter-requires : tie.Need-increment-counter-requires
+increment-counter-requires c κs = search needs
+
+number-of-requires : tie.Need-number-of-requires
+number-of-requires c κs = search needs
+
+same-length : tie.Need-same-length
+same-length c = search needs
+
+returns : tie.Need-returns
+returns c =
+    let n = c .before .before .before in
+    (c .number-of .ensures ∙ ap (λ (a : Counted). answerNumber (a .answer)) (n .increment-counter .ensures), ap (λ (a : Counted). a .words) (n .increment-counter .ensures))
+
+pub loomfinch-increment-counter-spec : {M : Type 1} → statement M
+loomfinch-increment-counter-spec =
+    tie.close (tie.spec increment-counter-requires number-of-requires same-length returns)

@@ -1,0 +1,45 @@
+-- `c_receiving::loomfinch_consume_pdo_payload` meets its contract: the answer as its number, and what the call leaves. Assumes nothing.
+use mathlib.Core.Path.{ap, _∙_}
+use denote.Ref.{now}
+use Rattle.entry.specs.Put.{contents}
+use Rattle.pdo_handler.specs.Consume.{After}
+use Rattle.c_answers.specs.Answers.{Told}
+use Rattle.c_receiving.specs.Receiving.{heard, consumeNumbers}
+use borrow.Author.Needs.{needs}
+use Rattle.c_receiving.proofs.loomfinch_consume_pdo_payload.Statement.{statement}
+use Rattle.c_receiving.proofs.loomfinch_consume_pdo_payload.Tie as tie
+
+consume-logged-requires : tie.Need-consume-logged-requires
+consume-logged-requires c κs = search needs
+
+consumed-requires : tie.Need-consumed-requires
+consumed-requires c κs = search needs
+
+same-length : tie.Need-same-length
+same-length c = search needs
+
+same-length-2 : tie.Need-same-length-2
+same-length-2 c = search needs
+
+same-length-3 : tie.Need-same-length-3
+same-length-3 c = search needs
+
+returns : tie.Need-returns
+unfolding consumeNumbers
+returns c =
+    let u = c .before .before .before .before .before .before .before .before in
+    let s = u .before .before .before .before .before .before .before .before .before .before in
+    let l = u .consume-logged .last in
+    ap (λ (t : Told). heard (t .answer) (contents (l .1 .1 .0) (l .1 .1 .1 .0)) (l .1 .1 .1 .1 .1 .1 .1 .1 .1 .0) 0 (t .number)) (c .consumed .ensures)
+    ∙ ap (λ (a : After). consumeNumbers a (now (s .args .count))) (u .consume-logged .ensures)
+
+pub loomfinch-consume-pdo-payload-spec : {M : Type 1} → statement M
+loomfinch-consume-pdo-payload-spec =
+    tie.close
+    (tie.spec
+    consume-logged-requires
+    consumed-requires
+    same-length
+    same-length-2
+    same-length-3
+    returns)

@@ -1,0 +1,19 @@
+-- `element::elements::word_verdict` meets its contract. Assumes nothing.
+use mathlib.Core.Path.{ap, _∙_}
+use Rattle.element.specs.Elements.{saidOf, wordVerdict}
+use borrow.Author.Needs.{needs}
+use Rattle.element.proofs.elements.word_verdict.Statement.{statement}
+use Rattle.element.proofs.elements.word_verdict.Tie as tie
+
+of-word-requires : tie.Need-of-word-requires
+of-word-requires c κs = search needs
+
+said-requires : tie.Need-said-requires
+said-requires c κs = search needs
+
+returns : tie.Need-returns
+unfolding wordVerdict
+returns c = c .said .ensures ∙ ap saidOf (c .before .of-word .ensures)
+
+pub word-verdict-spec : {M : Type 1} → statement M
+word-verdict-spec = tie.close (tie.spec of-word-requires said-requires returns)
