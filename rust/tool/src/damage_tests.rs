@@ -165,8 +165,9 @@ fn newer_capture(big: bool) -> Vec<u8> {
     [
         captures::section(big),
         captures::interface(big, 1, 0x86),
+        captures::interface_behind(big, 1, 9, -3),
         captures::packet(big, false, 0, 7, &frame),
-        captures::packet(big, true, 0, 8, &frame),
+        captures::packet(big, true, 1, 8, &frame),
         captures::simple_packet(big, &frame),
     ]
     .concat()

@@ -60,7 +60,7 @@ struct Player<'a> {
     console: &'a mut Console,
     table: Table,
     /// When the first packet was captured.
-    first: Option<u128>,
+    first: Option<i128>,
     /// The nodes that poll requests were addressed to.
     asked: BTreeSet<u8>,
 }
@@ -135,9 +135,8 @@ impl Player<'_> {
         let mark = if self.options.style.comma { ',' } else { '.' };
         match (packet.time, self.first) {
             (Some(time), Some(first)) => {
-                let (sign, distance) =
-                    if time < first { ("-", first - time) } else { ("", time - first) };
-                let micros = distance / 1000;
+                let sign = if time < first { "-" } else { "" };
+                let micros = (time - first).abs() / 1000;
                 format!("  {}{}{}{:06} s", sign, micros / 1_000_000, mark, micros % 1_000_000)
             }
             _ => String::new(),

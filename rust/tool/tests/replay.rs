@@ -2,7 +2,9 @@
 
 mod common;
 
-use common::captures::{interface, packet, pcap, request, response, section, simple_packet};
+use common::captures::{
+    interface, interface_behind, packet, pcap, request, response, section, simple_packet,
+};
 use common::{file, rig, run};
 use std::process::Command;
 
@@ -133,6 +135,23 @@ fn several_sections_interfaces_and_unknown_blocks() {
     assert!(run.out.contains("No. 2  0.001000 s  PRes"), "{}", run.out);
     assert!(run.out.contains("No. 3  0.003000 s  PRes"), "{}", run.out);
     assert!(run.out.contains("other frames: 1 not Ethernet\n"), "{}", run.out);
+}
+
+#[test]
+fn an_interface_may_shift_its_times() {
+    let frames = ramps();
+    for big in [false, true] {
+        let capture = [
+            section(big),
+            interface(big, 1, 6),
+            interface_behind(big, 1, 9, -2),
+            packet(big, false, 0, 1_000_000, &frames[0]),
+            packet(big, false, 1, 4_000_000_000, &frames[1]),
+        ];
+        let path = file(&format!("shifted-{big}.pcapng"), &capture.concat());
+        let run = run(&["replay", &rig("ramp.rig"), &path]);
+        assert!(run.out.contains("No. 2  1.000000 s  PRes"), "{}", run.out);
+    }
 }
 
 #[test]

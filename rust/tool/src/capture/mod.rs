@@ -15,7 +15,7 @@ pub struct Packet {
     /// Its number in the capture, from 1.
     pub number: u64,
     /// When it was captured, in nanoseconds; simple packet blocks do not say.
-    pub time: Option<u128>,
+    pub time: Option<i128>,
     pub bytes: Vec<u8>,
     /// How many bytes it had on the wire.
     pub length: usize,

@@ -5,7 +5,7 @@ use super::{Damage, Order, Packet, Source, ETHERNET, MOST_PACKET};
 pub struct Header {
     order: Order,
     /// Nanoseconds in the unit of the fractions of a second.
-    unit: u128,
+    unit: i128,
 }
 
 impl Header {
@@ -59,8 +59,8 @@ impl Header {
             );
             return Err(Damage::at(start + 8, text));
         }
-        let seconds = u128::from(self.order.u32(&head, 0));
-        let fraction = u128::from(self.order.u32(&head, 4));
+        let seconds = i128::from(self.order.u32(&head, 0));
+        let fraction = i128::from(self.order.u32(&head, 4));
         let bytes = source.exactly(captured, &format!("packet {number}"), start)?;
         Ok(Some(Packet {
             number,

@@ -22,20 +22,22 @@ struct Interface {
     /// The most bytes kept of a packet; 0 is no bound.
     kept: usize,
     ticks: Ticks,
+    /// Seconds to add to its times.
+    offset: i128,
 }
 
 /// How long a tick of an interface's clock is.
 #[derive(Clone, Copy)]
 enum Ticks {
     /// So many in a second.
-    PerSecond(u128),
+    PerSecond(i128),
     /// 2 to this power in a second.
     Binary(u32),
 }
 
 impl Ticks {
-    fn nanoseconds(self, ticks: u64) -> u128 {
-        let scaled = u128::from(ticks) * 1_000_000_000;
+    fn nanoseconds(self, ticks: u64) -> i128 {
+        let scaled = i128::from(ticks) * 1_000_000_000;
         match self {
             Ticks::PerSecond(rate) => scaled / rate,
             Ticks::Binary(power) => scaled >> power,
@@ -174,29 +176,38 @@ impl Section {
     }
 
     fn interface(&mut self, block: &Block) -> Result<(), Damage> {
+        const RESOLUTION: u16 = 9;
+        const OFFSET: u16 = 14;
         block.at_least(8)?;
+        let options = &block.body[8..];
         self.interfaces.push(Interface {
             link: self.order.u16(&block.body, 0),
             kept: self.order.u32(&block.body, 4) as usize,
-            ticks: self.ticks(&block.body[8..]),
+            ticks: self
+                .option(options, RESOLUTION, 1)
+                .map_or(Ticks::PerSecond(1_000_000), |power| resolution(power[0])),
+            offset: self
+                .option(options, OFFSET, 8)
+                .map_or(0, |seconds| self.order.i64(seconds, 0).into()),
         });
         Ok(())
     }
 
-    /// The clock's resolution among an interface's options; microseconds where none says.
-    fn ticks(&self, options: &[u8]) -> Ticks {
-        const RESOLUTION: u16 = 9;
+    /// The value of an option that has so many bytes.
+    fn option<'a>(&self, options: &'a [u8], wanted: u16, count: usize) -> Option<&'a [u8]> {
         let mut rest = options;
         while rest.len() >= 4 {
             let (code, length) = (self.order.u16(rest, 0), usize::from(self.order.u16(rest, 2)));
-            let padded = 4 + (length + 3) / 4 * 4;
-            match rest.get(4) {
-                Some(power) if code == RESOLUTION && length == 1 => return resolution(*power),
-                _ if code == 0 || padded > rest.len() => break,
-                _ => rest = &rest[padded..],
+            let value = rest.get(4..4 + length)?;
+            if code == wanted && length == count {
+                return Some(value);
             }
+            if code == 0 {
+                return None;
+            }
+            rest = rest.get(4 + (length + 3) / 4 * 4..)?;
         }
-        Ticks::PerSecond(1_000_000)
+        None
     }
 
     /// An enhanced packet block, or the packet block that it replaced: only the first word differs.
@@ -213,8 +224,9 @@ impl Section {
         let captured = self.order.u32(&block.body, 12) as usize;
         let length = self.order.u32(&block.body, 16) as usize;
         let bytes = block.part(20, captured)?;
-        let time = Some(interface.ticks.nanoseconds(ticks));
-        Ok(Packet { number, time, bytes, length, ethernet: interface.link == ETHERNET })
+        let time = interface.offset * 1_000_000_000 + interface.ticks.nanoseconds(ticks);
+        let ethernet = interface.link == ETHERNET;
+        Ok(Packet { number, time: Some(time), bytes, length, ethernet })
     }
 
     fn simple(&self, block: &Block, number: u64) -> Result<Packet, Damage> {
@@ -240,9 +252,9 @@ impl Section {
 
 fn resolution(power: u8) -> Ticks {
     match power {
-        0..=38 => Ticks::PerSecond(10u128.pow(u32::from(power))),
+        0..=38 => Ticks::PerSecond(10i128.pow(u32::from(power))),
         0x80..=0xFF => Ticks::Binary(u32::from(power & 0x7F)),
-        _ => Ticks::PerSecond(u128::MAX),
+        _ => Ticks::PerSecond(i128::MAX),
     }
 }
 

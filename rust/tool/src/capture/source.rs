@@ -102,4 +102,14 @@ impl Order {
             Order::Big => u32::from_be_bytes(four),
         }
     }
+
+    /// The signed eight-byte number at a place within the bytes.
+    pub fn i64(self, bytes: &[u8], at: usize) -> i64 {
+        let (first, second) = (self.u32(bytes, at), self.u32(bytes, at + 4));
+        let (low, high) = match self {
+            Order::Little => (first, second),
+            Order::Big => (second, first),
+        };
+        (u64::from(high) << 32 | u64::from(low)) as i64
+    }
 }

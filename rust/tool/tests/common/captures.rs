@@ -77,12 +77,24 @@ pub fn section(big: bool) -> Vec<u8> {
 
 /// An interface of a link type, whose clock ticks 10 to a power times a second.
 pub fn interface(big: bool, link: u16, power: u8) -> Vec<u8> {
+    interface_with(big, link, power, &[])
+}
+
+/// The same, with so many seconds to add to its times.
+pub fn interface_behind(big: bool, link: u16, power: u8, seconds: i64) -> Vec<u8> {
+    let mut option = [two(big, 14), two(big, 8)].concat();
+    option.extend(if big { seconds.to_be_bytes() } else { seconds.to_le_bytes() });
+    interface_with(big, link, power, &option)
+}
+
+fn interface_with(big: bool, link: u16, power: u8, option: &[u8]) -> Vec<u8> {
     let mut body = two(big, link).to_vec();
     body.extend([0, 0]);
     body.extend(four(big, 0));
     body.extend(two(big, 9));
     body.extend(two(big, 1));
     body.extend([power, 0, 0, 0]);
+    body.extend(option);
     body.extend([0; 4]);
     block(big, 1, &body)
 }
