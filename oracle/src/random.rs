@@ -1,5 +1,6 @@
 //! Numbers from a seed (splitmix64), so that every run can be repeated.
 
+#[derive(Clone)]
 pub struct Random(u64);
 
 impl Random {

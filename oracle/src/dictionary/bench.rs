@@ -20,9 +20,11 @@ use crate::random::Random;
 use std::hint::black_box;
 use std::time::Instant;
 
-/// Nanoseconds that all repeats of one call should take about, and how often they are timed.
+/// Nanoseconds that all repeats of one call should take about.
 const LONG_ENOUGH: f64 = 2e7;
-const RUNS: usize = 5;
+
+/// So often all calls are timed, one after another: other work slows the machine for seconds on end.
+const ROUNDS: usize = 20;
 
 /// Indices that no dictionary of `using` has, and one that each has.
 const MISSING: u16 = 0x0FFF;
@@ -44,23 +46,41 @@ pub struct Setting {
 /// The most of each that a dictionary has.
 const LARGEST: Used = Used { objects: 1024, values: 6144, bytes: 32_768 };
 
-pub fn print(port: &mut Port, random: &mut Random) {
-    let mut table = Table::begin();
+pub fn print(port: &mut Port, random: &Random) {
+    let mut table = Table::default();
+    let mut judged = [f64::INFINITY; 3];
+    for _ in 0..ROUNDS {
+        // The same dictionaries in each.
+        let mut random = random.clone();
+        round(port, &mut random, &mut table);
+        let times = judging(port, &mut random);
+        judged.iter_mut().zip(times).for_each(|(least, time)| *least = least.min(time));
+    }
+    table.print();
+    let [bare, named, valued] = judged;
+    let [object, value] = [bare / 1000.0, (valued - bare) / 6000.0];
+    let byte = (named - bare) / 32_000.0;
+    println!();
+    println!(
+        "Judging alone: {object:.1} ns an object, {value:.1} ns a value, {byte:.2} ns a byte of a name."
+    );
+}
+
+fn round(port: &mut Port, random: &mut Random, table: &mut Table) {
     for objects in [20, 200, 1000] {
         let used = Used { objects, values: 4 * objects, bytes: 20 * objects };
         let setting = saved(random, used, 3);
-        row(port, &mut table, &setting, "insert", &insertion(&setting.objects));
-        rows(port, &mut table, &setting);
+        row(port, table, &setting, "insert", &insertion(&setting.objects));
+        rows(port, table, &setting);
     }
     // A fourth is saved: a third would be over 2,048 records.
-    rows(port, &mut table, &saved(random, LARGEST, 4));
+    rows(port, table, &saved(random, LARGEST, 4));
     for records in [0, 512, 1024, 2048] {
         let setting = evenly_saved(random, records);
         let name = format!("restore_power_on_values, {} records", count(records));
-        row(port, &mut table, &setting, &name, &restores::everything());
+        row(port, table, &setting, &name, &restores::everything());
     }
-    payload_times::print(port, random, &mut table);
-    judging(port, random);
+    payload_times::round(port, random, table);
 }
 
 fn rows(port: &mut Port, table: &mut Table, setting: &Setting) {
@@ -71,11 +91,11 @@ fn rows(port: &mut Port, table: &mut Table, setting: &Setting) {
 
 fn row(port: &mut Port, table: &mut Table, setting: &Setting, name: &str, call: &Call) {
     let port_time = port_time(port, setting, call);
-    let rust_time = least(|_| rust_time(setting, call));
+    let rust_time = rust_time(setting, call);
     let Used { objects, values, bytes } = Used::of(&setting.objects);
     let [objects, values, bytes] = [objects, values, bytes].map(count);
     let dictionary = format!("{objects} objects, {values} values, {bytes} bytes");
-    table.row(&dictionary, name, port_time, Some(rust_time));
+    table.row(dictionary, name, port_time, Some(rust_time));
 }
 
 /// Every so manyth object is saved.
@@ -114,27 +134,14 @@ fn calls() -> [(&'static str, Call); 7] {
     ]
 }
 
-/// A call that does little else than judge, on dictionaries of ever more
-/// objects, values and bytes of text: what one more of each costs.
-fn judging(port: &mut Port, random: &mut Random) {
+/// A call that does little else than judge, on 1,000 objects, on these with 32,000 bytes of names, and
+/// on these with 6,000 values.
+fn judging(port: &mut Port, random: &mut Random) -> [f64; 3] {
     let mut time = |objects, values, bytes| {
         let objects = using(random, Used { objects, values, bytes });
         port_time(port, &Setting { objects, records: Vec::new() }, &missing())
     };
-    let bare = time(1000, 0, 0);
-    let named = time(1000, 0, 32_000);
-    let valued = time(1000, 6000, 0);
-    let [object, value] = [bare / 1000.0, (valued - bare) / 6000.0];
-    let byte = (named - bare) / 32_000.0;
-    println!();
-    println!(
-        "Judging alone: {object:.1} ns an object, {value:.1} ns a value, {byte:.2} ns a byte of a name."
-    );
-}
-
-/// The shortest of several times, which other work on the machine disturbed least.
-pub fn least(time: impl FnMut(usize) -> f64) -> f64 {
-    (0..RUNS).map(time).fold(f64::INFINITY, f64::min)
+    [time(1000, 0, 0), time(1000, 0, 32_000), time(1000, 6000, 0)]
 }
 
 /// How often a call can be repeated that takes so long.
@@ -146,7 +153,7 @@ fn repeats(time: f64) -> f64 {
 pub fn port_time(port: &mut Port, setting: &Setting, call: &Call) -> f64 {
     let few = port_repeats(port, setting, call, 3);
     let repeats = repeats(few) as u64;
-    least(|_| port_repeats(port, setting, call, repeats))
+    port_repeats(port, setting, call, repeats)
 }
 
 fn port_repeats(port: &mut Port, setting: &Setting, call: &Call, repeats: u64) -> f64 {

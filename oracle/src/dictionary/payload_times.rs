@@ -26,7 +26,7 @@ const LENGTH: u64 = 4 * FIELDS;
 const CHECK_ALL: usize = 768;
 const EXPLAIN: usize = 11;
 
-pub fn print(port: &mut Port, random: &mut Random, table: &mut Table) {
+pub fn round(port: &mut Port, random: &mut Random, table: &mut Table) {
     for objects in [20, 200, 1000] {
         for records in [1, 256] {
             for channel in [0, 255] {
@@ -53,8 +53,8 @@ fn rows(
     let consumed = [("a payload", payload(random)), ("a cycle of 32 payloads", cycle(random))];
     for (name, call) in consumed {
         let port_time = bench::port_time(port, setting, &call);
-        let rust_time = bench::least(|_| bench::rust_time(setting, &call));
-        table.row(&dictionary, name, port_time, Some(rust_time));
+        let rust_time = bench::rust_time(setting, &call);
+        table.row(dictionary.clone(), name, port_time, Some(rust_time));
     }
     let channel = channel as u8;
     let added = [
@@ -64,7 +64,7 @@ fn rows(
         ("judging alone", bench::missing()),
     ];
     for (name, call) in added {
-        table.row(&dictionary, name, bench::port_time(port, setting, &call), None);
+        table.row(dictionary.clone(), name, bench::port_time(port, setting, &call), None);
     }
 }
 

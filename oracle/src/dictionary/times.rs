@@ -1,26 +1,45 @@
 //! The table of times, as docs/SPEED.md has it: a row for each call on a dictionary.
 
-/// Says the dictionary where it is another one than in the row before.
+#[derive(Default)]
 pub struct Table {
+    rows: Vec<Row>,
+}
+
+struct Row {
     dictionary: String,
+    call: String,
+    port: f64,
+    /// None where the Rust has no such call.
+    rust: Option<f64>,
 }
 
 impl Table {
-    pub fn begin() -> Self {
-        println!("| dictionary | call | library, ns | the Rust, ns | ratio |");
-        println!("|---|---|---|---|---|");
-        Self { dictionary: String::new() }
+    /// A row, or shorter times of one that is there.
+    pub fn row(&mut self, dictionary: String, call: &str, port: f64, rust: Option<f64>) {
+        let same = |row: &&mut Row| row.dictionary == dictionary && row.call == call;
+        match self.rows.iter_mut().find(same) {
+            Some(row) => {
+                row.port = row.port.min(port);
+                row.rust = row.rust.zip(rust).map(|(old, new)| old.min(new));
+            }
+            None => self.rows.push(Row { dictionary, call: call.into(), port, rust }),
+        }
     }
 
-    /// Without a time of the Rust where it has no such call.
-    pub fn row(&mut self, dictionary: &str, call: &str, port: f64, rust: Option<f64>) {
-        let named = if self.dictionary == dictionary { "" } else { dictionary };
-        let (rust_time, ratio) = match rust {
-            Some(rust) => (nanoseconds(rust), ratio(port / rust)),
-            None => ("none".into(), String::new()),
-        };
-        println!("| {named} | {call} | {} | {rust_time} | {ratio} |", nanoseconds(port));
-        self.dictionary = dictionary.into();
+    /// Says the dictionary where it is another one than in the row before.
+    pub fn print(&self) {
+        println!("| dictionary | call | library, ns | the Rust, ns | ratio |");
+        println!("|---|---|---|---|---|");
+        let mut before = "";
+        for Row { dictionary, call, port, rust } in &self.rows {
+            let named = if before == dictionary { "" } else { dictionary };
+            let (rust_time, ratio) = match rust {
+                Some(rust) => (nanoseconds(*rust), ratio(port / rust)),
+                None => ("none".into(), String::new()),
+            };
+            println!("| {named} | {call} | {} | {rust_time} | {ratio} |", nanoseconds(*port));
+            before = dictionary;
+        }
     }
 }
 
