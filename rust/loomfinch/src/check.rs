@@ -24,6 +24,7 @@ pub enum Fault {
 /// What the check says of a channel. A fault is an answer and no refusal. It displays as `Pass`, `NoSender` or
 /// `WrongLength at element 1`.
 #[derive(Debug, Clone, Copy, PartialEq, Eq, Hash)]
+#[must_use = "a channel with a fault is an answer and no error"]
 pub enum Checked {
     /// Every payload that the channel accepts is written whole.
     Pass,

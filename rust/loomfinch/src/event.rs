@@ -1,6 +1,7 @@
 //! What happened while payloads were consumed.
 
 use crate::types::{NodeId, PDOVersion};
+use std::fmt;
 
 /// Why a field stopped the run of its payload.
 #[derive(Debug, Clone, Copy, PartialEq, Eq, Hash)]
@@ -24,7 +25,7 @@ pub enum Unwritten {
     TooLong,
 }
 
-/// What happened.
+/// What happened. It displays as `MapVersion`, `PayloadShort: Frame` or `Server: 1200h, 2 bytes from byte 6 on`.
 #[derive(Debug, Clone, Copy, PartialEq, Eq, Hash)]
 pub enum Event {
     /// The payload has the wrong mapping version, and nothing of it was written.
@@ -53,7 +54,7 @@ pub enum Event {
     WriteRefused(Unwritten),
 }
 
-/// An event and where it happened.
+/// An event and where it happened. It displays as `payload 0, element 1: PayloadShort: Frame`.
 #[derive(Debug, Clone, Copy, PartialEq, Eq, Hash)]
 pub struct EventRecord {
     /// The number of the payload in its cycle, from 0; 0 for a single payload.
@@ -86,8 +87,54 @@ impl EventRecord {
     }
 }
 
+impl fmt::Display for Cause {
+    fn fmt(&self, f: &mut fmt::Formatter<'_>) -> fmt::Result {
+        write!(f, "{self:?}")
+    }
+}
+
+impl fmt::Display for Unwritten {
+    fn fmt(&self, f: &mut fmt::Formatter<'_>) -> fmt::Result {
+        write!(f, "{self:?}")
+    }
+}
+
+impl fmt::Display for Event {
+    fn fmt(&self, f: &mut fmt::Formatter<'_>) -> fmt::Result {
+        match self {
+            Event::MapVersion => f.write_str("MapVersion"),
+            Event::PayloadShort(cause) => write!(f, "PayloadShort: {cause}"),
+            Event::Server { index, start, len } => handed_on(f, "Server", *index, *start, *len),
+            Event::Client { index, start, len } => handed_on(f, "Client", *index, *start, *len),
+            Event::WriteRefused(why) => write!(f, "WriteRefused: {why}"),
+        }
+    }
+}
+
+fn handed_on(
+    f: &mut fmt::Formatter<'_>,
+    to: &str,
+    index: u16,
+    start: u16,
+    len: u16,
+) -> fmt::Result {
+    let plural = if len == 1 { "" } else { "s" };
+    write!(f, "{to}: {index:04X}h, {len} byte{plural} from byte {start} on")
+}
+
+impl fmt::Display for EventRecord {
+    fn fmt(&self, f: &mut fmt::Formatter<'_>) -> fmt::Result {
+        write!(f, "payload {}", self.payload)?;
+        if let Some(element) = self.element {
+            write!(f, ", element {element}")?;
+        }
+        write!(f, ": {}", self.event)
+    }
+}
+
 /// The events of a payload or of a cycle, in order.
 #[derive(Debug, Clone)]
+#[must_use = "a payload that stops half-way says so by its events alone"]
 pub struct Events {
     numbers: std::vec::IntoIter<u64>,
 }

@@ -12,13 +12,26 @@ impl fmt::Display for NodeId {
     }
 }
 
-/// The version of a mapping: the high half is the main version, the low half the sub version; 0 is none.
-#[derive(Debug, Clone, Copy, PartialEq, Eq, Hash)]
+/// The version of a mapping: the high half is the main version, the low half the sub version; 0 is none. It displays as `1.2`.
+#[derive(Debug, Clone, Copy, PartialEq, Eq, PartialOrd, Ord, Hash)]
 pub struct PDOVersion(pub u8);
 
-/// The address of a network interface, in the order of transmission.
+impl fmt::Display for PDOVersion {
+    fn fmt(&self, f: &mut fmt::Formatter<'_>) -> fmt::Result {
+        write!(f, "{}.{}", self.0 >> 4, self.0 & 15)
+    }
+}
+
+/// The address of a network interface, in the order of transmission. It displays as `00:60:65:0a:1b:2c`.
 #[derive(Debug, Clone, Copy, PartialEq, Eq, Hash)]
 pub struct MacAddress(pub [u8; 6]);
+
+impl fmt::Display for MacAddress {
+    fn fmt(&self, f: &mut fmt::Formatter<'_>) -> fmt::Result {
+        let [a, b, c, d, e, last] = self.0;
+        write!(f, "{a:02x}:{b:02x}:{c:02x}:{d:02x}:{e:02x}:{last:02x}")
+    }
+}
 
 /// An Internet address of version 4, in the order of transmission.
 pub type IpAddress = [u8; 4];

@@ -141,10 +141,11 @@ fn a_cycle_is_its_payloads_in_turn() -> Result<(), Refusal> {
     let events: Vec<_> = rig.consume_cycle(&delivered, &payloads)?.collect();
     let short = Event::PayloadShort(Cause::Frame);
     assert_eq!(events, [EventRecord { payload: 1, element: Some(2), event: short }]);
+    assert_eq!(events[0].to_string(), "payload 1, element 2: PayloadShort: Frame");
     for payload in payloads {
         let Payload { start, len, source_node_id, is_ready, .. } = payload;
         let bytes = &delivered[start..][..len];
-        apart.consume_pdo_payload(source_node_id, bytes, VERSION, is_ready)?;
+        let _ = apart.consume_pdo_payload(source_node_id, bytes, VERSION, is_ready)?;
     }
     assert_eq!(rig.parts(), apart.parts());
     assert_eq!((rig.read_u16(0x6000, 0)?, rig.read_u32(0x6200, 3)?), (2, 3));
