@@ -100,10 +100,10 @@ fn consume(arguments: Vec<OsString>) -> Result<Command, String> {
         return Ok(Command::Help(help::CONSUME));
     }
     let rig = given.file("the rig file")?;
-    let sender = given.byte("--from")?;
+    let sender = given.byte("--from", 1)?;
     let sender = sender
         .ok_or_else(|| given.wrong("--from is missing: the node that sends, as in --from 5"))?;
-    let version = given.byte("--version")?;
+    let version = given.byte("--version", 0)?;
     let version = version.ok_or_else(|| {
         given.wrong("--version is missing: the payload's mapping version, as in --version 12h")
     })?;
@@ -125,9 +125,15 @@ fn replay(arguments: Vec<OsString>) -> Result<Command, String> {
     let rig = given.file("the rig file")?;
     let capture = given.file("the capture")?;
     given.no_more()?;
-    let node = given.byte("--node")?;
+    let node = given.byte("--node", 1)?;
     let (quiet, style) = (given.has("--quiet"), given.style());
     Ok(Command::Replay(Replay { rig, capture, node, quiet, style }))
+}
+
+/// A name without the control characters that a terminal would obey.
+fn printable(name: &str) -> String {
+    let shown = |c: char| if c.is_control() { c.escape_debug().to_string() } else { c.to_string() };
+    name.chars().map(shown).collect()
 }
 
 /// A command's arguments, options apart from the others.
@@ -208,7 +214,7 @@ impl Given {
             return Err(self.wrong(&format!("{what} is missing")));
         }
         let word = self.words.remove(0);
-        let shown = word.to_string_lossy().into_owned();
+        let shown = printable(&word.to_string_lossy());
         Ok(Named { path: PathBuf::from(word), shown })
     }
 
@@ -224,17 +230,18 @@ impl Given {
     }
 
     /// The value of a setting, where it was given; the last one stands.
-    fn byte(&self, name: &str) -> Result<Option<u8>, String> {
+    fn byte(&self, name: &str, least: u8) -> Result<Option<u8>, String> {
         let value = match self.settings.iter().rev().find(|setting| setting.0 == name) {
             Some((_, value)) => value,
             None => return Ok(None),
         };
         match numbers::unsigned(value).and_then(|number| u8::try_from(number).ok()) {
-            Some(number) => Ok(Some(number)),
-            None => {
+            Some(number) if number >= least => Ok(Some(number)),
+            _ => {
                 let text = format!(
-                    "{} needs a number from 0 to 255, as 16, 10h or 0x10, not '{}'",
+                    "{} needs a number from {} to 255, as 16, 10h or 0x10, not '{}'",
                     name,
+                    least,
                     value.escape_debug()
                 );
                 Err(self.wrong(&text))
@@ -244,8 +251,9 @@ impl Given {
 
     fn payload(&self, word: &OsString) -> Result<Vec<u8>, String> {
         let text = word.to_string_lossy();
-        let digits: String = text.chars().filter(|c| !c.is_whitespace() && *c != ':').collect();
-        hex_bytes(&digits).ok_or_else(|| {
+        let groups = text.split(|c: char| c.is_whitespace() || c == ':');
+        let bytes: Option<Vec<Vec<u8>>> = groups.map(hex_bytes).collect();
+        bytes.map(|bytes| bytes.concat()).ok_or_else(|| {
             let text = format!(
                 "a payload is pairs of hexadecimal digits, as in C40910270000, not '{}'",
                 text.escape_debug()

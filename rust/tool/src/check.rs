@@ -32,7 +32,8 @@ pub fn run(options: &Check, console: &mut Console, out: &mut dyn Write) -> Resul
         })
         .collect();
     if options.json {
-        writeln!(out, "{}", json(&options.rig.shown, &console.rig, &channels, options.explain))?;
+        let file = options.rig.path.to_string_lossy();
+        writeln!(out, "{}", json(&file, &console.rig, &channels, options.explain))?;
     } else {
         text(&console.rig, &channels, options.explain, out)?;
     }
@@ -67,19 +68,14 @@ fn text(
     for note in all_notes(rig, channels) {
         writeln!(out, "note: {note}")?;
     }
-    if channels.is_empty() {
-        writeln!(
-            out,
-            "no channel: the rig has no object from 1400h to 14FFh, so nothing is received"
-        )?;
-    }
     Ok(())
 }
 
 fn explanation(rig: &Rig, channel: &Channel, out: &mut dyn Write) -> Result<(), Failure> {
     let drawing = drawing::draw(rig, &channel.elements);
+    let stop = channel.elements.iter().find(|element| element.stops()).map(|one| one.number);
     let words: Vec<String> =
-        channel.elements.iter().map(|element| element_words(rig, element)).collect();
+        channel.elements.iter().map(|element| element_words(rig, element, stop)).collect();
     if !drawing.is_empty() {
         writeln!(out, "\n{}", drawing.join("\n"))?;
     }
@@ -89,15 +85,22 @@ fn explanation(rig: &Rig, channel: &Channel, out: &mut dyn Write) -> Result<(), 
     Ok(())
 }
 
-fn element_words(rig: &Rig, element: &Element) -> String {
+/// What becomes of an element where every payload stops at another, or at none.
+fn element_words(rig: &Rig, element: &Element, stop: Option<u8>) -> String {
     match (element.fault, &element.mapped) {
         (Some(fault), _) => faults::of_element(rig, element, fault),
         (None, Some(mapped)) => format!(
-            "element {} maps {} onto {}, {}: whole",
+            "element {} maps {} onto {}, {}: {}",
             element.number,
             words::bytes(mapped.length()),
             named_place(rig, mapped.entry.index, mapped.entry.sub_index),
-            target_words(mapped.target)
+            target_words(mapped.target),
+            match stop {
+                Some(stop) if stop < element.number =>
+                    format!("never reached, since every payload stops at element {stop}"),
+                Some(stop) if stop == element.number => "every payload stops there".to_string(),
+                _ => "whole".to_string(),
+            }
         ),
         (None, None) => format!("element {} maps nothing", element.number),
     }

@@ -21,19 +21,25 @@ const KEPT: char = '=';
 const LOST: char = 'x';
 const HANDED_ON: char = 's';
 const NOT_WHOLE: char = '?';
+const UNREACHED: char = '-';
 const SHARED: char = '~';
 
-const SIGNS: [(char, &str); 5] = [
+const SIGNS: [(char, &str); 6] = [
     (KEPT, "kept"),
     (LOST, "lost"),
     (HANDED_ON, "handed on to SDO"),
     (NOT_WHOLE, "not whole bytes"),
+    (UNREACHED, "never reached"),
     (SHARED, "in more than one element"),
 ];
 
 /// The drawing's lines; none where no element takes a byte.
 pub fn draw(rig: &Rig, elements: &[Element]) -> Vec<String> {
-    let fields: Vec<Field> = elements.iter().filter_map(|element| field(rig, element)).collect();
+    let reached = elements.iter().position(Element::stops).map_or(elements.len(), |k| k + 1);
+    let (reached, others) = elements.split_at(reached);
+    let fields = reached.iter().filter_map(|element| field(rig, element, fate(element)));
+    let others = others.iter().filter_map(|element| field(rig, element, (0, UNREACHED)));
+    let fields: Vec<Field> = fields.chain(others).collect();
     if fields.is_empty() {
         return Vec::new();
     }
@@ -61,20 +67,26 @@ fn same(until: usize) -> String {
     format!("{:>13}  up to byte {}", "the same", until)
 }
 
+/// How many bytes of an element's field are kept, and the sign of the others.
+fn fate(element: &Element) -> (usize, char) {
+    let target = element.mapped.as_ref().map(|mapped| (mapped.target, mapped.length()));
+    match (element.fault, target) {
+        _ if element.stops() => (0, LOST),
+        (None, Some((_, length))) => (length, LOST),
+        (Some(Fault::Misaligned), _) => (0, NOT_WHOLE),
+        (Some(Fault::HandOff), _) => (0, HANDED_ON),
+        (Some(Fault::WrongLength), Some((Target::Fixed { size, .. }, length))) => {
+            (size.min(length), LOST)
+        }
+        _ => (0, LOST),
+    }
+}
+
 /// An element's field; none where it is no mapping word, or empty.
-fn field(rig: &Rig, element: &Element) -> Option<Field> {
+fn field(rig: &Rig, element: &Element, (kept, mark): (usize, char)) -> Option<Field> {
     let mapped = element.mapped.as_ref()?;
     let entry = mapped.entry;
     let bytes = usize::from(entry.offset_bits) / 8..mapped.end;
-    let (kept, mark) = match (element.fault, mapped.target) {
-        (None, _) => (bytes.len(), LOST),
-        (Some(Fault::Misaligned), _) => (0, NOT_WHOLE),
-        (Some(Fault::HandOff), _) => (0, HANDED_ON),
-        (Some(Fault::WrongLength), Target::Fixed { size, .. }) if size < bytes.len() => {
-            (size, LOST)
-        }
-        (Some(_), _) => (0, LOST),
-    };
     let label = format!("element {}", element.number);
     let target = named_place(rig, entry.index, entry.sub_index);
     Some(Field { label, bytes, kept, mark, target }).filter(|_| entry.length_bits > 0)

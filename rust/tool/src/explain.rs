@@ -1,6 +1,8 @@
 //! What an element of a mapping maps, and onto what, as the library explains it.
 
-use loomfinch::{Dictionary, Explanation, Fault, PdoMappingEntry, Target, ValueType};
+use loomfinch::{
+    Dictionary, Explanation, Fault, PdoMappingEntry, Target, ValueType, MOST_PAYLOAD_BYTES,
+};
 use std::ops::Range;
 
 /// An element of a mapping, explained.
@@ -14,6 +16,26 @@ pub struct Element {
     pub element_type: ValueType,
     /// What the mapping word says, or none where it is none.
     pub mapped: Option<Mapped>,
+}
+
+impl Element {
+    /// Does every payload stop here? The field ends behind the longest one, or can hold no value of the target's type.
+    pub fn stops(&self) -> bool {
+        let mapped = self.mapped.as_ref();
+        let (mapped, field) = match mapped.and_then(|it| Some((it, it.field.as_ref()?))) {
+            Some(found) => found,
+            None => return false,
+        };
+        let unreadable = match mapped.target {
+            Target::Fixed { size, .. } => field.len() < size,
+            Target::Count => field.is_empty(),
+            Target::String { value_type, .. } => {
+                value_type == ValueType::UnicodeString && field.len() % 2 != 0
+            }
+            Target::NoObject | Target::NoSubIndex => false,
+        };
+        mapped.end > MOST_PAYLOAD_BYTES || (unreadable && self.fault != Some(Fault::HandOff))
+    }
 }
 
 /// What a mapping word says. The field and its end are kept, since asking for them calls the library each time.

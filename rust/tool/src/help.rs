@@ -3,13 +3,13 @@
 pub const MORE: &str = "'loomfinch --help' says more.";
 
 pub const ALL: &str = "\
-loomfinch says why a drive did not get the time that was sent to it.
+loomfinch says why a time did not arrive as it was sent.
 
-A console receives times and positions from the drives as process data over
-Ethernet POWERLINK. Its object dictionary says which bytes of a payload go to
-which object. You describe that dictionary in a text file, the rig file, and
-loomfinch tells you whether each channel writes what it maps, and what given
-payloads change.
+A node of a rig, as a console or a drive, receives times and positions from the
+others as process data over Ethernet POWERLINK. Its object dictionary says which
+bytes of a payload go to which object. You describe that dictionary in a text
+file, the rig file, and loomfinch tells you whether each channel writes what it
+maps, and what given payloads change.
 
   loomfinch check RIG                 is something wrong with the mappings?
   loomfinch consume RIG --from NODE --version V HEX...
@@ -29,7 +29,7 @@ A rig file looks like this (docs/RIG.md has all of it):
   6000h Variable Unsigned16 \"Ramp time\" = 2500 ms
 
 Exit status: 0 nothing is wrong, 1 something is, 2 the command or a file could
-not be understood.
+not be understood, or the output not be written.
 ";
 
 pub const CHECK: &str = "\
@@ -65,7 +65,7 @@ in 1C80h and 1C81h.
 
   HEX           a payload as hexadecimal digits: C40910270000, or with spaces
                 in quotes: 'C4 09 10 27 00 00'; each HEX is one payload
-  --from NODE   the node that sends: 1 to 239, or 240 for the managing node
+  --from NODE   the node that sends: 1 to 239, or 240, the managing node
   --version V   the mapping version that comes with the payloads; 0 is none
   --not-ready   the payloads come without the RD flag
   --times       show every Unsigned16 and Unsigned32 as a time in ms and s,
@@ -83,8 +83,8 @@ Example:
       bytes, 01 00, are lost
     6200h/3 \"Move times\": 0 ms = 0.000 s -> 1 ms = 0.001 s
 
-Exit status: 0 all was written, 1 something was refused, cut or passed over, 2
-the command or the rig file could not be understood.
+Exit status: 0 nothing was refused, stopped, cut or passed over, 1 something
+was, 2 the command or the rig file could not be understood.
 ";
 
 pub const REPLAY: &str = "\
@@ -112,7 +112,7 @@ Example:
   sender
   other frames: 1 EtherType 0800h, 1 SoC
 
-Exit status: 0 all was written, 1 something was refused, cut or passed over, 2
-the command or a file could not be understood; a capture that is damaged is
-told up to the damage.
+Exit status: 0 nothing was refused, stopped, cut or passed over, 1 something
+was, 2 the command or a file could not be understood; a capture that is damaged
+is told up to the damage.
 ";

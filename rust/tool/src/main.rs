@@ -46,8 +46,8 @@ fn main() -> ExitCode {
     match done.and_then(|status| flushed.map(|()| status).map_err(Failure::Output)) {
         Ok(Status::Clean) => ExitCode::SUCCESS,
         Ok(Status::Faults) => ExitCode::from(1),
-        // Whoever read the output has read enough.
-        Err(Failure::Output(error)) if error.kind() == ErrorKind::BrokenPipe => ExitCode::SUCCESS,
+        // Whoever read the output has read enough; what was not said may have been a fault.
+        Err(Failure::Output(error)) if error.kind() == ErrorKind::BrokenPipe => ExitCode::from(2),
         Err(Failure::Output(error)) => complain(&format!("the output cannot be written: {error}")),
         Err(Failure::Message(text)) => complain(&text),
     }

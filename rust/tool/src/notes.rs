@@ -5,8 +5,12 @@ use crate::rig::{Place, Rig};
 use crate::words::{named_place, place, type_with_article};
 use loomfinch::ValueType;
 
-/// Mappings that no channel uses, and error objects that cannot note every node.
+/// No channel at all, mappings that no channel uses, and error objects that cannot note every node.
 pub fn of_rig(rig: &Rig) -> Vec<String> {
+    let none = rig.objects.range(0x1400..=0x14FF).next().is_none();
+    let none = none.then_some(
+        "no channel: the rig has no object from 1400h to 14FFh, so nothing is received".to_string(),
+    );
     let mappings = rig.objects.range(0x1600..=0x16FF).map(|(index, _)| *index);
     let unused =
         mappings.filter(|index| !rig.objects.contains_key(&(index - 0x200))).map(|index| {
@@ -21,7 +25,7 @@ pub fn of_rig(rig: &Rig) -> Vec<String> {
             "{index:04X}h cannot note every node: that takes a Variable, an OctetString of 32 bytes"
         )
     });
-    unused.chain(small).collect()
+    none.into_iter().chain(unused).chain(small).collect()
 }
 
 /// Has an error object a bit for each of the nodes 1 to 239?
@@ -32,11 +36,12 @@ fn notes_every_node(rig: &Rig, index: u16) -> bool {
     }
 }
 
-/// A version that is none; fields that share bytes, and targets that are mapped twice, each element with the first before
-/// it.
+/// A version that is none; targets within the channel's own records; fields that share bytes, and targets that are mapped
+/// twice, each element with the first before it.
 pub fn of_channel(rig: &Rig, channel: u8, elements: &[Element]) -> Vec<String> {
     let mut notes: Vec<String> = unread_version(rig, channel).into_iter().collect();
     for (k, later) in elements.iter().enumerate() {
+        notes.extend(own_record(rig, channel, later));
         let earlier = &elements[..k];
         let with = |one: &Element| {
             format!("channel {}: elements {} and {}", channel, one.number, later.number)
@@ -68,6 +73,19 @@ fn unread_version(rig: &Rig, channel: u8) -> Option<String> {
     }
 }
 
+/// An element that a payload changes the channel itself by.
+fn own_record(rig: &Rig, channel: u8, element: &Element) -> Option<String> {
+    let (index, sub_index) = target(element)?;
+    let records = [0x1400 + u16::from(channel), 0x1600 + u16::from(channel)];
+    Some(format!(
+        "channel {}: element {} maps onto {}, a record of the channel itself: a payload may change what the next ones do",
+        channel,
+        element.number,
+        named_place(rig, index, sub_index)
+    ))
+    .filter(|_| records.contains(&index))
+}
+
 /// The bytes of the payload that two elements share.
 fn shared(one: &Element, other: &Element) -> Option<String> {
     let (one, other) =
@@ -82,9 +100,11 @@ fn shared(one: &Element, other: &Element) -> Option<String> {
 
 /// The place that two elements without fault both map onto.
 fn same_target(one: &Element, other: &Element) -> Option<(u16, u8)> {
-    let target = |element: &Element| {
-        let entry = element.mapped.as_ref()?.entry;
-        Some((entry.index, entry.sub_index)).filter(|_| element.fault.is_none())
-    };
     target(one).filter(|found| target(other) == Some(*found))
+}
+
+/// Where an element without fault is written.
+fn target(element: &Element) -> Option<(u16, u8)> {
+    let entry = element.mapped.as_ref()?.entry;
+    Some((entry.index, entry.sub_index)).filter(|_| element.fault.is_none())
 }

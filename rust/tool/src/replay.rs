@@ -76,10 +76,7 @@ impl Player<'_> {
             Frame::Poll(poll) => self.poll(packet, &poll, out),
             Frame::Cut { request, sender, said, there } => {
                 let why = cut(packet, said, there);
-                match sender {
-                    Some(sender) => self.table.damaged(sender, packet.number, &why),
-                    None => self.table.other("cut before its sender".to_string()),
-                }
+                self.table.damaged(sender, packet.number, &why);
                 let from = sender.map_or("an unknown node".to_string(), words::node);
                 let head = format!("{} from {}", poll_name(request), from);
                 self.tell(packet, &head, &[why], out)

@@ -7,7 +7,8 @@ use std::io::{self, Write};
 
 #[derive(Default)]
 pub struct Table {
-    senders: BTreeMap<u8, Row>,
+    /// None stands for frames that end before they name their sender.
+    senders: BTreeMap<Option<u8>, Row>,
     /// Frames without process data, by what they are.
     others: BTreeMap<String, u64>,
 }
@@ -30,7 +31,7 @@ impl Row {
 impl Table {
     /// Counts a frame whose payload was given to the console.
     pub fn told(&mut self, sender: u8, number: u64, ready: bool, told: &Told) {
-        let row = self.senders.entry(sender).or_default();
+        let row = self.senders.entry(Some(sender)).or_default();
         row.frames += 1;
         row.not_ready += u64::from(!ready);
         row.written += told.written;
@@ -41,7 +42,7 @@ impl Table {
     }
 
     /// Counts a frame that could not be consumed.
-    pub fn damaged(&mut self, sender: u8, number: u64, why: &str) {
+    pub fn damaged(&mut self, sender: Option<u8>, number: u64, why: &str) {
         let row = self.senders.entry(sender).or_default();
         row.frames += 1;
         row.fault(number, why);
@@ -66,11 +67,13 @@ impl Table {
             writeln!(out, "sender  frames  not ready  fields written  stops  first fault")?;
         }
         for (sender, row) in &self.senders {
+            let taken = sender.map_or(false, |sender| rig.channel_of(sender).is_some());
             let fault = match &row.fault {
                 Some(fault) => fault.as_str(),
-                None if rig.channel_of(*sender).is_none() => "none: no channel takes this sender",
-                None => "none",
+                None if taken => "none",
+                None => "none: no channel takes this sender",
             };
+            let sender = sender.map_or("?".to_string(), |sender| sender.to_string());
             writeln!(
                 out,
                 "{:>6}  {:>6}  {:>9}  {:>14}  {:>5}  {}",

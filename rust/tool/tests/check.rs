@@ -139,6 +139,28 @@ fn long_payloads_are_drawn_in_bands() {
 }
 
 #[test]
+fn what_no_payload_reaches_is_drawn_so() {
+    let text =
+        "1400h Record\n1 U8 = 5\n1600h Array\n1 6000h at 0 length 1\n2 6001h at 1 length 1\n\
+                6000h Variable U16\n6001h Variable U8\n";
+    let short = run(&["check", "--explain", &file("short.rig", text.as_bytes())]);
+    let wanted = r#"
+         byte   0  1
+    element 1  [x]     6000h/0
+    element 2     [-]  6001h/0
+               x lost   - never reached
+
+    element 1 maps 1 byte onto 6000h/0, an Unsigned16 of 2 bytes: 1 byte is missing, so every payload stops there
+    element 2 maps 1 byte onto 6001h/0, an Unsigned8 of 1 byte: never reached, since every payload stops at element 1
+"#;
+    assert!(short.out.contains(wanted), "{}", short.out);
+    let text = "1400h Record\n1 U8 = 5\n1600h Array\n1 6000h at 1490 length 1\n6000h Variable U8\n";
+    let far = run(&["check", "--explain", &file("far.rig", text.as_bytes())]);
+    assert!(far.out.contains("an Unsigned8 of 1 byte: every payload stops there\n"), "{}", far.out);
+    assert!(far.out.contains("x lost\n"), "{}", far.out);
+}
+
+#[test]
 fn what_is_no_fault_is_noted() {
     let text = "1400h Record\n1 U8 = 5\n2 U16 = 10h\n1600h Array\n1 6000h at 0 length 1\n2 6000h at 0 length 1\n\
                 6000h Variable U8\n";
@@ -147,6 +169,16 @@ fn what_is_no_fault_is_noted() {
 note: channel 0: 1400h/2 is an Unsigned16, not an Unsigned8: payloads of version 0 alone are taken
 note: channel 0: elements 1 and 2 share byte 0 of the payload
 note: channel 0: elements 1 and 2 both map onto 6000h/0: the later one stands
+";
+    assert_eq!((run.status, run.out.as_str()), (0, wanted));
+}
+
+#[test]
+fn a_channel_that_maps_onto_itself_is_noted() {
+    let text = "1401h Record\n1 U8 = 5\n1601h Array\n1 1401h/1 at 0 length 1\n";
+    let run = run(&["check", &file("itself.rig", text.as_bytes())]);
+    let wanted = "channel 1, from node 5, 1 element: pass
+note: channel 1: element 1 maps onto 1401h/1, a record of the channel itself: a payload may change what the next ones do
 ";
     assert_eq!((run.status, run.out.as_str()), (0, wanted));
 }
@@ -163,6 +195,8 @@ fn a_rig_without_channels_says_so() {
     ] {
         assert!(run.out.contains(wanted), "{}", run.out);
     }
+    let json = common::run(&["check", "--json", &file("none.rig", text)]);
+    assert!(json.out.contains("\"notes\": [\n    \"no channel: the rig has"), "{}", json.out);
 }
 
 #[test]

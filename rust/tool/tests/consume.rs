@@ -253,7 +253,11 @@ fn errors_of_use() {
         (&full[..6], "a payload is missing"),
         (
             &["consume", &path, "--from", "256", "--version", "1", "C4"],
-            "--from needs a number from 0 to 255",
+            "--from needs a number from 1 to 255",
+        ),
+        (
+            &["consume", &path, "--from", "0", "--version", "1", "C4"],
+            "--from needs a number from 1 to 255",
         ),
         (
             &["consume", &path, "--from", "5", "--version", "C", "C4"],
@@ -265,6 +269,10 @@ fn errors_of_use() {
         ),
         (
             &["consume", &path, "--from", "5", "--version", "1", "éé"],
+            "a payload is pairs of hexadecimal digits",
+        ),
+        (
+            &["consume", &path, "--from", "5", "--version", "1", "C4 0 9"],
             "a payload is pairs of hexadecimal digits",
         ),
         (&["consume", &path, "--frm", "5"], "there is no option '--frm'"),

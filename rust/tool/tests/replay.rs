@@ -173,7 +173,7 @@ fn damage_is_told_with_its_place() {
         ("packed", &[0x1F, 0x8B, 8, 0, 0], "byte 0: the file is compressed (gzip)"),
         ("head", &good[..10], "byte 10: the file ends inside the capture's header that begins at byte 0"),
         ("packet-head", &good[..30], "byte 30: the file ends inside the header of packet 1 that begins at byte 24"),
-        ("packet", &good[..60], "byte 60: the file ends inside packet 1 that begins at byte 24: 30 more needed, 20 there"),
+        ("packet", &good[..60], "byte 60: the file ends inside packet 1 that begins at byte 24: 30 bytes needed, 20 there"),
         ("huge", &huge, "byte 32: packet 1 says it has 4294967295 bytes"),
         ("link", &link, "byte 20: expected a capture of an Ethernet (link type 1), found link type 113"),
         ("block", &newer[..newer.len() - 6], "the file ends inside the block that begins at byte 60"),
@@ -198,6 +198,16 @@ fn what_came_before_the_damage_is_told() {
         "{}",
         run.out
     );
+}
+
+#[test]
+fn a_frame_that_ends_before_its_sender_is_a_fault() {
+    let capture = pcap(false, false, &[ramps()[0][..16].to_vec()]);
+    let run = run(&["replay", &rig("ramp.rig"), &file("sender.pcap", &capture), "--quiet"]);
+    let wanted = "sender  frames  not ready  fields written  stops  first fault
+     ?       1          0               0      0  No. 1: not consumed: the frame ends after 2 bytes of its head
+";
+    assert_eq!((run.status, run.out.as_str()), (1, wanted));
 }
 
 #[test]

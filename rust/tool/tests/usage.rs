@@ -73,8 +73,11 @@ fn errors_of_use() {
 
 #[test]
 fn a_closed_pipe_ends_quietly() {
+    // More than a pipe holds: it is closed before all is written.
+    let frames = vec![common::captures::response(5, 0x12, &[1, 2, 3, 4, 5, 6]); 2000];
+    let capture = common::file("long.pcap", &common::captures::pcap(false, false, &frames));
     let mut child = Command::new(env!("CARGO_BIN_EXE_loomfinch"))
-        .args(["check", "--explain", &rig("faults.rig")])
+        .args(["replay", &rig("ramp.rig"), &capture])
         .stdout(Stdio::piped())
         .stderr(Stdio::piped())
         .spawn()
@@ -82,7 +85,7 @@ fn a_closed_pipe_ends_quietly() {
     drop(child.stdout.take());
     let mut err = String::new();
     child.stderr.take().unwrap().read_to_string(&mut err).unwrap();
-    assert_eq!((child.wait().unwrap().code(), err.as_str()), (Some(0), ""));
+    assert_eq!((child.wait().unwrap().code(), err.as_str()), (Some(2), ""));
 }
 
 /// The lines of a document that are indented as samples, from the first that contains some words on.

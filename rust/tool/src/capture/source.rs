@@ -54,7 +54,7 @@ impl Source {
         let bytes = self.up_to(count)?;
         if bytes.len() < count {
             let text = format!(
-                "the file ends inside {} that begins at byte {}: {} more needed, {} there",
+                "the file ends inside {} that begins at byte {}: {} bytes needed, {} there",
                 what,
                 start,
                 count,

@@ -95,9 +95,11 @@ fn real(word: &str, size: usize) -> Option<Vec<u8>> {
         return None;
     }
     if size == 4 {
-        word.parse::<f32>().ok().map(|number| number.to_le_bytes().to_vec())
+        let number: f32 = word.parse().ok()?;
+        Some(number.to_le_bytes().to_vec()).filter(|_| number.is_finite())
     } else {
-        word.parse::<f64>().ok().map(|number| number.to_le_bytes().to_vec())
+        let number: f64 = word.parse().ok()?;
+        Some(number.to_le_bytes().to_vec()).filter(|_| number.is_finite())
     }
 }
 
@@ -145,14 +147,16 @@ fn expectation(of: ValueType) -> String {
             format!("a number from 0 to {most}")
         }
         Unsigned64 => {
-            "a number, a mapping (6000h/0 at 0 length 2) or a mapping word (0010 0000 0000 6000h)"
-                .to_string()
+            let most = u64::MAX;
+            format!(
+                "a number from 0 to {most}, a mapping (6000h/0 at 0 length 2) or a mapping word (0010 0000 0000 6000h)"
+            )
         }
-        Real32 | Real64 => "a decimal number, or its bits as 3F800000h".to_string(),
+        Real32 | Real64 => "a decimal number in its range, or its bits as 3F800000h".to_string(),
         VisibleString | UnicodeString => "text in double quotes".to_string(),
         OctetString | Domain => "bytes in brackets, as in [C4 09] or [00 * 32]".to_string(),
         TimeOfDay | TimeDifference => {
-            "milliseconds and days, as in 3600000 ms 15000 days".to_string()
+            "milliseconds and up to 65535 days, as in 3600000 ms 15000 days".to_string()
         }
         NetTime => "seconds and nanoseconds, as in 12 s 500 ns".to_string(),
         RelativeTime => "microseconds, as in 1500 us".to_string(),

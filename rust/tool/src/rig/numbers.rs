@@ -5,14 +5,24 @@ pub fn unsigned(word: &str) -> Option<u64> {
     if let Some((number, _)) = hexadecimal(word) {
         return Some(number);
     }
-    let digits = word.replace('_', "");
+    let digits = joined(word)?;
     let decimal = !digits.is_empty() && digits.bytes().all(|c| c.is_ascii_digit());
     digits.parse().ok().filter(|_| decimal)
 }
 
+/// The word without the _ between its digits; none where one stands elsewhere.
+fn joined(word: &str) -> Option<String> {
+    let digit = |c: Option<&u8>| c.map_or(false, u8::is_ascii_hexdigit);
+    let bytes = word.as_bytes();
+    let between = |k: usize| {
+        bytes[k] != b'_' || (k > 0 && digit(bytes.get(k - 1)) && digit(bytes.get(k + 1)))
+    };
+    Some(word.replace('_', "")).filter(|_| (0..bytes.len()).all(between))
+}
+
 /// A number that is marked as hexadecimal, and how many digits it has.
 pub fn hexadecimal(word: &str) -> Option<(u64, usize)> {
-    let word = word.replace('_', "");
+    let word = joined(word)?;
     let digits = hex_digits(&word)?;
     u64::from_str_radix(digits, 16).ok().map(|number| (number, digits.len()))
 }
@@ -55,7 +65,23 @@ mod tests {
 
     #[test]
     fn what_is_no_number() {
-        for word in ["", "h", "0x", "+5", "1F", "1.5", "-1", "18446744073709551616", "_", "é"] {
+        for word in [
+            "",
+            "h",
+            "0x",
+            "+5",
+            "1F",
+            "1.5",
+            "-1",
+            "18446744073709551616",
+            "_",
+            "é",
+            "_5",
+            "5_",
+            "5__0",
+            "0x_5",
+            "5_h",
+        ] {
             assert_eq!(unsigned(word), None, "{word}");
         }
         for word in ["6000", "16000h", "g000h"] {

@@ -58,6 +58,11 @@ impl Reader {
             if let Some(index) = numbers::index(word) {
                 return self.object(cursor, index);
             }
+            if cursor.word_ahead(0).and_then(Kind::of_name).is_some() {
+                return Err(
+                    cursor.expected("an index marked as hexadecimal, as in 6000h", first.as_ref())
+                );
+            }
             if let Some((from, to)) = element_numbers(word) {
                 return self.element(cursor, from, to);
             }

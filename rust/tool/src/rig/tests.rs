@@ -137,7 +137,9 @@ fn errors_name_the_line_and_what_was_expected() {
         ("6000h Variable IpAddress = 1.2.3", "expected an address, as in 192.168.100.5 for an IpAddress, found '1.2.3'"),
         ("6000h Variable MacAddress = 1:2:3:4:5:G", "expected an address, as in 00:60:65:01:02:03 for a MacAddress"),
         ("6000h Variable NetTime = 5 ns 1 s", "expected seconds and nanoseconds, as in 12 s 500 ns for a NetTime"),
-        ("6000h Variable Real32 = inf", "expected a decimal number, or its bits as 3F800000h for a Real32"),
+        ("6000h Variable Real32 = inf", "expected a decimal number in its range, or its bits as 3F800000h for a Real32"),
+        ("6000h Variable Real32 = 1e40", "expected a decimal number in its range, or its bits as 3F800000h for a Real32"),
+        ("6001 Variable U16", "expected an index marked as hexadecimal, as in 6000h, found '6001'"),
         ("6000h Variable Boolean = yes", "expected true, false or a number from 0 to 255 for a Boolean, found 'yes'"),
         ("6000h Variable U8 = 1 [", "expected a closing ]"),
     ] {
