@@ -4,7 +4,6 @@ mod explaining;
 mod numbers;
 
 use answers::Refusal;
-pub use elements::said;
 pub use elements::word_verdict;
 pub use explaining::explain;
 pub use numbers::explained_numbers;
