@@ -85,7 +85,7 @@ fn explanation(rig: &Rig, channel: &Channel, out: &mut dyn Write) -> Result<(), 
     Ok(())
 }
 
-/// What becomes of an element where every payload stops at another, or at none.
+/// What becomes of an element; `stop` is the one at which every payload stops.
 fn element_words(rig: &Rig, element: &Element, stop: Option<u8>) -> String {
     match (element.fault, &element.mapped) {
         (Some(fault), _) => faults::of_element(rig, element, fault),

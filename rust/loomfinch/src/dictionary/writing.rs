@@ -28,13 +28,15 @@ impl Dictionary {
     /// "save" written to 1010h saves into the dictionary's own store, as [`save`](Dictionary::save) does, and "load"
     /// written to 1011h asks for a restore. The count of a mapping is accepted and not kept.
     ///
-    /// Refuses, in this order, a mapping's count with [`TypeMismatch`](Refusal::TypeMismatch) where it is no Unsigned8, and
-    /// as [`validate_pdo_mapping`](Dictionary::validate_pdo_mapping) does; with [`ObjectNotFound`](Refusal::ObjectNotFound); with [`ReadOnly`](Refusal::ReadOnly)
-    /// where access is ReadOnly or Constant; with [`SubObjectNotFound`](Refusal::SubObjectNotFound); with
+    /// Refuses, in this order, a mapping's count with [`TypeMismatch`](Refusal::TypeMismatch) where it is no Unsigned8,
+    /// and as [`validate_pdo_mapping`](Dictionary::validate_pdo_mapping) does; with
+    /// [`ObjectNotFound`](Refusal::ObjectNotFound); with [`ReadOnly`](Refusal::ReadOnly) where access is ReadOnly or
+    /// Constant; with [`SubObjectNotFound`](Refusal::SubObjectNotFound); with
     /// [`CountNotWritable`](Refusal::CountNotWritable) the count of a list that is no mapping; with
-    /// [`TypeMismatch`](Refusal::TypeMismatch) a value of another type; with [`TooLong`](Refusal::TooLong) a string longer
-    /// than its room. At 1010h and 1011h only with [`BadSignature`](Refusal::BadSignature) another value or sub-index 0,
-    /// with [`NoStorage`](Refusal::NoStorage) for want of a store, and with [`StoreFull`](Refusal::StoreFull).
+    /// [`TypeMismatch`](Refusal::TypeMismatch) a value of another type; with [`TooLong`](Refusal::TooLong) a string
+    /// longer than its room. At 1010h and 1011h only with [`BadSignature`](Refusal::BadSignature) another value or
+    /// sub-index 0, with [`NoStorage`](Refusal::NoStorage) for want of a store, and with
+    /// [`StoreFull`](Refusal::StoreFull).
     ///
     /// ```
     /// use loomfinch::{Capacity, Dictionary, Object, ObjectEntry, ObjectValue, Refusal, Written};

@@ -134,3 +134,9 @@ fn a_real_keeps_its_bits() {
     let value = decode(ValueType::Real32, &signalling.to_le_bytes());
     assert_eq!(value.map(|value| value.serialize()), Ok(signalling.to_le_bytes().to_vec()));
 }
+
+#[test]
+fn an_address_is_displayed_as_it_is_written() {
+    let address = MacAddress([0x00, 0x60, 0x65, 0x0A, 0x1B, 0x2C]);
+    assert_eq!(address.to_string(), "00:60:65:0a:1b:2c");
+}

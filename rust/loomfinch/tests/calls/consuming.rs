@@ -142,6 +142,7 @@ fn a_cycle_is_its_payloads_in_turn() -> Result<(), Refusal> {
     let short = Event::PayloadShort(Cause::Frame);
     assert_eq!(events, [EventRecord { payload: 1, element: Some(2), event: short }]);
     assert_eq!(events[0].to_string(), "payload 1, element 2: PayloadShort: Frame");
+    assert_eq!(VERSION.to_string(), "1.2");
     for payload in payloads {
         let Payload { start, len, source_node_id, is_ready, .. } = payload;
         let bytes = &delivered[start..][..len];
