@@ -1,54 +1,48 @@
-// Runs every table and writes how many lines were run, a space, how many differ, and a newline.
-// The tables are lines (see `lines` and `history`): our own, and those with the Rust's answers in five files, which the oracle made:
-// rust.txt is what oracle/run --sample prints, histories.txt what oracle/run --histories prints, stores.txt what oracle/run --stores
-// prints, payloads.txt what oracle/run --payloads prints, checks.txt what oracle/run --checks prints.
-mod checking;
-mod consuming;
-mod hex;
-mod histories;
-mod history;
-mod lines;
-mod memory;
-mod storing;
-mod tables;
-mod tally;
+// Runs every table of data/ and writes how many lines were run, a space, how many differ, and a newline. codec.txt and
+// dictionary.txt are our own; the others hold the Rust's answers, as oracle/README.md says, in parts that are read at one go.
+use tables::State;
 
-use tally::Tally;
-
-// The lines of a stored file, which are histories or not. One that can't be read counts as a line that differs.
-fn stored(name: &[u8], histories: bool, before: Tally) -> Tally {
+// The lines of a table, on the memory that the one before left: a table in parts goes on where its last part ended.
+fn part(name: &[u8], before: State) -> State {
     let mut buffer = io::large_buffer();
     let file = os::open_read(name);
     if file < 0 {
-        return tally::run(b"-", before);
+        return tables::missing(before);
     }
     let n = io::read_full(file, &mut buffer);
     libc::close(file);
-    if histories {
-        history::run(&buffer[..n], before)
-    } else {
-        tally::run(&buffer[..n], before)
-    }
+    tables::run(&buffer[..n], before)
+}
+
+// The same on memory of zeros.
+fn table(name: &[u8], before: State) -> State {
+    let mut state = tables::fresh();
+    state.run = before.run;
+    state.differ = before.differ;
+    part(name, state)
+}
+
+// Our own.
+fn ours(before: State) -> State {
+    let codec = table(b"codec.txt", before);
+    table(b"dictionary.txt", codec)
+}
+
+fn of_the_rust(before: State) -> State {
+    let sampled = table(b"rust_1.txt", before);
+    let sampled = part(b"rust_2.txt", sampled);
+    let told = table(b"histories_1.txt", sampled);
+    let told = part(b"histories_2.txt", told);
+    let kept = table(b"stores_1.txt", told);
+    let kept = part(b"stores_2.txt", kept);
+    let consumed = table(b"payloads_1.txt", kept);
+    let consumed = part(b"payloads_2.txt", consumed);
+    let checked = table(b"checks_1.txt", consumed);
+    part(b"checks_2.txt", checked)
 }
 
 fn main() {
-    let none = Tally { run: 0, differ: 0 };
-    let words = tables::words(none);
-    let integers = tables::integers(words);
-    let numbers = tables::numbers(integers);
-    let others = tables::others(numbers);
-    let refused = tables::refused(others);
-    let texts = tables::texts(refused);
-    let read = histories::reading(texts);
-    let inserted = histories::inserting(read);
-    let counted = histories::counting(inserted);
-    let damaged = histories::damaged(counted);
-    let explained = histories::explaining(damaged);
-    let sampled = stored(b"rust.txt", false, explained);
-    let told = stored(b"histories.txt", true, sampled);
-    let kept = stored(b"stores.txt", true, told);
-    let consumed = stored(b"payloads.txt", true, kept);
-    let all = stored(b"checks.txt", true, consumed);
+    let all = of_the_rust(ours(tables::fresh()));
     io::print_decimal(1, all.run);
     io::write_all(1, b" ");
     io::print_decimal(1, all.differ);

@@ -9,120 +9,71 @@ use loomfinch::Event;
 use loomfinch::EventRecord;
 use loomfinch::Head;
 use loomfinch::Number;
+use memory::Memory;
 
 // An object that can be read and written, without a name.
-fn insert(
-    objects: &mut [u64],
-    slots: &mut [u64],
-    words: &mut [u64],
-    bytes: &mut [u8],
-    index: u16,
-    kind: u64,
-    vals: &[u64],
-    encodings: &[u8],
-) {
+fn insert(m: Memory, index: u16, kind: u64, vals: &[u64], encodings: &[u8]) -> Memory {
     let head = Head {
         index,
         kind,
         access: 3,
         default: 0,
     };
-    loomfinch::insert(objects, slots, words, bytes, head, b"", vals, encodings);
+    let called = m.insert(head, b"", vals, encodings);
+    called.memory
 }
 
-// Node 5 in version 10h.
-fn channel_0(objects: &mut [u64], slots: &mut [u64], words: &mut [u64], bytes: &mut [u8]) {
-    insert(
-        objects,
-        slots,
-        words,
-        bytes,
-        0x1400,
-        2,
-        &[5, 0, 1, 5, 0, 1],
-        &[5, 0x10],
-    );
+// Node 5 in version 10h, one mapping word, and 6000h, an Unsigned16.
+fn rig(word: u64) -> Memory {
+    let mut list = [0u8; 8];
+    lists::put_number(&mut list, 0, 8, word);
+    let called = memory::zeros().new();
+    let m = insert(called.memory, 0x1400, 2, &[5, 0, 1, 5, 0, 1], &[5, 0x10]);
+    let m = insert(m, 0x1600, 1, &[8, 0, 8], &list);
+    insert(m, 0x6000, 0, &[6, 0, 2], &[0, 0])
 }
 
-// One mapping word.
-fn mapping(objects: &mut [u64], slots: &mut [u64], words: &mut [u64], bytes: &mut [u8], word: u64) {
-    let mut encoded = [0u8; 8];
-    lists::put_number(&mut encoded, 0, 8, word);
-    insert(
-        objects,
-        slots,
-        words,
-        bytes,
-        0x1600,
-        1,
-        &[8, 0, 8],
-        &encoded,
-    );
-}
-
-// An Unsigned16.
-fn ramp_time(objects: &mut [u64], slots: &mut [u64], words: &mut [u64], bytes: &mut [u8]) {
-    insert(objects, slots, words, bytes, 0x6000, 0, &[6, 0, 2], &[0, 0]);
-}
-
-// A payload of node 5: how many events it has.
-fn consume(objects: &[u64], slots: &[u64], words: &mut [u64], bytes: &mut [u8], payload: &[u8]) {
+// A payload of node 5: the memory after it, and how many events it has.
+fn consume(m: Memory, payload: &[u8]) -> Memory {
     let blank = EventRecord {
         payload: 0,
         element: 0,
         event: Event::MapVersion,
     };
-    let heard = loomfinch::consume_by_value(
-        objects,
-        slots,
-        words,
-        bytes,
-        payload,
-        5,
-        0x10,
-        true,
-        [blank; 254],
-    );
+    let heard = m.consume_recorded(payload, 5, 0x10, true, blank);
     let a = heard.answer;
     match a {
         Consumed::Done(n) => number(n as u64),
         Consumed::Refused(_) => say(b"no"),
     }
     say(b" events");
+    heard.memory
 }
 
-fn stored(objects: &[u64], slots: &[u64], words: &[u64], bytes: &[u8]) {
-    match loomfinch::read_u16(objects, slots, words, bytes, 0x6000, 0) {
+fn stored(m: Memory) {
+    match m.read_u16(0x6000, 0) {
         Number::Is(n) => number(n),
         Number::Refused(_) => say(b"nothing"),
     }
 }
 
 // The check's answer, and what the element that it names maps.
-fn check(objects: &[u64], slots: &[u64], words: &[u64], bytes: &[u8]) {
-    let a = loomfinch::check(objects, slots, words, bytes, 0);
+fn check(m: Memory) {
+    let a = m.check(0);
     answer(a);
     if let Checked::Element { element, fault: _ } = a {
-        let element = (element % 256) as u8;
-        explanation(loomfinch::explain(objects, slots, words, bytes, 0, element));
+        explanation(m.explain(0, (element % 256) as u8));
     }
 }
 
 pub fn show(word: u64, payload: &[u8], time: u64) {
-    let mut objects = [0u64; 48];
-    let mut slots = [0u64; 12];
-    let mut words = [0u64; 4];
-    let mut bytes = [0u8; 1];
-    loomfinch::new(&mut objects);
-    channel_0(&mut objects, &mut slots, &mut words, &mut bytes);
-    mapping(&mut objects, &mut slots, &mut words, &mut bytes, word);
-    ramp_time(&mut objects, &mut slots, &mut words, &mut bytes);
-    check(&objects, &slots, &words, &bytes);
+    let m = rig(word);
+    check(m);
     say(b"  consumed: ");
     number(time);
     say(b" ms, ");
-    consume(&objects, &slots, &mut words, &mut bytes, payload);
+    let after = consume(m, payload);
     say(b", and 6000h is ");
-    stored(&objects, &slots, &words, &bytes);
+    stored(after);
     say(b"\n");
 }

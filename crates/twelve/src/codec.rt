@@ -1,4 +1,4 @@
-// Cases 1 to 6: mapping words, values and versions.
+// Cases 1 to 4: mapping words and values.
 use loomfinch::Decoded;
 use loomfinch::ObjectValue;
 use loomfinch::PdoMappingEntry;
@@ -30,14 +30,4 @@ pub fn case_3() -> bool {
 
 pub fn case_4() -> bool {
     is_integer_16(b"\x00\x80", -32768)
-}
-
-pub fn case_5() -> bool {
-    pdo_channel::right_version(0, 0)
-}
-
-pub fn case_6() -> bool {
-    pdo_channel::right_version(0x10, 0x12)
-        & !pdo_channel::right_version(0x12, 0x11)
-        & !pdo_channel::right_version(0x12, 0x22)
 }

@@ -1,0 +1,49 @@
+// A dictionary and a store in one struct by value, and the public calls on it: for programs, which would otherwise hand five lent
+// slices from function to function. There is room for 8 objects, 300 values and 1,200 bytes, so that each of these can be full.
+mod asking;
+mod changing;
+mod receiving;
+
+use loomfinch::Consumed;
+use loomfinch::EventRecord;
+
+pub struct Memory {
+    pub objects: [u64; 108],
+    pub slots: [u64; 900],
+    pub words: [u64; 300],
+    pub bytes: [u8; 1200],
+    pub store: [u8; 1000],
+}
+
+// The memory after a call, and the number of its answer.
+pub struct Called {
+    pub memory: Memory,
+    pub answer: u64,
+}
+
+// The same of a payload or a cycle, with its list of events as numbers.
+pub struct Logged {
+    pub memory: Memory,
+    pub answer: u64,
+    pub consumed: u64,
+    pub count: u64,
+    pub events: [u64; 1024],
+}
+
+// The same of a payload, with its list of events as records.
+pub struct Recorded {
+    pub memory: Memory,
+    pub answer: Consumed,
+    pub events: [EventRecord; 254],
+}
+
+// Nothing was called on it yet.
+pub fn zeros() -> Memory {
+    Memory {
+        objects: [0; 108],
+        slots: [0; 900],
+        words: [0; 300],
+        bytes: [0; 1200],
+        store: [0; 1000],
+    }
+}

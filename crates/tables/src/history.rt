@@ -1,0 +1,112 @@
+// Histories: lines that call one dictionary after another, each with the answer that it must give. It has room for 8 objects,
+// 300 values and 1,200 bytes, and the store beside it has 1,000 bytes.
+//   N ANSWER                                               an empty dictionary
+//   I INDEX KIND ACCESS DEFAULT NAME VALS BYTES ANSWER     insertion; VALS has four digits a number, BYTES the encodings
+//   R INDEX SUB ANSWER [TYPE WORD PART]                    reading, and the part
+//   U TYPE INDEX SUB ANSWER [NUMBER]                       reading a number of a type
+//   F NAME ANSWER [INDEX]                                  finding by name
+//   C SIZE ANSWER [LIST]                                   the configured nodes, into SIZE bytes
+//   P INDEX SUB ANSWER                                     counting up
+//   W SIZE INDEX SUB TYPE DATA ANSWER                      writing, with the store's first SIZE bytes; DATA is the encoding
+//   V INDEX COUNT ANSWER                                   the check of a mapping's count
+//   O SIZE FIRST LAST ANSWER                               restoring power-on values, from the store's first SIZE bytes
+//   A ROOM SENDER VERSION READY PAYLOAD ANSWER [COUNT EVENTS]
+//                                                          consuming a payload, with an event list of ROOM numbers; the events,
+//                                                          COUNT of them, are numbers with spaces between them
+//   Y ROOM DATA COUNT NUMBERS ANSWER [CONSUMED COUNT EVENTS]
+//                                                          consuming a cycle; COUNT numbers say its payloads, five each
+//   K CHANNEL ANSWER [ELEMENT]                             the check of a channel
+//   L ROOM ANSWER [COUNT NUMBERS]                          the check of all channels, into ROOM numbers
+//   X CHANNEL ELEMENT ANSWER [NUMBERS]                     explaining an element, in eleven numbers
+//   B INDEX NODE ANSWER                                    setting a node's bit in the error object at an index
+//   D SLICE PLACE VALUE                                    damage: sets an element of slice 0 to 3, or of the store, 4
+//   S SUM                                                  the sum over the dictionary
+//   T SUM                                                  the sum over the dictionary and the store
+use crate::cells::damage;
+use crate::cells::sum;
+use crate::cells::sum_with_store;
+use crate::checking::channel_line;
+use crate::checking::channels_line;
+use crate::checking::element_line;
+use crate::codec;
+use crate::consuming::bit_line;
+use crate::consuming::consume_line;
+use crate::consuming::cycle_line;
+use crate::dictionary::counter_line;
+use crate::dictionary::insert_line;
+use crate::dictionary::name_line;
+use crate::dictionary::nodes_line;
+use crate::dictionary::read_line;
+use crate::dictionary::typed_line;
+use crate::hex::last;
+use crate::hex::next;
+use crate::hex::number;
+use crate::storing::count_line;
+use crate::storing::restore_line;
+use crate::storing::write_line;
+use memory::Called;
+use memory::Memory;
+
+// The memory after a line, and whether the line's answer was given.
+pub struct Turn {
+    pub memory: Memory,
+    pub right: bool,
+}
+
+fn damage_line(s: &[u8], at: usize, m: Memory) -> Turn {
+    let place = next(s, at);
+    let value = number(s, next(s, place));
+    let damaged = damage(m, number(s, at), number(s, place) as usize, value);
+    let memory = damaged.memory;
+    let right = damaged.is_there;
+    Turn { memory, right }
+}
+
+// A call that changes memory; its answer is the line's last number.
+fn turned(s: &[u8], at: usize, called: Called) -> Turn {
+    let memory = called.memory;
+    let right = called.answer == last(s, at);
+    Turn { memory, right }
+}
+
+// A line that asks, of the codec or of the memory as it is.
+fn asked(kind: u8, s: &[u8], at: usize, m: Memory) -> bool {
+    match kind {
+        b'w' => codec::word_line(s, at),
+        b'f' => codec::field_line(s, at),
+        b'd' => codec::decode_line(s, at),
+        b'e' => codec::encode_line(s, at),
+        b'r' => codec::refused_line(s, at),
+        b't' => codec::text_line(s, at),
+        b'R' => read_line(s, at, m),
+        b'U' => typed_line(s, at, m),
+        b'F' => name_line(s, at, m),
+        b'C' => nodes_line(s, at, m),
+        b'V' => count_line(s, at, m),
+        b'K' => channel_line(s, at, m),
+        b'L' => channels_line(s, at, m),
+        b'X' => element_line(s, at, m),
+        b'S' => sum(m) == number(s, at),
+        b'T' => sum_with_store(m) == number(s, at),
+        _ => kind == b'#',
+    }
+}
+
+// Does the call of the line that starts at `at`, behind its letter, give its answer?
+pub fn take_turn(kind: u8, s: &[u8], at: usize, m: Memory) -> Turn {
+    match kind {
+        b'N' => turned(s, at, m.new()),
+        b'I' => turned(s, at, insert_line(s, at, m)),
+        b'P' => turned(s, at, counter_line(s, at, m)),
+        b'W' => turned(s, at, write_line(s, at, m)),
+        b'O' => turned(s, at, restore_line(s, at, m)),
+        b'B' => turned(s, at, bit_line(s, at, m)),
+        b'A' => consume_line(s, at, m),
+        b'Y' => cycle_line(s, at, m),
+        b'D' => damage_line(s, at, m),
+        _ => {
+            let right = asked(kind, s, at, m);
+            Turn { memory: m, right }
+        }
+    }
+}
