@@ -28,7 +28,8 @@ use Rattle.channel.specs.declared.Checked.the-variants.{Pass, NoSender, NoList,
 use Rattle.element.specs.Elements.{verdictOf}
 use Rattle.channel.specs.Check.{onVerdict, faultFrom, isFar, lastOf, onElements, onList, senderFor, isAt, hasSender, checkOf}
 use Rattle.demand.specs.Demand.{Admitted, Written, putAll}
-use Rattle.demand.proofs.PassLaws.{AllClean, clean-run}
+use Rattle.demand.specs.Saying.{AllClean}
+use Rattle.demand.proofs.PassLaws.{clean-run}
 
 -- ---- what a pass says
 pub record Passed (d : Dict) (i : ℕ) : Type 0 where

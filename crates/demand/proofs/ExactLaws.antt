@@ -26,8 +26,9 @@ use Rattle.channel.specs.declared.Checked.{Checked}
 use Rattle.channel.specs.declared.Checked.the-variants.{Pass}
 use Rattle.channel.specs.Check.{faultFrom, isFar, lastOf, senderFor, checkOf}
 use Rattle.demand.specs.Demand.{Long, putWord, AllWhole, Admits, Demand}
+use Rattle.demand.specs.Saying.{AllClean}
 use Rattle.channel.proofs.CheckLaws.{u8-small}
-use Rattle.demand.proofs.PassLaws.{AllClean, clean-element}
+use Rattle.demand.proofs.PassLaws.{clean-element}
 use Rattle.demand.proofs.WholeLaws.{whole-clean}
 use Rattle.demand.proofs.DemandLaws.{passed, pass-writes}
 use Rattle.demand.proofs.ExistLaws.{Most, ends-most, long-of, right-same, zero-texts}
@@ -115,7 +116,7 @@ zero-bytes zero i = omega arith
 zero-bytes (suc m) zero = omega arith
 zero-bytes (suc m) (suc i) = zero-bytes m i
 
-sender-small : (v : ℕ) → v < 256 → senderFor v < 256
+pub sender-small : (v : ℕ) → v < 256 → senderFor v < 256
 sender-small v h = go (eqb v 0)
   where
     go : (b : Bool) → cond b 240 v < 256

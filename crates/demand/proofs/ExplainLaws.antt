@@ -42,8 +42,8 @@ unfolding explainOf
 named-explained d i k v e =
     let n = named-never d i k v e in
     let l = n .listed in
-    let p = firstAt (d .objects) (l .row) + n .place in
+    let p = firstAt (d .objects) (l .row) + n .fault .place in
     let long = list-length d (l .well) (0x1600 + i) (l .row) (l .found) in
-    let word = list-word d (l .well) (0x1600 + i) (l .row) (l .found) (n .place) (omega (arith, long, n .below)) in
-    let there = element-there (d .objects) (l .row) k (n .place) (l .list) (n .element) (omega (arith, long, n .below)) in
-    rw (l .well, l .found, l .list) (ap (λ (q : Place). saidOf (ofPlace d q)) there ∙ said-element (d .objects) (d .slots) (typeAt (d .slots) p) (getD (d .words) p 0) ∙ rw (sym word) (n .verdict))
+    let word = list-word d (l .well) (0x1600 + i) (l .row) (l .found) (n .fault .place) (omega (arith, long, n .fault .below)) in
+    let there = element-there (d .objects) (l .row) k (n .fault .place) (l .list) (n .element) (omega (arith, long, n .fault .below)) in
+    rw (l .well, l .found, l .list) (ap (λ (q : Place). saidOf (ofPlace d q)) there ∙ said-element (d .objects) (d .slots) (typeAt (d .slots) p) (getD (d .words) p 0) ∙ rw (sym word) (n .fault .verdict))

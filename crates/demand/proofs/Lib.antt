@@ -5,8 +5,15 @@ pub mod DemandLaws
 pub mod ExistLaws
 pub mod ExactLaws
 pub mod NamedLaws
+pub mod FirstLaws
+pub mod ReasonLaws
 pub mod ExplainLaws
 pub mod LastLaws
 pub mod CallLaws
+pub mod CycleLaws
+pub mod BytesLaws
 pub mod HoldLaws
 pub mod NewLaws
+pub mod ConsumeLaws
+pub mod TurnLaws
+pub mod StandLaws

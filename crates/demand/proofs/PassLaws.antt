@@ -29,6 +29,7 @@ use Rattle.element.specs.declared.Fault.the-variants as fault
 use Rattle.element.specs.declared.Verdict.the-variants.{Clean, Faulty}
 use Rattle.element.specs.Elements.{lengthFits, wordVerdict, verdictOf}
 use Rattle.demand.specs.Demand.{Long, TextAt, Texts, Whole, putWord, putAll, AllWhole}
+use Rattle.demand.specs.Saying.{AllClean}
 use Rattle.demand.proofs.CleanLaws.{clean-word, clean-stored}
 
 -- ---- what was put is encoded as what was put
@@ -52,12 +53,7 @@ put-encodes d p s v b l = go (isText t) refl
         ∙ encoding-fixed t _ _ x
         ∙ rw (getD-set-same (d .words) p (number (take (sizeOf t) s)) 0 (v .word), take-all (sizeOf t) s (omega (arith, l x)), ← (l x)) (bytesOf-number s b)
 
--- ---- the elements of a list, all clean
-abbrev pub AllClean : List ℕ → List ℕ → ℕ → List ℕ → ℕ → Type 0
-AllClean objects slots p [] j = Unit {0}
-AllClean objects slots p (w ∷ ws) j = (verdictOf objects slots (typeAt slots (p + j)) w ≡ Clean) × AllClean objects slots p ws (j + 1)
-
--- a clean element is U64, and its word is clean
+-- ---- a clean element is U64, and its word is clean
 pub clean-element : (objects slots : List ℕ) (t w : ℕ) → verdictOf objects slots t w ≡ Clean → (t ≡ 8) × (wordVerdict objects slots w ≡ Clean)
 clean-element objects slots t w e = go (eqb t 8) refl e
   where

@@ -45,7 +45,7 @@ module _ (objects slots payload : List ℕ) (w p start n : ℕ) (f : fieldOf (en
   abbrev sub : ℕ
   sub = entryOf w .«sub_index»
 
-  not-odd : (q : ℕ) → start + n ≤ length payload → isText (typeAt slots q) ≡ true → (v : ℕ) → wordAt (typeAt slots q) (part payload start n) ≡ Takes v → not (eqb (typeAt slots q) 13 && eqb (n % 2) 1) ≡ true
+  pub not-odd : (q : ℕ) → start + n ≤ length payload → isText (typeAt slots q) ≡ true → (v : ℕ) → wordAt (typeAt slots q) (part payload start n) ≡ Takes v → not (eqb (typeAt slots q) 13 && eqb (n % 2) 1) ≡ true
   unfolding wordAt textWord
   not-odd q h t v e = go (eqb (typeAt slots q) 11) refl (eqb (typeAt slots q) 13 && eqb (n % 2) 1) refl (rw (t, part-length payload start n h) at e)
     where

@@ -21,7 +21,7 @@ use Rattle.events.specs.declared.Unwritten.the-variants.{CountNotWritabl
 use Rattle.events.specs.declared.Event.{Event}
 use Rattle.events.specs.declared.Event.the-variants.{MapVersion, PayloadShort, Server, Client, WriteRefused}
 use Rattle.events.specs.declared.EventRecord.{EventRecord}
-use Rattle.events.specs.Record.{kindOf, handed, numberOf, causeOf, eventOf, recordOf, recordsOf, reported, noted}
+use Rattle.events.specs.Record.{kindOf, handed, numberOf, causeOf, eventOf, recordOf, Small, recordsOf, reported, noted}
 
 -- an event that is of none of the other kinds
 pub event-short : {kind : ℕ} (x start n : ℕ) → kind ≢ 1 → kind ≢ 6 → kind ≢ 7 → kind ≢ 8 → kind ≢ 9 → PayloadShort (causeOf kind) ≡ eventOf kind x start n
@@ -47,12 +47,6 @@ packed-record i kind k x start n hk he hx hs hn = fields (packed i kind k x star
         rw (a, b, c, d, f, g)
 
 -- ---- the number of a record says that record
-pub record Small (r : EventRecord) : Type 0 where
-  pub element : r .element < 256
-  pub index : handed (r .event) .index < 65536
-  pub start : handed (r .event) .start < 8192
-  pub len : handed (r .event) .len < 8192
-
 kind-small : (v : Event) → kindOf v < 16
 kind-small MapVersion = omega arith
 kind-small (PayloadShort Frame) = omega arith

@@ -1,8 +1,8 @@
 -- The record and the number of an event: RULES.md 11. Assumes nothing.
-use Prim.Native.Nat.{ℕ, _/_, _%_}
-use mathlib.Core.Bool.{cond}
+use Prim.Native.Nat.{ℕ, _/_, _%_, _<_}
+use mathlib.Core.Bool.{Bool, cond, _&&_, _||_}
 use mathlib.Core.List.{List, [], _∷_, map}
-use lib.Dec.{eqb}
+use lib.Dec.{eqb, leb}
 use lib.ListN.{take}
 use Rattle.value.specs.declared.Fault.{Fault}
 use Rattle.value.specs.declared.Fault.the-variants as fault
@@ -15,6 +15,8 @@ use Rattle.events.specs.declared.Unwritten.the-variants.{CountNotWritabl
 use Rattle.events.specs.declared.Event.{Event}
 use Rattle.events.specs.declared.Event.the-variants.{MapVersion, PayloadShort, Server, Client, WriteRefused}
 use Rattle.events.specs.declared.EventRecord.{EventRecord}
+use Rattle.events.specs.declared.Recorded.{Recorded}
+use Rattle.events.specs.declared.Recorded.the-variants.{Is, Nothing}
 
 -- R11.14: "Kinds: 1 MapVersion; 2 to 5 PayloadShort, cause Frame, Value, Text, Odd; 6 Server; 7 Client; 8 WriteRefused(CountNotWritable);
 -- 9 WriteRefused(TooLong)"
@@ -53,7 +55,7 @@ numberOf r = packed (r .payload) (kindOf (r .event)) (r .element) (handed (r .ev
 abbrev pub causeOf : ℕ → Cause
 causeOf kind = cond (eqb kind 2) Frame (cond (eqb kind 3) Value (cond (eqb kind 4) Text Odd))
 
--- 0 and 10 to 15 are no event's kind, and are taken for the last cause
+-- 0 and 10 to 15 are no event's kind, and are taken here for the last cause
 unfoldable pub eventOf : ℕ → ℕ → ℕ → ℕ → Event
 eventOf kind x start n =
     cond (eqb kind 1) MapVersion
@@ -71,6 +73,26 @@ recordOf e =
       element = e / 16 % 256;
       event = eventOf (e % 16) (e / 4096 % 65536) (e / 268435456 % 8192) (e / 2199023255552 % 8192);
     }
+
+-- a record whose parts have room in its number
+pub record Small (r : EventRecord) : Type 0 where
+  pub element : r .element < 256
+  pub index : handed (r .event) .index < 65536
+  pub start : handed (r .event) .start < 8192
+  pub len : handed (r .event) .len < 8192
+
+-- where the number is its record's, that; else nothing
+unfoldable pub recordedOf : ℕ → Recorded
+recordedOf e = cond (eqb (numberOf (recordOf e)) e) (Is (recordOf e)) Nothing
+
+-- 0 is no event's number
+abbrev pub recordedNumber : Recorded → ℕ
+recordedNumber (Is r) = numberOf r
+recordedNumber Nothing = 0
+
+-- which numbers are records', by their parts
+abbrev pub isRecord : ℕ → Bool
+isRecord e = (eqb (e % 16) 6 || eqb (e % 16) 7) || (eqb (e / 4096 % 4398046511104) 0 && (leb 1 (e % 16) && leb (e % 16) 9))
 
 -- R11.9: "Events lie in order from the first record on"
 abbrev pub recordsOf : ℕ → List ℕ → List EventRecord

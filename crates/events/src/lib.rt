@@ -36,6 +36,12 @@ pub struct EventRecord {
     pub event: Event,
 }
 
+// The record that a number of the log says, or nothing where no record has that number.
+pub enum Recorded {
+    Is(EventRecord),
+    Nothing,
+}
+
 // An answer, and the event list after it.
 pub struct Heard {
     pub answer: Consumed,

@@ -3,10 +3,11 @@ ghost use mathlib.Core.Path.{_≡_};
 ghost use mathlib.Core.List.{_++_};
 ghost use Prim.Native.Nat.{_<_, _≤_};
 ghost use lib.ListN.{length, getD, drop};
-ghost use Rattle.events.specs.Record.{causeOf, eventOf, recordOf, recordsOf};
+ghost use Rattle.events.specs.Record.{causeOf, eventOf, recordOf, isRecord, recordedOf, recordsOf};
 use crate::Cause;
 use crate::Event;
 use crate::EventRecord;
+use crate::Recorded;
 use crate::Unwritten;
 
 fn cause_of(kind: u64) -> Cause
@@ -45,8 +46,8 @@ fn event_of(kind: u64, index: u16, start: u16, len: u16) -> Event
     Event::PayloadShort(cause_of(kind))
 }
 
-// The record that a number of the log says.
-pub fn event_record(e: u64) -> EventRecord
+// The record that a record's number says.
+fn record_of(e: u64) -> EventRecord
     ensures { λ r. ⌜ r ≡ recordOf e ⌝ }
 {
     let payload = (e / 18014398509481984) as u16;
@@ -62,11 +63,30 @@ pub fn event_record(e: u64) -> EventRecord
     }
 }
 
+// Whether a record has that number: its kind is one of 1 to 9, and it has an index, a start or a length only where it is a hand-off.
+fn is_record(e: u64) -> bool
+    ensures { λ r. ⌜ r ≡ isRecord e ⌝ }
+{
+    let kind = e % 16;
+    let handed = e / 4096 % 4398046511104;
+    ((kind == 6) | (kind == 7)) | ((handed == 0) & ((1 <= kind) & (kind <= 9)))
+}
+
+// The record that a number of the log says.
+pub fn event_record(e: u64) -> Recorded
+    ensures { λ r. ⌜ r ≡ recordedOf e ⌝ }
+{
+    if is_record(e) {
+        return Recorded::Is(record_of(e));
+    }
+    Recorded::Nothing
+}
+
 fn record_at(log: &[u64], i: usize) -> EventRecord
     requires { ⌜ i < length (now log) ⌝ }
     ensures { λ r. ⌜ r ≡ recordOf (getD (now (log .entry)) i 0) ⌝ }
 {
-    event_record(log[i])
+    record_of(log[i])
 }
 
 // The records of the first n numbers of the log; those behind them stay.

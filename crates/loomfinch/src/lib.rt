@@ -13,6 +13,7 @@ pub use events::Cause;
 pub use events::Event;
 pub use events::EventRecord;
 pub use events::Heard;
+pub use events::Recorded;
 pub use events::Unwritten;
 pub use events::consume_by_value;
 pub use events::consume_pdo_payload;

@@ -31,7 +31,7 @@ pub struct Logged {
 }
 
 // The same of a payload, with its list of events as records.
-pub struct Recorded {
+pub struct Received {
     pub memory: Memory,
     pub answer: Consumed,
     pub events: [EventRecord; 254],

@@ -2,7 +2,7 @@
 ghost use Prim.Native.Nat.{_≤_};
 use crate::Logged;
 use crate::Memory;
-use crate::Recorded;
+use crate::Received;
 use loomfinch::EventRecord;
 
 impl Memory {
@@ -55,7 +55,7 @@ impl Memory {
         version: u8,
         ready: bool,
         blank: EventRecord,
-    ) -> Recorded {
+    ) -> Received {
         let mut memory = self;
         let objects = self.objects;
         let slots = self.slots;
@@ -76,7 +76,7 @@ impl Memory {
         memory.bytes = bytes;
         let answer = heard.answer;
         let events = heard.events;
-        Recorded {
+        Received {
             memory,
             answer,
             events,

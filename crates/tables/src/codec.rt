@@ -4,11 +4,13 @@
 //   d TYPE DATA ANSWER [WORD F0 F1 F2 F3 F4 F5]  decoding: the answer's number, the word and the value's parts
 //   e TYPE WORD PART BYTES                       encoding
 //   r TYPE WORD PART SIZE ANSWER                 encoding into SIZE bytes is refused
+//   v NUMBER EVENT                               1 for the number of an event, else 0
 //   t DATA PLACE                                 no text: the place of the first byte at which none goes on
 use crate::cells::room;
 use crate::hex::bytes;
 use crate::hex::next;
 use crate::hex::number;
+use crate::records::says;
 use loomfinch::Decoded;
 use loomfinch::Encoded;
 use loomfinch::ObjectValue;
@@ -161,6 +163,11 @@ pub fn refused_line(s: &[u8], at: usize) -> bool {
         Encoded::Wrote(_) => false,
         Encoded::Refused(r) => number(s, answer) == answers::number(r),
     }
+}
+
+pub fn event_line(s: &[u8], at: usize) -> bool {
+    let is_event = number(s, next(s, at)) == 1;
+    says(number(s, at)) == is_event
 }
 
 pub fn text_line(s: &[u8], at: usize) -> bool {

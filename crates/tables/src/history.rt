@@ -78,6 +78,7 @@ fn asked(kind: u8, s: &[u8], at: usize, m: Memory) -> bool {
         b'e' => codec::encode_line(s, at),
         b'r' => codec::refused_line(s, at),
         b't' => codec::text_line(s, at),
+        b'v' => codec::event_line(s, at),
         b'R' => read_line(s, at, m),
         b'U' => typed_line(s, at, m),
         b'F' => name_line(s, at, m),

@@ -2,6 +2,7 @@
 use loomfinch::Cause;
 use loomfinch::Event;
 use loomfinch::EventRecord;
+use loomfinch::Recorded;
 use loomfinch::Unwritten;
 use std::num::wrapping_add_u64;
 
@@ -59,6 +60,14 @@ pub fn record_number(r: EventRecord) -> u64 {
     wrapping_add_u64(event_number(event), of)
 }
 
+// Is it an event's number, and does its record have that number?
+pub fn says(e: u64) -> bool {
+    match loomfinch::event_record(e) {
+        Recorded::Is(r) => record_number(r) == e,
+        Recorded::Nothing => false,
+    }
+}
+
 // Do the first n records say the first n numbers, and are all behind them blank? The record of each number says it too.
 pub fn say(records: [EventRecord; 254], log: [u64; 1024], n: usize) -> bool {
     let mut i = 0;
@@ -71,7 +80,7 @@ pub fn say(records: [EventRecord; 254], log: [u64; 1024], n: usize) -> bool {
         if record_number(record) != expected {
             return false;
         }
-        if record_number(loomfinch::event_record(expected)) != expected {
+        if !says(expected) {
             return false;
         }
         i += 1;

@@ -52,7 +52,7 @@ fn set_up(version: u8, word: u64) -> Memory {
 }
 
 // What a payload comes to: the memory, how many events there are, and the first of them.
-struct Received {
+struct After {
     memory: Memory,
     count: usize,
     first: EventRecord,
@@ -68,7 +68,7 @@ fn blank() -> EventRecord {
 }
 
 // A payload of node 5, ready.
-fn receive(m: Memory, payload: &[u8], version: u8) -> Received {
+fn receive(m: Memory, payload: &[u8], version: u8) -> After {
     let recorded = m.consume_recorded(payload, 5, version, true, blank());
     let memory = recorded.memory;
     let events = recorded.events;
@@ -79,7 +79,7 @@ fn receive(m: Memory, payload: &[u8], version: u8) -> Received {
     if let Consumed::Done(n) = answer {
         count = n;
     }
-    Received {
+    After {
         memory,
         count,
         first,

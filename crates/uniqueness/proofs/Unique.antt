@@ -1,21 +1,13 @@
 -- Each public call's contract leaves one outcome: the same answer, and the same contents of everything lent. The contract is the one
--- that Rattle reads off the source. (`read_part` returns a part of what was lent: its contract determines the part's bytes.)
+-- that Rattle reads off the source. (`read_part` returns a part of what was lent: its contract determines the part's bytes.) The two calls that
+-- are walked by hand are in Walked.antt.
 -- Assumes nothing.
 use mathlib.Core.Path.{_≡_, refl, ap, _∙_, sym}
-use mathlib.Core.List.{List}
-use Prim.Native.Nat.{ℕ}
-use contract.Lifetimes.{Lfts}
-use borrow.Fn.Kinds.{PK, RK, Dens, Out, resT, endedOf}
-use denote.Triple.Clauses.{Lasts, atExit}
 use Rattle.value.specs.Codec.{After}
 use Rattle.entry.specs.Table.{Dict}
 use Rattle.od.specs.New.{Made}
 use Rattle.nodes.specs.Nodes.{Given}
 use Rattle.counter.specs.Counter.{Counted}
-use Rattle.entry.specs.Put.{Contents}
-use Rattle.events.specs.declared.EventRecord.{EventRecord}
-use Rattle.events.specs.Receive.{Received, received}
-use Rattle.pdo_handler.specs.declared.Consumed.{Consumed}
 use Rattle.pdo_cycle.specs.Cycle.{After as Cycling}
 use Rattle.pdo_handler.specs.Errors.{After as Marking}
 use Rattle.restoring.specs.Restore.{After as Restoring}
@@ -73,14 +65,9 @@ use Rattle.pdo_handler.proofs.update_pdo_error_object.Reads as update-pdo-error
 use Rattle.pdo_handler.proofs.update_pdo_error_object.Kinds as update-pdo-error-object-kinds
 use Rattle.restoring.proofs.restore_power_on_values.Reads as restore
 use Rattle.restoring.proofs.restore_power_on_values.Kinds as restore-kinds
+use Rattle.uniqueness.specs.Contracts.{Unique}
 use Rattle.writing.proofs.write.Reads as write
 use Rattle.writing.proofs.write.Kinds as write-kinds
-
--- of a contract of n lifetimes, parameters ps and a result r: P relates the arguments, the answer and what is left in what was lent
-abbrev pub Unique : (n : ℕ) (ps : List (PK n)) (r : RK n) → Out n ps r → Type 0
-Unique n ps r P =
-    (κs : Lfts n) (a : Dens κs ps) (z₁ z₂ : resT r κs .Denot) (w₁ w₂ : Lasts (endedOf n ps r) κs a)
-    → P κs a z₁ (atExit (endedOf n ps r) κs a w₁) → P κs a z₂ (atExit (endedOf n ps r) κs a w₂) → (z₁ ≡ z₂) × (w₁ ≡ w₂)
 
 -- two that equal a third, seen in two ways
 pub both : {A B C : Type 0} (f : A → B) (g : A → C) {x y z : A} → x ≡ z → y ≡ z → (f x ≡ f y) × (g x ≡ g y)
@@ -167,8 +154,3 @@ check-all-unique κs a z₁ z₂ w₁ w₂ p q = both (λ (x : Checking). x .ans
 
 pub explain-unique : Unique 4 explain-kinds.ps explain-kinds.r explain.Post
 explain-unique κs a z₁ z₂ w₁ w₂ p q = (p ∙ sym q, refl)
-
--- `consume_pdo_payload` and `consume_by_value`: who lends a slice of records is proved by hand, so this is the equation that their contracts
--- write, for any two outcomes
-pub consume-unique : (r : Received) {a b : Consumed} {c e : Contents} {l m : List EventRecord} → received a c l ≡ r → received b e m ≡ r → (a ≡ b) × (c ≡ e) × (l ≡ m)
-consume-unique r p q = (ap (λ (x : Received). x .answer) (p ∙ sym q), ap (λ (x : Received). x .contents) (p ∙ sym q), ap (λ (x : Received). x .events) (p ∙ sym q))

@@ -3,7 +3,8 @@ use mathlib.Core.Path.{refl, ap, ap₂, _∙_, sym}
 use Rattle.entry.specs.Table.{Dict}
 use Rattle.c_answers.specs.Answers.{Told, Lent, Written}
 use Rattle.c_receiving.specs.Receiving.{Heard}
-use Rattle.uniqueness.proofs.Unique.{Unique, both}
+use Rattle.uniqueness.specs.Contracts.{Unique}
+use Rattle.uniqueness.proofs.Unique.{both}
 use Rattle.c_codec.proofs.loomfinch_decode.Reads as c-decode
 use Rattle.c_codec.proofs.loomfinch_decode.Kinds as c-decode-kinds
 use Rattle.c_codec.proofs.loomfinch_encode.Reads as c-encode

@@ -1,30 +1,22 @@
--- `events::records::event_record` meets its contract: each field is that of `recordOf`. Assumes nothing.
+-- `events::records::event_record` meets its contract: the test by the parts is that the number is its record's. Assumes nothing.
+use mathlib.Core.Path.{sym, ap, _∙_}
 use borrow.Author.Needs.{needs}
-use Rattle.events.specs.Record.{recordOf}
+use Rattle.events.specs.declared.Recorded.the-variants.{Is}
+use Rattle.events.proofs.NumberLaws.{recorded-is, recorded-none}
 use Rattle.events.proofs.records.event_record.Statement.{statement}
 use Rattle.events.proofs.records.event_record.Tie as tie
 
-cast-payload : tie.Need-cast-payload
-cast-payload c = search needs
+is-record-requires : tie.Need-is-record-requires
+is-record-requires c κs = search needs
 
-cast-element : tie.Need-cast-element
-cast-element c = search needs
-
-cast-index : tie.Need-cast-index
-cast-index c = search needs
-
-cast-start : tie.Need-cast-start
-cast-start c = search needs
-
-cast-len : tie.Need-cast-len
-cast-len c = search needs
-
-event-of-requires : tie.Need-event-of-requires
-event-of-requires c κs = search needs
+record-of-requires : tie.Need-record-of-requires
+record-of-requires c κs = search needs
 
 returns : tie.Need-returns
-unfolding recordOf
-returns c = rw (c .event-of .ensures)
+returns c = ap Is (c .record-of .ensures) ∙ recorded-is _ (sym (c .before .before .is-record .ensures) ∙ c .before .if1 .taken)
+
+returns-2 : tie.Need-returns-2
+returns-2 c = recorded-none _ (sym (c .before .is-record .ensures) ∙ c .if1 .left)
 
 pub event-record-spec : {M : Type 1} → statement M
-event-record-spec = tie.close (tie.spec cast-payload cast-element cast-index cast-start cast-len event-of-requires returns)
+event-record-spec = tie.close (tie.spec is-record-requires record-of-requires returns returns-2)

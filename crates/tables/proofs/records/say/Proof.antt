@@ -37,11 +37,8 @@ record-number-requires-2 c κs = search needs
 returns : tie.Need-returns Inv-loop μ-loop
 returns c = search needs
 
-event-record-requires : tie.Need-event-record-requires Inv-loop μ-loop
-event-record-requires c κs = search needs
-
-record-number-requires-3 : tie.Need-record-number-requires-3 Inv-loop μ-loop
-record-number-requires-3 c κs = search needs
+says-requires : tie.Need-says-requires Inv-loop μ-loop
+says-requires c κs = search needs
 
 returns-2 : tie.Need-returns-2 Inv-loop μ-loop
 returns-2 c = search needs
@@ -73,8 +70,7 @@ say-spec =
     array-copy-out-record
     record-number-requires-2
     returns
-    event-record-requires
-    record-number-requires-3
+    says-requires
     returns-2
     add-i
     loop-less
