@@ -166,8 +166,11 @@ pub fn refused_line(s: &[u8], at: usize) -> bool {
 }
 
 pub fn event_line(s: &[u8], at: usize) -> bool {
-    let is_event = number(s, next(s, at)) == 1;
-    says(number(s, at)) == is_event
+    let is_event = says(number(s, at));
+    if number(s, next(s, at)) == 1 {
+        return is_event;
+    }
+    !is_event
 }
 
 pub fn text_line(s: &[u8], at: usize) -> bool {
