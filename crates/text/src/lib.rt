@@ -6,9 +6,10 @@ use tables::AFTER;
 use tables::CLASS;
 ghost use mathlib.Core.Path.{_≡_};
 ghost use mathlib.Core.List.{[]};
-ghost use Prim.Native.Nat.{_+_, _≤_, _<_};
+ghost use mathlib.Core.Bool.{true};
+ghost use Prim.Native.Nat.{ℕ, _+_, _≤_, _<_};
 ghost use lib.Dec.{T};
-ghost use lib.ListN.{length, take, drop};
+ghost use lib.ListN.{length, take, drop, getD};
 ghost use Rattle.text.specs.Machine.{step, judge, judgeAt, Skipped};
 ghost use Rattle.text.specs.Tables.{tables, asks, reach};
 
@@ -109,11 +110,54 @@ pub fn text_ok(s: &[u8]) -> Text
     }
 }
 
+// Whether the eight bytes from i on are ASCII: one test of their high bits.
+fn eight_ascii(s: &[u8], i: usize) -> bool
+    requires { ⌜ i + 8 ≤ length (now s) ⌝ }
+    ensures { λ r. ⌜ (r ≡ true → (k : ℕ) → i ≤ k → k < i + 8 → getD (now (s .entry)) k 0 ≤ 127) ⌝ }
+{
+    lists::eight(s, i) & 0x8080_8080_8080_8080 == 0
+}
+
+// Whether the bytes from `start` up to `end` are ASCII, of which there are few.
+fn few_ascii(s: &[u8], start: usize, end: usize) -> bool
+    requires { ⌜ (start ≤ end) × (end ≤ length (now s)) ⌝ }
+    ensures { λ r. ⌜ (r ≡ true → (k : ℕ) → start ≤ k → k < end → getD (now (s .entry)) k 0 ≤ 127) ⌝ }
+{
+    let mut all: usize = 0;
+    let mut i = start;
+    while i < end {
+        all = all | wide(s[i]);
+        i += 1;
+    }
+    all < 128
+}
+
+// The same of at most 32 bytes, as a name has: at most four loads, which may overlap.
+fn short_ascii(s: &[u8], start: usize, end: usize) -> bool
+    requires { ⌜ (start ≤ end) × (end ≤ length (now s)) × (end ≤ start + 32) ⌝ }
+    ensures { λ r. ⌜ (r ≡ true → (k : ℕ) → start ≤ k → k < end → getD (now (s .entry)) k 0 ≤ 127) ⌝ }
+{
+    let n = end - start;
+    if n < 8 {
+        return few_ascii(s, start, end);
+    }
+    let outer = eight_ascii(s, start) & eight_ascii(s, end - 8);
+    if n <= 16 {
+        return outer;
+    }
+    outer & (eight_ascii(s, start + 8) & eight_ascii(s, end - 16))
+}
+
 // The answer on the `len` bytes from `start` on; its place counts from `start`.
 pub fn part_ok(s: &[u8], start: usize, len: usize) -> Text
     requires { ⌜ start + len ≤ length (now s) ⌝ }
     ensures { λ r. ⌜ r ≡ judge (take len (drop start (now (s .entry)))) ⌝ }
 {
     let end = start + len;
+    if len <= 32 {
+        if short_ascii(s, start, end) {
+            return Text::Good;
+        }
+    }
     text_ok(&s[start..end])
 }
