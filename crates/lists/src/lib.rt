@@ -27,7 +27,7 @@ fn two(s: &[u8], at: usize) -> u64
     one(s, at) + 256 * one(s, at + 1)
 }
 
-fn four(s: &[u8], at: usize) -> u64
+pub fn four(s: &[u8], at: usize) -> u64
     requires { ⌜ at + 4 ≤ length (now s) ⌝ }
     ensures { λ r. ⌜ (r ≡ number (take 4 (drop at (now (s .entry))))) × (r < 4294967296) ⌝ }
 {

@@ -1,10 +1,11 @@
--- Where the high bits of a number's bytes are not set, its bytes are ASCII, and ASCII is text.
+-- Where the high bits of a number's bytes are not set, its bytes are ASCII; ASCII may be skipped, and is text.
 -- Assumes nothing.
 use Prim.Native.Nat.{ℕ, zero, suc, _+_, _-_, _*_, _^_, _≤_, _<_, zero-le, suc-le-suc}
 use mathlib.Core.Path.{_≡_, refl, sym, ap, subst, _∙_}
 use mathlib.Core.Bool.{Bool, true, false, _||_, not}
 use mathlib.Core.List.{List, [], _∷_}
 use mathlib.Core.Option.{some}
+use native.Mathlib.Nat.{add-zero, le-refl}
 use native.Mathlib.Omega.{arith}
 use native.Mathlib.Decide.{decLt}
 use borrow.Author.Tests.{le-leb, eqb-true}
@@ -16,7 +17,8 @@ use Rattle.lists.specs.Tests.{below, below-at}
 use Rattle.lists.specs.Numbers.{number, Bytes}
 use Rattle.lists.proofs.NumberLaws.{bytes-take, bytes-drop}
 use Rattle.text.specs.declared.Text.the-variants.{Good, Bad}
-use Rattle.text.specs.Machine.{step, onward, judgeAt, judge}
+use Rattle.text.specs.Machine.{step, onward, judgeAt, judge, Skipped}
+use Rattle.text.proofs.Laws.{more}
 
 -- ---- the high bit of each byte
 abbrev highs : ℕ → ℕ
@@ -47,16 +49,16 @@ low-each [] h e k l = absurd (omega arith)
 low-each (b ∷ t) h e zero l = low-first b (number t) (highs (length t)) (h 0) e .0
 low-each (b ∷ t) h e (suc k) l = low-each t (λ i. h (suc i)) (low-first b (number t) (highs (length t)) (h 0) e .1) k (omega arith)
 
--- of eight bytes from i on
-pub low-eight : (s : List ℕ) (i w : ℕ) → Bytes s → i + 8 ≤ length s → w ≡ number (take 8 (drop i s)) → eqb (bitAnd w 9259542123273814144) 0 ≡ true
-    → (k : ℕ) → i ≤ k → k < i + 8 → getD s k 0 ≤ 127
-low-eight s i w h l r e k a z =
-    let n : length (take 8 (drop i s)) ≡ 8 = length-take-le 8 (drop i s) (rw length-drop (omega arith)) in
+-- of n bytes from i on
+pub low-part : (s : List ℕ) (i n w m : ℕ) → highs n ≡ m → Bytes s → i + n ≤ length s → w ≡ number (take n (drop i s)) → eqb (bitAnd w m) 0 ≡ true
+    → (k : ℕ) → i ≤ k → k < i + n → getD s k 0 ≤ 127
+low-part s i n w m o h l r e k a z =
+    let x : length (take n (drop i s)) ≡ n = length-take-le n (drop i s) (rw length-drop (omega arith)) in
     let q : i + (k - i) ≡ k = omega arith in
-    let d : k - i < 8 = omega arith in
-    let p : getD (take 8 (drop i s)) (k - i) 0 ≡ getD s k 0 = rw (getD-take, getD-drop, q) in
-    subst (λ x. x ≤ 127) p
-    (low-each (take 8 (drop i s)) (bytes-take 8 (drop i s) (bytes-drop i s h)) (rw (n, ← r) (eqb-true (bitAnd w 9259542123273814144) 0 e)) (k - i) (omega arith))
+    let d : k - i < n = omega arith in
+    let p : getD (take n (drop i s)) (k - i) 0 ≡ getD s k 0 = rw (getD-take, getD-drop, q) in
+    subst (λ y. y ≤ 127) p
+    (low-each (take n (drop i s)) (bytes-take n (drop i s) (bytes-drop i s h)) (rw (x, ← r, o) (eqb-true (bitAnd w m) 0 e)) (k - i) (omega arith))
 
 -- one byte more
 pub low-more : (s : List ℕ) (a i : ℕ) → ((k : ℕ) → a ≤ k → k < i → getD s k 0 ≤ 127) → getD s i 0 ≤ 127
@@ -76,7 +78,11 @@ low-join s a b c d m f g k l z = go (decLt k b)
     go (yes y) = f k l y
     go (no y) = g k (omega arith) z
 
--- ---- ASCII is text
+-- ---- ASCII may be skipped, and is text
+pub skip-low : (s : List ℕ) (a n : ℕ) → a + n ≤ length s → ((k : ℕ) → a ≤ k → k < a + n → getD s k 0 ≤ 127) → Skipped s a (a + n)
+skip-low s a zero l h = rw (add-zero a) (record { on = le-refl _; inside = omega arith; same = refl })
+skip-low s a (suc n) l h = more s a (a + n) (a + suc n) (skip-low s a n (omega arith) (λ k x y. h k x (omega arith))) (omega arith) (omega arith) (h (a + n) (omega arith) (omega arith))
+
 good-each : (t : List ℕ) → ((k : ℕ) → k < length t → getD t k 0 ≤ 127) → (j : ℕ) → judgeAt j [] t ≡ Good
 unfolding judgeAt
 good-each [] h j = refl
