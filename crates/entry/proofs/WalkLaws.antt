@@ -21,18 +21,7 @@ pub and-false : (a : Bool) → (a && false) ≡ false
 and-false true = refl
 and-false false = refl
 
--- ---- one turn of each walk
-pub slots-step : (d : Dict) (n k f j b : ℕ) → j < k → slotsFrom d n (k - j) (f + j) b ≡ cond (slotOk d n (f + j) b) (slotsFrom d (n - 1) (k - (j + 1)) (f + (j + 1)) (b + roomAt (d .slots) (f + j))) sum.Bad
-unfolding slotsFrom
-slots-step d n k f j b h =
-    let e : k - j ≡ suc (k - (j + 1)) = omega arith in
-    let q : f + (j + 1) ≡ suc (f + j) = omega arith in
-    rw (e, q)
-
-pub slots-end : (d : Dict) (n k p b : ℕ) → k ≡ 0 → slotsFrom d n k p b ≡ sum.Upto b
-unfolding slotsFrom
-slots-end d n k p b e = rw e
-
+-- ---- one turn of the walk over the rows
 pub rows-step : (d : Dict) (n i v b low : ℕ) → i < n → rowsFrom d (n - i) i v b low ≡ cond (rowOk (d .objects) i v b low) (cond (rowFits (d .objects) (d .bytes) i v b) (andThen (slotsFrom d (countAt (d .objects) i) (usedAt (d .objects) i) v (b + nameLenAt (d .objects) i)) (λ e. rowsFrom d (n - (i + 1)) (i + 1) (v + usedAt (d .objects) i) e (indexAt (d .objects) i + 1))) walk.Broken) walk.Broken
 unfolding rowsFrom
 rows-step d n i v b low h =

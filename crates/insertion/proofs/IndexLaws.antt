@@ -13,22 +13,21 @@ use lib.ListN.{length, drop}
 use Rattle.entry.specs.Model.{Obj}
 use Rattle.entry.specs.Table.{Dict, objsFrom, modelOf, numberOf, indexAt}
 use Rattle.entry.specs.Rules.{objsOk}
+use Rattle.entry.specs.Find.{Lower}
 use Rattle.entry.specs.Judge.{wellFormed}
 use Rattle.insertion.specs.Insert.{below, taken, placeFrom}
 use Rattle.entry.proofs.JudgeLaws.{sound}
 use Rattle.entry.proofs.BackLaws.{FirstOk, first-ok}
 
 -- ---- the place
-pub place-step : (objects : List ℕ) (x n i : ℕ) → i < n → placeFrom objects x (n - i) i ≡ cond (ltb (indexAt objects i) x) (placeFrom objects x (n - (i + 1)) (i + 1)) i
+pub place-lower : (objects : List ℕ) (x r : ℕ) → Lower objects x r → (k i : ℕ) → i + k ≡ numberOf objects → i ≤ r → placeFrom objects x k i ≡ r
 unfolding placeFrom
-place-step objects x n i h =
-    let e : n - i ≡ suc (n - (i + 1)) = omega arith in
-    let q : i + 1 ≡ suc i = omega arith in
-    rw (e, q)
-
-pub place-end : (objects : List ℕ) (x k i : ℕ) → k ≡ 0 → placeFrom objects x k i ≡ i
-unfolding placeFrom
-place-end objects x k i e = rw e
+place-lower objects x r l zero i e h = omega (arith, l .within)
+place-lower objects x r l (suc k) i e h = go (λ q. place-lower objects x r l k (suc i) (omega arith) q) (decLt i r)
+  where
+    go : (suc i ≤ r → placeFrom objects x k (suc i) ≡ r) → Dec (i < r) → cond (ltb (indexAt objects i) x) (placeFrom objects x k (suc i)) i ≡ r
+    go later (yes q) = rw (lt-ltb (indexAt objects i) x (l .before i q)) (later q)
+    go later (no q) = rw (le-ltb (indexAt objects i) x (l .behind i (omega arith) (omega arith))) (omega arith)
 
 pub place-below : (d : Dict) (x k i : ℕ) → placeFrom (d .objects) x k i ≡ i + below x (objsFrom d k i)
 unfolding placeFrom below objsFrom

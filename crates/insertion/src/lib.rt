@@ -11,6 +11,7 @@ ghost use Prim.Native.Nat.{_+_, _≤_};
 ghost use lib.Dec.{eqb, ltb};
 ghost use lib.ListN.{length};
 ghost use Rattle.entry.specs.Table.{dict, numberOf, valuesOf, usedOf, rowPlace, indexAt};
+ghost use Rattle.entry.specs.Find.{Rows};
 ghost use Rattle.insertion.specs.Insert.{fitsIn, placeFrom, answerOf, memoryOf};
 
 pub enum Inserted {
@@ -20,19 +21,10 @@ pub enum Inserted {
 
 // How many rows have a smaller index.
 fn place(objects: &[u64], x: u64) -> usize
-    requires { ⌜ (numberOf (now objects) ≤ 1024) × (rowPlace (numberOf (now objects)) ≤ length (now objects)) ⌝ }
+    requires { ⌜ Rows (now objects) ⌝ }
     ensures { λ r. ⌜ r ≡ placeFrom (now (objects .entry)) x (numberOf (now (objects .entry))) 0 ⌝ }
 {
-    let n = entry::number_of(objects) as usize;
-    let mut i = 0;
-    while i < n {
-        let index = entry::index_at(objects, i);
-        if x <= index {
-            return i;
-        }
-        i += 1;
-    }
-    i
+    entry::lower(objects, x)
 }
 
 // Whether the row at place i has the index.

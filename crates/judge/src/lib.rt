@@ -1,13 +1,14 @@
 // Whether four lent slices are a dictionary: one pass over the rows, with running totals.
 ghost use mathlib.Core.Path.{_≡_};
-ghost use mathlib.Core.Bool.{true, false};
+ghost use mathlib.Core.Bool.{true, false, _&&_};
 ghost use Prim.Native.Nat.{_+_, _-_, _≤_, _<_};
-ghost use lib.ListN.{length, take, drop};
+ghost use lib.Dec.{eqb, leb};
+ghost use lib.ListN.{length, take, drop, getD};
 ghost use Rattle.text.specs.Machine.{judge};
 ghost use Rattle.value.specs.Codec.{isText, takes, textWord};
-ghost use Rattle.entry.specs.Table.{numberOf, valuesOf, usedOf, rowEnd, slotPlace, slotEnd, countAt, defaultAt, dict};
+ghost use Rattle.entry.specs.Table.{numberOf, valuesOf, usedOf, rowEnd, slotPlace, slotEnd, countAt, defaultAt, typeAt, startAt, roomAt, dict};
 ghost use Rattle.entry.specs.Rules.{isGood, valOk, tight, headOk};
-ghost use Rattle.entry.specs.Judge.{reserved, rowReserved, slotOk, slotsFrom, rowOk, rowFits, rowsFrom, headerOk, wellFormed, Long};
+ghost use Rattle.entry.specs.Judge.{reserved, rowReserved, slotsFrom, rowOk, rowFits, rowsFrom, headerOk, wellFormed, Long};
 use entry::Sum;
 use entry::Walk;
 use entry::access_at;
@@ -27,7 +28,6 @@ use entry::type_at;
 use entry::used_of;
 use entry::values_of;
 use text::Text;
-use value::Word;
 
 // Whether a part of s is text.
 pub fn is_good(s: &[u8], start: usize, len: usize) -> bool
@@ -40,16 +40,16 @@ pub fn is_good(s: &[u8], start: usize, len: usize) -> bool
     }
 }
 
-// A text or bytes of type t over their current length.
+// A text or bytes of type t over their current length. A text is asked for in place, where a short one is quickly judged.
 fn text_ok(t: u64, s: &[u8], start: usize, len: usize) -> bool
-    requires { ⌜ (start + len ≤ length (now s)) × (isText t ≡ true) ⌝ }
+    requires { ⌜ start + len ≤ length (now s) ⌝ }
     ensures { λ r. ⌜ r ≡ takes (textWord t (take len (drop start (now (s .entry))))) ⌝ }
 {
-    let end = start + len;
-    match value::decode_word(t, &s[start..end]) {
-        Word::Takes(_) => true,
-        Word::Fails(_) => false,
+    if t == 11 {
+        return is_good(s, start, len);
     }
+    let odd = len % 2 == 1;
+    !((t == 13) & odd)
 }
 
 fn val_ok(t: u64, w: u64, room: u64, s: &[u8], start: usize) -> bool
@@ -118,20 +118,13 @@ fn row_reserved(objects: &[u64], i: usize) -> bool
     (a == 0) & ((b == 0) & ((c == 0) & (d == 0)))
 }
 
-fn slot_ok(
-    objects: &[u64],
-    slots: &[u64],
-    words: &[u64],
-    bytes: &[u8],
-    n: u64,
-    p: usize,
-    b: usize,
-) -> bool
-    requires { ⌜ (p < 6144) × (slotEnd p ≤ length (now slots)) × (p < length (now words)) × (12 ≤ length (now objects)) × (b ≤ usedOf (now objects)) × (usedOf (now objects) ≤ length (now bytes)) ⌝ }
-    ensures { λ r. ⌜ r ≡ slotOk (dict (now (objects .entry)) (now (slots .entry)) (now (words .entry)) (now (bytes .entry))) n p b ⌝ }
+// A slot that is not the default's: its room lies from b on, within the bytes that are used, and its value is right.
+fn slot_ok(slots: &[u64], words: &[u64], bytes: &[u8], used: u64, p: usize, b: usize) -> bool
+    requires { ⌜ (p < 6144) × (slotEnd p ≤ length (now slots)) × (p < length (now words)) × (b ≤ used) × (used ≤ length (now bytes)) ⌝ }
+    ensures { λ r. ⌜ r ≡ (eqb (startAt (now (slots .entry)) p) b && (leb (roomAt (now (slots .entry)) p) (used - b) && valOk (typeAt (now (slots .entry)) p) (getD (now (words .entry)) p 0) (roomAt (now (slots .entry)) p) (drop b (now (bytes .entry))))) ⌝ }
 {
     let room = room_at(slots, p);
-    let left = used_of(objects) - b as u64;
+    let left = used - b as u64;
     let start = start_at(slots, p);
     if start != b as u64 {
         return false;
@@ -141,12 +134,10 @@ fn slot_ok(
     }
     let t = type_at(slots, p);
     let w = words[p];
-    if !val_ok(t, w, room, bytes, b) {
-        return false;
-    }
-    (0 < n) | tight(t, w, room)
+    val_ok(t, w, room, bytes, b)
 }
 
+// The slots of one object. Only the last of them can be a default's, so that is judged behind the loop, which then counts nothing.
 fn walk_slots(
     objects: &[u64],
     slots: &[u64],
@@ -158,18 +149,24 @@ fn walk_slots(
     start: usize,
 ) -> Sum
     requires { ⌜ (from + k ≤ 6144) × (slotPlace (from + k) ≤ length (now slots)) × (from + k ≤ length (now words)) × (12 ≤ length (now objects)) × (start ≤ usedOf (now objects)) × (usedOf (now objects) ≤ length (now bytes)) ⌝ }
+    requires { ⌜ k ≤ elements + 1 ⌝ }
     ensures { λ r. ⌜ r ≡ slotsFrom (dict (now (objects .entry)) (now (slots .entry)) (now (words .entry)) (now (bytes .entry))) elements k from start ⌝ }
 {
-    let mut n = elements;
+    let used = used_of(objects);
     let mut j = 0;
     let mut b = start;
     while j < k {
-        if !slot_ok(objects, slots, words, bytes, n, from + j, b) {
+        if !slot_ok(slots, words, bytes, used, from + j, b) {
             return Sum::Bad;
         }
         b += room_at(slots, from + j) as usize;
-        n = lists::less(n, 1);
         j += 1;
+    }
+    if elements < k as u64 {
+        let q = from + k - 1;
+        if !tight(type_at(slots, q), words[q], room_at(slots, q)) {
+            return Sum::Bad;
+        }
     }
     Sum::Upto(b)
 }

@@ -7,7 +7,7 @@ use native.Mathlib.Nat.{add-comm, zero-add, suc-add, mul-assoc, mul-left-comm, l
 use native.Mathlib.Omega.{arith}
 use native.Mathlib.Decide.{decLt}
 use lib.ListN.{length, take, drop, getD, set, length-drop, drop-of-length-le}
-use lib.Seq.{drop-cons, length-take-le, getD-take, getD-drop, getD-set-same, getD-set-other}
+use lib.Seq.{drop-cons, drop-drop, take-add, length-take-le, getD-take, getD-drop, getD-set-same, getD-set-other}
 use lib.Pow.{pow-add, pow-mono, pow-pos, mod-pow-add, shr-shr}
 use Rattle.lists.specs.Lists.{over}
 use Rattle.lists.specs.Numbers.{number, bytesOf, bits, Bytes}
@@ -98,6 +98,18 @@ number-append (b ∷ s) t =
     let e = number-append s t in
     let m : 256 * 2 ^ (8 * length s) * number t ≡ 256 * (2 ^ (8 * length s) * number t) = mul-assoc 256 (2 ^ (8 * length s)) (number t) in
     rw (pow-suc (length s)) (omega arith)
+
+-- of a part: its first byte, and two parts one behind the other
+pub read-one : (s : List ℕ) (at : ℕ) → at < length s → number (take 1 (drop at s)) ≡ getD s at 0
+unfolding number
+read-one s at h = rw (drop-cons s at 0 h) (omega arith)
+
+pub read-two : (s : List ℕ) (at m n : ℕ) {a b : ℕ} → at + m + n ≤ length s → a ≡ number (take m (drop at s)) → b ≡ number (take n (drop (at + m) s))
+    → a + 2 ^ (8 * m) * b ≡ number (take (m + n) (drop at s))
+read-two s at m n h e f =
+    let l : length (take m (drop at s)) ≡ m = length-take-le m (drop at s) (rw length-drop (omega arith)) in
+    let p : take (m + n) (drop at s) ≡ take m (drop at s) ++ take n (drop (at + m) s) = take-add m n (drop at s) ∙ ap (λ t. take m (drop at s) ++ take n t) (drop-drop m at s) in
+    rw (e, f, p, number-append (take m (drop at s)) (take n (drop (at + m) s)), l)
 
 pub bytesOf-append : (m n x : ℕ) → bytesOf (m + n) x ≡ bytesOf m x ++ bytesOf n (x / 2 ^ (8 * m))
 unfolding bytesOf

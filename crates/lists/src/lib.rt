@@ -12,8 +12,37 @@ fn wide(x: u8) -> u64
     x as u64
 }
 
-// The number of the n bytes from `at` on.
-pub fn number(s: &[u8], at: usize, n: usize) -> u64
+// The number of one, two, four and eight bytes from `at` on. Each is the sum of its halves, which is compiled to one load.
+fn one(s: &[u8], at: usize) -> u64
+    requires { ⌜ at + 1 ≤ length (now s) ⌝ }
+    ensures { λ r. ⌜ (r ≡ number (take 1 (drop at (now (s .entry))))) × (r < 256) ⌝ }
+{
+    wide(s[at])
+}
+
+fn two(s: &[u8], at: usize) -> u64
+    requires { ⌜ at + 2 ≤ length (now s) ⌝ }
+    ensures { λ r. ⌜ (r ≡ number (take 2 (drop at (now (s .entry))))) × (r < 65536) ⌝ }
+{
+    one(s, at) + 256 * one(s, at + 1)
+}
+
+pub fn four(s: &[u8], at: usize) -> u64
+    requires { ⌜ at + 4 ≤ length (now s) ⌝ }
+    ensures { λ r. ⌜ (r ≡ number (take 4 (drop at (now (s .entry))))) × (r < 4294967296) ⌝ }
+{
+    two(s, at) + 65536 * two(s, at + 2)
+}
+
+pub fn eight(s: &[u8], at: usize) -> u64
+    requires { ⌜ at + 8 ≤ length (now s) ⌝ }
+    ensures { λ r. ⌜ r ≡ number (take 8 (drop at (now (s .entry)))) ⌝ }
+{
+    four(s, at) + 4294967296 * four(s, at + 4)
+}
+
+// The number of any n bytes from `at` on, one by one.
+fn each(s: &[u8], at: usize, n: usize) -> u64
     requires { ⌜ (n ≤ 8) × (at + n ≤ length (now s)) ⌝ }
     ensures { λ r. ⌜ r ≡ number (take n (drop at (now (s .entry)))) ⌝ }
 {
@@ -24,6 +53,20 @@ pub fn number(s: &[u8], at: usize, n: usize) -> u64
         sum = sum * 256 + wide(s[at + i]);
     }
     sum
+}
+
+// The number of the n bytes from `at` on.
+pub fn number(s: &[u8], at: usize, n: usize) -> u64
+    requires { ⌜ (n ≤ 8) × (at + n ≤ length (now s)) ⌝ }
+    ensures { λ r. ⌜ r ≡ number (take n (drop at (now (s .entry)))) ⌝ }
+{
+    match n {
+        1 => one(s, at),
+        2 => two(s, at),
+        4 => four(s, at),
+        8 => eight(s, at),
+        _ => each(s, at, n),
+    }
 }
 
 // Lays the n bytes of x, its low ones, over s from `at` on.

@@ -7,7 +7,7 @@ use mathlib.Core.List.{List, [], _∷_}
 use mathlib.Core.Option.{Option, none, some}
 use native.Mathlib.Numerals.{add-one}
 use native.Mathlib.Omega.{arith}
-use borrow.Author.Tests.{lt-ltb, le-ltb, le-leb}
+use borrow.Author.Tests.{lt-ltb, le-ltb, le-leb, lt-leb}
 use lib.Dec.{T, eqb, eqb→eq, ltb, ltb→lt}
 use lib.ListN.{length, getD, drop, drop-of-length-le}
 use lib.Seq.{drop-cons}
@@ -34,6 +34,23 @@ more s from i j k e h a =
       on = omega arith;
       inside = omega arith;
       same = ap (λ (n : ℕ). judgeAt n [] (drop n s)) (sym e) ∙ sym (turn s i h [] t) ∙ k .same;
+    }
+
+-- ---- what may be skipped: one part behind another, and a character of two bytes
+pub skip-on : (s : List ℕ) (a b c : ℕ) → Skipped s a b → Skipped s b c → Skipped s a c
+skip-on s a b c p q = record { on = omega (arith, p .on, q .on); inside = q .inside; same = q .same ∙ p .same }
+
+pub skip-pair : (s : List ℕ) (i : ℕ) → i + 2 ≤ length s → 0xC2 ≤ getD s i 0 → getD s i 0 ≤ 0xDF → 0x80 ≤ getD s (i + 1) 0 → getD s (i + 1) 0 ≤ 0xBF → Skipped s i (i + 2)
+skip-pair s i l b₀ b₁ c₀ c₁ =
+    let b = getD s i 0 in
+    let c = getD s (i + 1) 0 in
+    let t : step [] b ≡ some (0x80 to 0xBF ∷ []) = simp (le-leb 0 b zero-le, lt-leb b 0x7F (omega arith), le-leb 0xC2 b b₀, le-leb b 0xDF b₁) in
+    let u : step (0x80 to 0xBF ∷ []) c ≡ some [] = simp (le-leb 0x80 c c₀, le-leb c 0xBF c₁) in
+    let e : i + 1 + 1 ≡ i + 2 = omega arith in
+    record {
+      on = omega arith;
+      inside = l;
+      same = ap (λ (n : ℕ). judgeAt n [] (drop n s)) (sym e) ∙ sym (turn s (i + 1) (omega arith) (0x80 to 0xBF ∷ []) u) ∙ sym (turn s i (omega arith) [] t);
     }
 
 pub or-low : (a b n : ℕ) → bitOr a b ≤ n → (a ≤ n) × (b ≤ n)

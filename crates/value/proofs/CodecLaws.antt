@@ -1,19 +1,23 @@
 -- Laws on sizes, on what can be said, and on what decoding and encoding answer.
 -- Assumes nothing.
-use mathlib.Core.Path.{_≡_, refl, sym, ap, _∙_}
-use mathlib.Core.Bool.{Bool, true, false, cond, _&&_, and-eq-true-iff}
-use mathlib.Core.List.{List, []}
-use Prim.Native.Nat.{ℕ, zero, suc, _*_, _/_, _%_, _^_, _<_, _≤_, zero-le}
-use native.Mathlib.Nat.{div-eq-of-lt, div-add-mod, mod-lt, mul-zero}
+use mathlib.Core.Path.{_≡_, refl, sym, ap, subst, _∙_}
+use mathlib.Core.Logic.{inl, inr}
+use mathlib.Core.Bool.{Bool, true, false, cond, _&&_, _||_, and-eq-true-iff}
+use mathlib.Core.List.{List, [], _∷_}
+use Prim.Native.Nat.{ℕ, zero, suc, _+_, _-_, _*_, _/_, _%_, _^_, _<_, _≤_, zero-le}
+use native.Mathlib.Nat.{div-eq-of-lt, mod-lt, zero-mul}
 use native.Mathlib.Omega.{arith}
 use native.Mathlib.Decide.{decLt}
 use borrow.Author.Tests.{ltb-true, ltb-false, leb-true, eqb-true, lt-ltb, le-ltb, le-leb, lt-leb, eq-eqb, ne-eqb}
-use lib.Dec.{leb, ltb, eqb, leb→le}
+use lib.Dec.{T, leb, ltb, eqb, leb→le, eqb→eq}
+use mir.Val.{hasKey}
+use types.Run.{OneOf, hit}
 use lib.ListN.{length, getD, take, length-take, List·getD-eq-default}
-use lib.Pow.{pow-pos, pow-mono}
+use lib.Pow.{pow-pos, pow-mono, split, shr-mod}
+use lib.Bits.{bitAnd, and-high}
 use Rattle.lists.specs.Lists.{over}
 use Rattle.lists.specs.Numbers.{number, bytesOf, Bytes}
-use Rattle.lists.specs.Tests.{below, below-at}
+use Rattle.lists.specs.Tests.{and-left, and-right, below, below-at}
 use Rattle.lists.proofs.NumberLaws.{number-lt, bytes-take}
 use Rattle.answers.specs.declared.Refusal.the-variants.{BadValue, BufferTooShort}
 use Rattle.text.specs.declared.Text.{Text as Judged}
@@ -51,16 +55,62 @@ size-le t = go (decLt t 21)
     go (yes h) = leb→le (getD sizes t 0) 8 (below-at 21 (λ k. leb (getD sizes k 0) 8) tt t h)
     go (no h) = omega (arith, List·getD-eq-default sizes 0 {n = t} (omega arith))
 
--- a word that is shifted away fits in the bits that it was shifted by
-pub shifted-out : (w k : ℕ) → eqb (w / 2 ^ k) 0 ≡ ltb w (2 ^ k)
-shifted-out w k = go (decLt w (2 ^ k))
+-- ---- a match on t by keys: what holds of an arm's keys, and of every number that no arm has, antt computes
+unfoldable pub all : List ℕ → (ℕ → Bool) → Bool
+all [] f = true
+all (k ∷ ks) f = f k && all ks f
+
+pub keyed : (f : ℕ → ℕ) (n : ℕ) (k : ℕ) (ks : List ℕ) (x : ℕ) → T (all (k ∷ ks) (λ y. eqb (f y) n)) → OneOf (k ∷ ks) x → f x ≡ n
+unfolding all
+keyed f n k [] x t h = ap f h ∙ eqb→eq (f k) n (and-left (eqb (f k) n) true t)
+keyed f n k (l ∷ ks) x t (inl h) = ap f h ∙ eqb→eq (f k) n (and-left (eqb (f k) n) (all (l ∷ ks) (λ y. eqb (f y) n)) t)
+keyed f n k (l ∷ ks) x t (inr h) = keyed f n l ks x (and-right (eqb (f k) n) (all (l ∷ ks) (λ y. eqb (f y) n)) t) h
+
+abbrev Missed : List (List ℕ) → ℕ → Type 0
+Missed [] x = Unit {0}
+Missed (ks ∷ kss) x = Missed kss x × (OneOf ks x → ⊥)
+
+some : List (List ℕ) → ℕ → Bool
+some [] x = false
+some (ks ∷ kss) x = hasKey ks x || some kss x
+
+missed : (kss : List (List ℕ)) (x : ℕ) → Missed kss x → T (some kss x) → ⊥
+unfolding some
+missed [] x m t = t
+missed (ks ∷ kss) x m t = go (missed kss x (m .0)) (hasKey ks x) refl t
   where
-    go : Dec (w < 2 ^ k) → eqb (w / 2 ^ k) 0 ≡ ltb w (2 ^ k)
-    go (yes h) = rw (lt-ltb w (2 ^ k) h) (eq-eqb (w / 2 ^ k) 0 (div-eq-of-lt h))
-    go (no h) = rw (le-ltb w (2 ^ k) (omega arith)) (ne-eqb (w / 2 ^ k) 0 (λ e. omega (arith, div-add-mod w (2 ^ k), mod-lt w (pow-pos k), zero-product e)))
-      where
-        zero-product : w / 2 ^ k ≡ 0 → 2 ^ k * (w / 2 ^ k) ≡ 0
-        zero-product e = ap (λ q. 2 ^ k * q) e ∙ mul-zero (2 ^ k)
+    go : (T (some kss x) → ⊥) → (b : Bool) → hasKey ks x ≡ b → T (b || some kss x) → ⊥
+    go later true e q = m .1 (hit ks x (subst T (sym e) tt))
+    go later false e q = later q
+
+-- the arms of the 21 types, the last one first
+abbrev arms : List (List ℕ)
+arms =
+    (18 ∷ []) ∷ (16 ∷ []) ∷ (15 ∷ 19 ∷ []) ∷ (12 ∷ 14 ∷ []) ∷ (11 ∷ 13 ∷ []) ∷ (4 ∷ 8 ∷ 10 ∷ 17 ∷ []) ∷ (3 ∷ 7 ∷ 9 ∷ 20 ∷ []) ∷ (2 ∷ 6 ∷ []) ∷ (1 ∷ []) ∷ (0 ∷ 5 ∷ []) ∷ []
+
+pub size-rest : (t : ℕ) → Missed arms t → sizeOf t ≡ 0
+unfolding below some
+size-rest t m = go (decLt t 21)
+  where
+    go : Dec (t < 21) → sizeOf t ≡ 0
+    go (yes h) = absurd (missed arms t m (below-at 21 (some arms) tt t h))
+    go (no h) = size-none t (omega arith)
+
+-- a word that has none of the bits from bit k on is below 2 ^ k
+pub none-over : (w k : ℕ) → w < 2 ^ 64 → k ≤ 64 → eqb (bitAnd w (2 ^ 64 - 2 ^ k)) 0 ≡ ltb w (2 ^ k)
+none-over w k h l = ap (λ x. eqb x 0) high-part ∙ go (decLt w (2 ^ k))
+  where
+    e : (64 - k) + k ≡ 64
+    e = omega arith
+
+    high-part : bitAnd w (2 ^ 64 - 2 ^ k) ≡ w / 2 ^ k * 2 ^ k
+    high-part =
+        ap (λ n. bitAnd w (2 ^ n - 2 ^ k)) (sym e) ∙ and-high w (64 - k) k
+        ∙ ap (λ x. x * 2 ^ k) (shr-mod (64 - k) k (subst (λ n. w < 2 ^ n) (sym e) h))
+
+    go : Dec (w < 2 ^ k) → eqb (w / 2 ^ k * 2 ^ k) 0 ≡ ltb w (2 ^ k)
+    go (yes d) = eq-eqb (w / 2 ^ k * 2 ^ k) 0 (ap (λ x. x * 2 ^ k) (div-eq-of-lt d) ∙ zero-mul (2 ^ k)) ∙ sym (lt-ltb w (2 ^ k) d)
+    go (no d) = ne-eqb (w / 2 ^ k * 2 ^ k) 0 (λ z. omega (arith, split w k, mod-lt w (pow-pos k))) ∙ sym (le-ltb w (2 ^ k) (omega arith))
 
 -- ---- what can be said, and its encoding
 module _ (t w : ℕ) (part : List ℕ) where

@@ -2,7 +2,7 @@
 ghost use mathlib.Core.Path.{_≡_};
 ghost use mathlib.Core.Bool.{true, false};
 ghost use mathlib.Core.List.{[]};
-ghost use Prim.Native.Nat.{_≤_};
+ghost use Prim.Native.Nat.{_-_, _*_, _^_, _≤_};
 ghost use Rattle.value.specs.Codec.{sizeOf, isText, fitsType, textWord, wordAt, exact, encodeOf, after};
 use crate::Encoded;
 use crate::Fault;
@@ -10,38 +10,44 @@ use crate::Word;
 use answers::Refusal;
 use text::Text;
 
-const SIZES: [u8; 21] = [
-    1,
-    1,
-    2,
-    4,
-    8,
-    1,
-    2,
-    4,
-    8,
-    4,
-    8,
-    0,
-    0,
-    0,
-    0,
-    6,
-    6,
-    8,
-    8,
-    6,
-    4,
-];
-
 // The bytes that a fixed type has; 0 for the four types that have a room, and for no type.
+// A constant array would be built on the stack at each use. A `match` is compiled to one load where every type has an arm and no arm
+// has two types in a row, as 0 and 1: those left to `_`, and those in a row, get a test of their own. So arms of one answer stand apart.
 pub fn size_of(t: u64) -> usize
     ensures { λ r. ⌜ r ≡ sizeOf t ⌝ }
 {
-    if t < 21 {
-        SIZES[t as usize] as usize
-    } else {
-        0
+    match t {
+        0 | 5 => 1,
+        1 => 1,
+        2 | 6 => 2,
+        3 | 7 | 9 | 20 => 4,
+        4 | 8 | 10 | 17 => 8,
+        11 | 13 => 0,
+        12 | 14 => 0,
+        15 | 19 => 6,
+        16 => 6,
+        18 => 8,
+        _ => 0,
+    }
+}
+
+// The bits that a word of the type does not have. A mask is loaded, as a size is; the largest word, to compare with, would be jumped for,
+// since the arms of eight bytes need no comparison.
+fn over(t: u64) -> u64
+    ensures { λ r. ⌜ r ≡ 2 ^ 64 - 2 ^ (8 * sizeOf t) ⌝ }
+{
+    match t {
+        0 | 5 => 0xFFFF_FFFF_FFFF_FF00,
+        1 => 0xFFFF_FFFF_FFFF_FF00,
+        2 | 6 => 0xFFFF_FFFF_FFFF_0000,
+        3 | 7 | 9 | 20 => 0xFFFF_FFFF_0000_0000,
+        4 | 8 | 10 | 17 => 0,
+        11 | 13 => 0xFFFF_FFFF_FFFF_FFFF,
+        12 | 14 => 0xFFFF_FFFF_FFFF_FFFF,
+        15 | 19 => 0xFFFF_0000_0000_0000,
+        16 => 0xFFFF_0000_0000_0000,
+        18 => 0,
+        _ => 0xFFFF_FFFF_FFFF_FFFF,
     }
 }
 
@@ -56,12 +62,7 @@ pub fn is_text(t: u64) -> bool
 pub fn fits(t: u64, word: u64) -> bool
     ensures { λ r. ⌜ r ≡ fitsType t word ⌝ }
 {
-    let n = size_of(t);
-    if n == 8 {
-        return true;
-    }
-    let bits = 8 * n;
-    word >> bits == 0
+    word & over(t) == 0
 }
 
 fn decode_text(t: u64, data: &[u8]) -> Word

@@ -1,5 +1,7 @@
 //! Times calls of the port and of the Rust on the same dictionaries.
 
+mod judging;
+
 use super::consuming::A_PAYLOAD;
 use super::image::{self, Record};
 use super::insertion::Insertion;
@@ -17,6 +19,7 @@ use super::writes;
 use crate::original;
 use crate::port::Port;
 use crate::random::Random;
+use judging::Judging;
 use std::hint::black_box;
 use std::time::Instant;
 
@@ -48,22 +51,16 @@ const LARGEST: Used = Used { objects: 1024, values: 6144, bytes: 32_768 };
 
 pub fn print(port: &mut Port, random: &Random) {
     let mut table = Table::default();
-    let mut judged = [f64::INFINITY; 3];
+    let mut judging = Judging::default();
     for _ in 0..ROUNDS {
         // The same dictionaries in each.
         let mut random = random.clone();
         round(port, &mut random, &mut table);
-        let times = judging(port, &mut random);
-        judged.iter_mut().zip(times).for_each(|(least, time)| *least = least.min(time));
+        judging.round(port, &mut random);
     }
     table.print();
-    let [bare, named, valued] = judged;
-    let [object, value] = [bare / 1000.0, (valued - bare) / 6000.0];
-    let byte = (named - bare) / 32_000.0;
     println!();
-    println!(
-        "Judging alone: {object:.1} ns an object, {value:.1} ns a value, {byte:.2} ns a byte of a name."
-    );
+    judging.print();
 }
 
 fn round(port: &mut Port, random: &mut Random, table: &mut Table) {
@@ -134,16 +131,6 @@ fn calls() -> [(&'static str, Call); 7] {
     ]
 }
 
-/// A call that does little else than judge, on 1,000 objects, on these with 32,000 bytes of names, and
-/// on these with 6,000 values.
-fn judging(port: &mut Port, random: &mut Random) -> [f64; 3] {
-    let mut time = |objects, values, bytes| {
-        let objects = using(random, Used { objects, values, bytes });
-        port_time(port, &Setting { objects, records: Vec::new() }, &missing())
-    };
-    [time(1000, 0, 0), time(1000, 0, 32_000), time(1000, 6000, 0)]
-}
-
 /// How often a call can be repeated that takes so long.
 fn repeats(time: f64) -> f64 {
     (LONG_ENOUGH / time.max(1.0)).clamp(3.0, 200_000.0)
@@ -157,20 +144,25 @@ pub fn port_time(port: &mut Port, setting: &Setting, call: &Call) -> f64 {
 }
 
 fn port_repeats(port: &mut Port, setting: &Setting, call: &Call, repeats: u64) -> f64 {
-    let mut lengths = Used::of(&setting.objects).lengths();
-    // Room for the object that is inserted.
-    let room = [ROW, 100 * SLOT, 100, 2000];
-    lengths.iter_mut().zip(room).for_each(|(length, room)| *length += room);
-    let first = Lent { at_start: false, lengths, store: STORE };
-    let image = image::of(&setting.records);
-    let steps = vec![Step::Lay(setting.objects.clone()), Step::Store(image)];
-    let timed = link::timed(port, &History { first, steps }, call, repeats, call.writes());
+    let timed = link::timed(port, &history(setting), call, repeats, call.writes());
     let (answer, time) = timed.expect("it answers");
     let wanted = if matches!(call, Call::FindByName(_)) || *call == missing() { 3 } else { 0 };
     assert_eq!(answer, wanted, "a timed call is answered as it must be");
     time as f64 / repeats as f64
 }
 
+/// What lays the dictionary and its store.
+fn history(setting: &Setting) -> History {
+    let mut lengths = Used::of(&setting.objects).lengths();
+    // Room for the object that is inserted.
+    let room = [ROW, 100 * SLOT, 100, 2000];
+    lengths.iter_mut().zip(room).for_each(|(length, room)| *length += room);
+    let first = Lent { at_start: false, lengths, store: STORE };
+    let image = image::of(&setting.records);
+    History { first, steps: vec![Step::Lay(setting.objects.clone()), Step::Store(image)] }
+}
+
+/// A call that does little else than judge: a read of what is not there.
 pub fn missing() -> Call {
     Call::Read { index: MISSING, sub_index: 1, numbers: 3 }
 }

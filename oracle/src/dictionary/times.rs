@@ -43,12 +43,16 @@ impl Table {
     }
 }
 
-/// Whole ones from 100 on.
-fn nanoseconds(time: f64) -> String {
-    if time < 100.0 { format!("{time:.1}") } else { count(time as usize) }
+/// Whole ones from 100 on, hundredths below 10.
+pub fn nanoseconds(time: f64) -> String {
+    match time {
+        ..10.0 => format!("{time:.2}"),
+        ..100.0 => format!("{time:.1}"),
+        _ => count(time as usize),
+    }
 }
 
-fn ratio(ratio: f64) -> String {
+pub fn ratio(ratio: f64) -> String {
     if ratio < 10.0 { format!("{ratio:.2}") } else { count(ratio as usize) }
 }
 

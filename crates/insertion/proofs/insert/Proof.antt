@@ -6,6 +6,7 @@ use Rattle.entry.specs.Model.{used, size}
 use Rattle.entry.specs.Table.{Dict, dict, modelOf}
 use Rattle.entry.specs.Judge.{wellFormed}
 use Rattle.entry.proofs.JudgeLaws.{sound, headed}
+use Rattle.entry.proofs.ValueLaws.{rows-of}
 use Rattle.given.specs.Given.{objIn, countIn, rightIn}
 use Rattle.insertion.specs.Replace.{RoomIn}
 use Rattle.insertion.specs.Insert.{below, taken, fitsIn}
@@ -96,7 +97,7 @@ cast-index : tie.Need-cast-index
 cast-index c = search needs
 
 place-requires : tie.Need-place-requires
-place-requires c κs = let h = headed (D (begin₂ (c .before .before))) (formed (c .before .before .before .before .before .before)) in (h .few, h .rows)
+place-requires c κs = rows-of (D (begin₂ (c .before .before))) (formed (c .before .before .before .before .before .before))
 
 occupied-requires : tie.Need-occupied-requires
 occupied-requires c κs = let h = headed (D (begin₂ (c .before .before .before .before))) (formed (c .before .before .before .before .before .before .before .before)) in (h .few, h .rows)

@@ -1,58 +1,55 @@
--- `judge::text_ok` meets its contract. Assumes nothing.
+-- `judge::text_ok` meets its contract: each branch is a case of `textWord`. Assumes nothing.
+use mathlib.Core.Path.{_≡_, refl, _∙_}
+use mathlib.Core.Bool.{Bool, true, false, cond, not, _&&_}
+use mathlib.Core.List.{List}
+use Prim.Native.Nat.{ℕ, _%_}
 use native.Mathlib.Omega.{arith}
 use borrow.Author.Needs.{needs}
-use mathlib.Core.Path.{sym, ap, _∙_}
+use borrow.Author.Tests.{ne-eqb}
 use denote.Ref.{now}
-use Prim.Native.Nat.{_+_, _-_}
-use lib.ListN.{drop}
-use Rattle.value.specs.Codec.{takes}
-use Rattle.entry.proofs.JudgeLaws.{text-word}
+use lib.Dec.{eqb}
+use lib.ListN.{length, take, drop, length-drop}
+use lib.Seq.{length-take-le}
+use Rattle.text.specs.declared.Text.{Text}
+use Rattle.text.specs.declared.Text.the-variants.{Good, Bad}
+use Rattle.text.specs.Machine.{judge}
+use Rattle.value.specs.declared.Fault.the-variants.{Odd}
+use Rattle.value.specs.declared.Word.the-variants.{Takes, Fails}
+use Rattle.value.specs.Codec.{takes, textIs, textWord}
+use Rattle.entry.specs.Rules.{isGood}
 use Rattle.judge.proofs.text_ok.Statement.{statement}
 use Rattle.judge.proofs.text_ok.Tie as tie
 
-add-end : tie.Need-add-end
-add-end c = search needs
+-- a VisibleString, and the other three types
+visible : (t : ℕ) (s : List ℕ) → t ≡ 11 → isGood (judge s) ≡ takes (textWord t s)
+unfolding textWord
+visible t s e = rw e (go (judge s))
+  where
+    go : (j : Text) → isGood j ≡ takes (textIs (length s) j)
+    go Good = refl
+    go (Bad k) = refl
 
-sub-decode-word : tie.Need-sub-decode-word
-sub-decode-word c = search needs
+other : (t n : ℕ) (s : List ℕ) → (t ≡ 11 → ⊥) → length s ≡ n → not (eqb t 13 && eqb (n % 2) 1) ≡ takes (textWord t s)
+unfolding textWord
+other t n s h e = rw (ne-eqb t 11 h, e) (go (eqb t 13 && eqb (n % 2) 1))
+  where
+    go : (b : Bool) → not b ≡ takes (cond b (Fails Odd) (Takes n))
+    go true = refl
+    go false = refl
 
-part-decode-word-start : tie.Need-part-decode-word-start
-part-decode-word-start c = search needs
-
-part-decode-word-end : tie.Need-part-decode-word-end
-part-decode-word-end c = search needs
-
-decode-word-requires : tie.Need-decode-word-requires
-decode-word-requires c κs = search needs
-
-enum-told : tie.Need-enum-told
-enum-told c = search needs
-
-enum-told-2 : tie.Need-enum-told-2
-enum-told-2 c = search needs
+is-good-requires : tie.Need-is-good-requires
+is-good-requires c κs = search needs
 
 returns : tie.Need-returns
 returns c =
-    let w = c .before .before in
-    let a = w .before .before .before in
-    ap takes (sym (c .enum-told .given .1) ∙ w .decode-word .ensures) ∙ text-word (a .args .t) (a .args .start + a .args .len - a .args .start) (a .args .len) (drop (a .args .start) (now (a .args .s))) (a .pre .1) (omega arith)
+    let a = c .before .before .before .args in
+    c .is-good .ensures ∙ visible (a .t) (take (a .len) (drop (a .start) (now (a .s)))) (c .before .if1 .taken)
 
 returns-2 : tie.Need-returns-2
 returns-2 c =
-    let w = c .before .before in
-    let a = w .before .before .before in
-    ap takes (sym (c .enum-told2 .given .1) ∙ w .decode-word .ensures) ∙ text-word (a .args .t) (a .args .start + a .args .len - a .args .start) (a .args .len) (drop (a .args .start) (now (a .args .s))) (a .pre .1) (omega arith)
+    let a = c .before .before .args in
+    other (a .t) (a .len) (take (a .len) (drop (a .start) (now (a .s)))) (c .if1 .left)
+    (length-take-le (a .len) (drop (a .start) (now (a .s))) (rw length-drop (omega arith)))
 
 pub text-ok-spec : {M : Type 1} → statement M
-text-ok-spec =
-    tie.close
-    (tie.spec
-    add-end
-    sub-decode-word
-    part-decode-word-start
-    part-decode-word-end
-    decode-word-requires
-    enum-told
-    enum-told-2
-    returns
-    returns-2)
+text-ok-spec = tie.close (tie.spec is-good-requires returns returns-2)

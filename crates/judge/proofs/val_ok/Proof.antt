@@ -26,8 +26,7 @@ returns-3 c =
 text-ok-requires : tie.Need-text-ok-requires
 text-ok-requires c κs =
     let t = c .before .before in
-    let e = sym (t .is-text .ensures) ∙ c .before .if3 .taken in
-    (t .before .before .before .before .pre (c .if4 .left) e, e)
+    t .before .before .before .before .pre (c .if4 .left) (sym (t .is-text .ensures) ∙ c .before .if3 .taken)
 
 returns-4 : tie.Need-returns-4
 unfolding valOk wordOk

@@ -121,7 +121,7 @@ walk-slots-requires c κs =
     let f = fits e in
     let p = begin (e .before .before .before .before .before) .pre in
     let u = used-is c in
-    (omega (arith, u, f .values, p .values), omega (arith, u, f .values, p .slots), omega (arith, u, f .values, p .words), omega (arith, p .rows), omega (arith, c .before .name-len-at .ensures, f .bytes), p .bytes)
+    ((omega (arith, u, f .values, p .values), omega (arith, u, f .values, p .slots), omega (arith, u, f .values, p .words), omega (arith, p .rows), omega (arith, c .before .name-len-at .ensures, f .bytes), p .bytes), omega (arith, c .before .before .default-at .ensures, head (e .before .before) .flag-small))
 
 enum-known-e : tie.Need-enum-known-e Inv-loop μ-loop
 enum-known-e c = search needs

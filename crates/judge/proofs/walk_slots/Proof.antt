@@ -1,40 +1,61 @@
--- `judge::walk_slots` meets its contract. The loop's invariant: the walk over all slots gives what the walk from here gives. Assumes nothing.
-use mathlib.Core.Path.{_≡_, sym, _∙_}
-use mathlib.Core.Bool.{true}
+-- `judge::walk_slots` meets its contract. The loop's invariant: the walk over all slots as elements' gives what the walk from here gives.
+-- Assumes nothing.
+use native.Mathlib.Omega.{arith}
+use borrow.Author.Needs.{needs}
+use mathlib.Core.Path.{_≡_, refl, sym, _∙_}
+use mathlib.Core.Bool.{true, cond}
 use Prim.Native.Nat.{_≤_, _-_, _+_}
 use native.Mathlib.Nat.{add-zero}
 use borrow.Author.Tests.{not-true, not-false}
-use Rattle.entry.specs.Table.{Dict, dict, usedOf}
-use Rattle.entry.specs.Judge.{slotOk, slotsFrom}
-use Rattle.entry.proofs.JudgeLaws.{SlotOk, slot-ok}
-use Rattle.entry.proofs.WalkLaws.{slots-step, slots-end}
-use native.Mathlib.Omega.{arith}
-use borrow.Author.Needs.{needs}
+use Rattle.entry.specs.Table.{Dict, dict, usedOf, roomAt}
+use Rattle.entry.specs.Judge.{slotsFrom}
+use Rattle.entry.specs.declared.Sum.the-variants.{Upto, Bad}
+use Rattle.judge.proofs.SlotLaws.{plainOk, tightAt, plainFrom, plain-step, plain-end, plain-within, from-elements, from-default, from-bad}
 use Rattle.judge.proofs.walk_slots.Statement.{statement}
 use Rattle.judge.proofs.walk_slots.Tie as tie
 
 abbrev Inv-loop : tie.InvT-loop
-Inv-loop objects slots words bytes elements from k start n₀ j₀ b₀ n j b = (j ≤ k) × (b ≤ usedOf objects) × (slotsFrom (dict objects slots words bytes) elements k «from» start ≡ slotsFrom (dict objects slots words bytes) n (k - j) («from» + j) b)
+Inv-loop objects slots words bytes elements from k start used j₀ b₀ j b = (j ≤ k) × (b ≤ usedOf objects) × (plainFrom (dict objects slots words bytes) k «from» start ≡ plainFrom (dict objects slots words bytes) (k - j) («from» + j) b)
 
 abbrev μ-loop : tie.MeasureT-loop
-μ-loop objects slots words bytes elements from k start n₀ j₀ b₀ n j b = k - j
+μ-loop objects slots words bytes elements from k start used j₀ b₀ j b = k - j
 
--- the function's entry, the dictionary, and what the slot before a turn's end says
+-- the function's entry, the dictionary, and what a turn's slot says
 abbrev begin : tie.At-loop Inv-loop μ-loop → tie.Start Inv-loop μ-loop
-begin k = k .before .before .before .before .before
+begin k = k .before .before .before .before .before .before
 
 abbrev D : tie.At-loop Inv-loop μ-loop → Dict
 D k = dict (begin k .args .objects .now) (begin k .args .slots .now) (begin k .args .words .now) (begin k .args .bytes .now)
 
-right : (c : tie.Else1 Inv-loop μ-loop) → let k = c .before .before .before in slotOk (D k) (k .loop .n) (begin k .args .«from» + k .loop .j) (k .loop .b) ≡ true
-right c = sym (c .before .slot-ok .ensures) ∙ not-false _ (c .if1 .left)
+told : (c : tie.After-slot-ok Inv-loop μ-loop) → let k = c .before .before in c .slot-ok .result ≡ plainOk (D k) (begin k .args .«from» + k .loop .j) (k .loop .b)
+told c = rw (c .before .before .before .used-of .ensures) at (c .slot-ok .ensures)
 
-slot : (c : tie.Else1 Inv-loop μ-loop) → let k = c .before .before .before in SlotOk (D k) (k .loop .n) (begin k .args .«from» + k .loop .j) (k .loop .b)
-slot c = slot-ok _ _ _ _ (c .before .before .before .loop .inv .1) (right c)
+right : (c : tie.Else1 Inv-loop μ-loop) → let k = c .before .before .before in plainOk (D k) (begin k .args .«from» + k .loop .j) (k .loop .b) ≡ true
+right c = sym (told (c .before)) ∙ not-false _ (c .if1 .left)
+
+within : (c : tie.Else1 Inv-loop μ-loop) → let k = c .before .before .before in k .loop .b + roomAt (begin k .args .slots .now) (begin k .args .«from» + k .loop .j) ≤ usedOf (begin k .args .objects .now)
+within c = let k = c .before .before .before in plain-within (D k) (begin k .args .«from» + k .loop .j) (k .loop .b) (k .loop .inv .1) (right c)
+
+-- the default's slot
+last : (c : tie.After-tight Inv-loop μ-loop) → let t = c .before .before .before .before in let k = t .before .before in let a = begin k .args in
+    (c .tight .result ≡ tightAt (D k) (a .«from» + a .k - 1))
+    × (slotsFrom (D k) (a .elements) (a .k) (a .«from») (a .start) ≡ cond (tightAt (D k) (a .«from» + a .k - 1)) (plainFrom (D k) (a .k) (a .«from») (a .start)) Bad)
+last c =
+    let t = c .before .before .before .before in
+    let k = t .before .before in
+    let a = begin k in
+    (rw (c .before .before .before .type-at .ensures, c .before .room-at2 .ensures) at (c .tight .ensures), from-default (D k) (a .args .elements) (a .args .k) (a .args .«from») (a .args .start) (a .args .«from» + a .args .k - 1) (t .if2 .taken) (a .pre .1) refl)
+
+-- all slots were walked
+done : (c : tie.After-loop Inv-loop μ-loop) → let k = c .before in let a = begin k .args in plainFrom (D k) (a .k) (a .«from») (a .start) ≡ Upto (k .loop .b)
+done c = c .before .loop .inv .2 ∙ plain-end _ _ _ _ (omega arith)
+
+used-of-requires : tie.Need-used-of-requires Inv-loop μ-loop
+used-of-requires c κs = search needs
 
 loop-holds : tie.Need-loop-holds Inv-loop μ-loop
 loop-holds c =
-    let a = c .before .before .before .before in
+    let a = c .before .before .before .before .before in
     let e : a .args .k - 0 ≡ a .args .k = omega arith in
     (omega arith, omega (arith, a .pre), rw (e, add-zero))
 
@@ -47,8 +68,9 @@ slot-ok-requires c κs = search needs
 returns : tie.Need-returns Inv-loop μ-loop
 returns c =
     let k = c .before .before .before in
-    let a = begin k .args in
-    sym (k .loop .inv .2 ∙ slots-step (D k) (k .loop .n) (a .k) (a .«from») (k .loop .j) (k .loop .b) (c .before .before .loop-test .taken) ∙ simp (sym (c .before .slot-ok .ensures) ∙ not-true _ (c .if1 .taken)))
+    let a = begin k in
+    sym (from-bad (D k) (a .args .elements) (a .args .k) (a .args .«from») (a .args .start) (a .pre .1)
+    (k .loop .inv .2 ∙ plain-step (D k) (a .args .k) (a .args .«from») (k .loop .j) (k .loop .b) (c .before .before .loop-test .taken) ∙ simp (sym (told (c .before)) ∙ not-true _ (c .if1 .taken))))
 
 add-room-at : tie.Need-add-room-at Inv-loop μ-loop
 add-room-at c = search needs
@@ -57,10 +79,7 @@ room-at-requires : tie.Need-room-at-requires Inv-loop μ-loop
 room-at-requires c κs = search needs
 
 add-b : tie.Need-add-b Inv-loop μ-loop
-add-b c = omega (arith, c .room-at .ensures, slot (c .before) .within)
-
-less-requires : tie.Need-less-requires Inv-loop μ-loop
-less-requires c κs = search needs
+add-b c = omega (arith, c .room-at .ensures, within (c .before))
 
 add-j : tie.Need-add-j Inv-loop μ-loop
 add-j c = search needs
@@ -70,18 +89,47 @@ loop-less c = search needs
 
 loop-again : tie.Need-loop-again Inv-loop μ-loop
 loop-again c =
-    let e = c .before .before in
+    let e = c .before in
     let k = e .before .before .before in
     let a = begin k .args in
-    let r = c .before .room-at .ensures in (
+    let r = c .room-at .ensures in (
       omega arith,
-      omega (arith, r, slot e .within),
-      rw (r, c .less .ensures)
-          (k .loop .inv .2 ∙ slots-step (D k) (k .loop .n) (a .k) (a .«from») (k .loop .j) (k .loop .b) (e .before .before .loop-test .taken) ∙ simp (right e)),
+      omega (arith, r, within e),
+      rw r
+          (k .loop .inv .2 ∙ plain-step (D k) (a .k) (a .«from») (k .loop .j) (k .loop .b) (e .before .before .loop-test .taken) ∙ simp (right e)),
     )
 
+add-q : tie.Need-add-q Inv-loop μ-loop
+add-q c = search needs
+
+sub-q : tie.Need-sub-q Inv-loop μ-loop
+sub-q c = search needs
+
+type-at-requires : tie.Need-type-at-requires Inv-loop μ-loop
+type-at-requires c κs = search needs
+
+mul-tight : tie.Need-mul-tight Inv-loop μ-loop
+mul-tight c = search needs
+
+shared-slice-read-tight : tie.Need-shared-slice-read-tight Inv-loop μ-loop
+shared-slice-read-tight c = search needs
+
+room-at-requires-2 : tie.Need-room-at-requires-2 Inv-loop μ-loop
+room-at-requires-2 c κs = search needs
+
+tight-requires : tie.Need-tight-requires Inv-loop μ-loop
+tight-requires c κs = search needs
+
 returns-2 : tie.Need-returns-2 Inv-loop μ-loop
-returns-2 c = sym (c .before .loop .inv .2 ∙ slots-end _ _ _ _ _ (omega arith))
+returns-2 c = sym (last (c .before) .1 ∙ simp (sym (last (c .before) .0) ∙ not-true _ (c .if3 .taken)))
+
+returns-3 : tie.Need-returns-3 Inv-loop μ-loop
+returns-3 c = sym (last (c .before) .1 ∙ simp (sym (last (c .before) .0) ∙ not-false _ (c .if3 .left), done (c .before .before .before .before .before .before)))
+
+returns-4 : tie.Need-returns-4 Inv-loop μ-loop
+returns-4 c =
+    let a = begin (c .before .before) in
+    sym (from-elements (D (c .before .before)) (a .args .elements) (a .args .k) (a .args .«from») (a .args .start) (c .if2 .left) ∙ done (c .before))
 
 pub walk-slots-spec : {M : Type 1} → statement M
 walk-slots-spec =
@@ -89,6 +137,7 @@ walk-slots-spec =
     (tie.spec
     Inv-loop
     μ-loop
+    used-of-requires
     loop-holds
     add-slot-ok
     slot-ok-requires
@@ -96,8 +145,16 @@ walk-slots-spec =
     add-room-at
     room-at-requires
     add-b
-    less-requires
     add-j
     loop-less
     loop-again
-    returns-2)
+    add-q
+    sub-q
+    type-at-requires
+    mul-tight
+    shared-slice-read-tight
+    room-at-requires-2
+    tight-requires
+    returns-2
+    returns-3
+    returns-4)

@@ -1,89 +1,49 @@
--- `lists::number` meets its contract. The loop's invariant: the sum is the number of the bytes from i on, and fits in them. Assumes nothing.
-use mathlib.Core.Path.{_≡_, ap, _∙_}
-use native.Mathlib.Omega.{arith}
+-- `lists::number` meets its contract: each arm is its width's. Assumes nothing.
 use borrow.Author.Needs.{needs}
-use Prim.Native.Nat.{_≤_, _<_, _-_, _*_, _+_, _^_}
-use denote.Ref.{now}
-use lib.ListN.{take, drop}
-use Rattle.lists.specs.Numbers.{number}
-use Rattle.lists.proofs.NumberLaws.{read-none, read-more, read-fits, read-fits64}
 use Rattle.lists.proofs.number.Statement.{statement}
 use Rattle.lists.proofs.number.Tie as tie
 
-abbrev Inv-loop : tie.InvT-loop
-Inv-loop s at n sum₀ i₀ sum i = (i ≤ n) × (sum ≡ number (drop i (take n (drop at s)))) × (sum < 2 ^ (8 * (n - i)))
+one-requires : tie.Need-one-requires
+one-requires c κs = search needs
 
-abbrev μ-loop : tie.MeasureT-loop
-μ-loop s at n sum₀ i₀ sum i = i
+two-requires : tie.Need-two-requires
+two-requires c κs = search needs
 
-loop-holds : tie.Need-loop-holds Inv-loop μ-loop
-loop-holds c =
-    let a = c .before .args in
-    let e : a .n - a .n ≡ 0 = omega arith in
-    (omega arith, read-none _ (a .at) (a .n) (c .before .pre .1), rw e (omega arith))
+four-requires : tie.Need-four-requires
+four-requires c κs = search needs
 
-sub-i : tie.Need-sub-i Inv-loop μ-loop
-sub-i c = search needs
+eight-requires : tie.Need-eight-requires
+eight-requires c κs = search needs
 
-mul-sum : tie.Need-mul-sum Inv-loop μ-loop
-mul-sum c =
-    let l = c .before .loop in
-    omega (arith, read-fits64 (c .before .before .before .args .n) (l .i) (l .sum) 0 (omega arith) (omega arith) (omega arith) (l .inv .2) (omega arith))
+each-requires : tie.Need-each-requires
+each-requires c κs = search needs
 
-add-wide : tie.Need-add-wide Inv-loop μ-loop
-add-wide c = search needs
+returns : tie.Need-returns
+returns c = rw (c .before .match .keys1) (c .one .ensures .0)
 
-shared-slice-read-wide : tie.Need-shared-slice-read-wide Inv-loop μ-loop
-shared-slice-read-wide c = search needs
+returns-2 : tie.Need-returns-2
+returns-2 c = rw (c .before .match .keys2) (c .two .ensures .0)
 
-wide-requires : tie.Need-wide-requires Inv-loop μ-loop
-wide-requires c κs = search needs
+returns-3 : tie.Need-returns-3
+returns-3 c = rw (c .before .match .keys3) (c .four .ensures .0)
 
--- the byte that was read
-byte : (c : tie.After-wide Inv-loop μ-loop) → c .wide .result < 256
-byte c =
-    let k = c .before .before .before in
-    omega (arith, c .wide .ensures, c .before .shared-slice-known2 .given (k .before .before .args .at + (k .loop .i - 1)))
+returns-4 : tie.Need-returns-4
+returns-4 c = rw (c .before .match .keys4) (c .eight .ensures)
 
-add-sum : tie.Need-add-sum Inv-loop μ-loop
-add-sum c =
-    let k = c .before .before .before in
-    let l = k .loop in
-    omega (arith, read-fits64 (k .before .before .args .n) (l .i) (l .sum) (c .wide .result) (omega arith) (omega arith) (omega arith) (l .inv .2) (byte c))
-
-loop-less : tie.Need-loop-less Inv-loop μ-loop
-loop-less c = search needs
-
-loop-again : tie.Need-loop-again Inv-loop μ-loop
-loop-again c =
-    let k = c .before .before .before in
-    let l = k .loop in
-    let a = k .before .before .args in (
-      omega arith,
-      read-more (now (a .s)) (a .at) (a .n) (omega arith) (l .i) _ _ (omega arith) (l .inv .0) (l .inv .1) (c .wide .ensures),
-      read-fits (a .n) (l .i) _ _ (omega arith) (l .inv .0) (l .inv .2) (byte c),
-    )
-
-returns : tie.Need-returns Inv-loop μ-loop
-returns c =
-    let l = c .before .loop in
-    let a = c .before .before .before .args in
-    let z : l .i ≡ 0 = omega arith in
-    l .inv .1 ∙ ap (λ i. number (drop i (take (a .n) (drop (a .at) (now (a .s)))))) z
+returns-5 : tie.Need-returns-5
+returns-5 c = search needs
 
 pub number-spec : {M : Type 1} → statement M
 number-spec =
     tie.close
     (tie.spec
-    Inv-loop
-    μ-loop
-    loop-holds
-    sub-i
-    mul-sum
-    add-wide
-    shared-slice-read-wide
-    wide-requires
-    add-sum
-    loop-less
-    loop-again
-    returns)
+    one-requires
+    two-requires
+    four-requires
+    eight-requires
+    each-requires
+    returns
+    returns-2
+    returns-3
+    returns-4
+    returns-5)
