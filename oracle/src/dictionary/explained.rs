@@ -3,12 +3,11 @@
 //! only the faults' numbers are those of checked.rs.
 
 use super::checked::{COUNT_TARGET, HAND_OFF, MISALIGNED, NO_TARGET, NOT_MAPPING, WRONG_LENGTH};
-use super::model::{Object, VARIABLE, Value, is_string};
+use super::model::{Object, VARIABLE, Value, element, is_string};
 use super::running::{Word, row};
 use super::step::{Call, Outcome};
 use super::tally::{Tally, answer_name};
 use super::world::{Dictionary, Done, Refused};
-use super::writing::element;
 use crate::original::{BUFFER_TOO_SHORT, UNICODE_STRING, size};
 
 /// The numbers of an explanation.

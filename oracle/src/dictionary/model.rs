@@ -17,6 +17,9 @@ pub const ARRAY: u64 = 1;
 pub const LAST_SHAPE: u64 = 2;
 pub const NO_ACCESS: u64 = 7;
 
+/// Where a save is asked for.
+pub const STORE_PARAMETERS: u16 = 0x1010;
+
 /// A fixed type's word is its number, a string's its length; the room's first
 /// bytes are then the string.
 #[derive(Clone, PartialEq, Eq, Debug)]
@@ -173,6 +176,19 @@ pub fn place_of(objects: &[Object], index: u16, element: usize) -> (usize, usize
     let rooms = objects[row].values[..element].iter().map(|value| value.room.len());
     let start = before.bytes + objects[row].name.len() + rooms.sum::<usize>();
     (before.values + element, start)
+}
+
+pub fn is_mapping(index: u16) -> bool {
+    matches!(index, 0x1600..=0x16FF | 0x1A00..=0x1AFF)
+}
+
+/// The value that a sub-index names, counted from 0; none for a list's count and beyond the end.
+pub fn element(object: &Object, sub_index: u8) -> Option<usize> {
+    let place = match object.shape {
+        VARIABLE => usize::from(sub_index),
+        _ => usize::from(sub_index).checked_sub(1)?,
+    };
+    (place < object.values.len()).then_some(place)
 }
 
 /// R3.4: whether bytes are the encoding of a value of a type.

@@ -6,9 +6,8 @@ use super::asking::{Asked, stands};
 use super::link::Given;
 use super::malformed;
 use super::memory::Memory;
-use super::model::{self, Object, Value, is_encoding, is_string};
+use super::model::{self, Object, Value, element, is_encoding, is_string};
 use super::running::row;
-use super::writing::element;
 
 /// What a payload shows: a word of demand 3 that is not kept, and the places of the elements that
 /// it is seen to write whole.

@@ -3,7 +3,9 @@
 
 use super::image::{self, Record};
 use super::memory::Memory;
-use super::model::{self, LAST_KIND, Object, VARIABLE, is_encoding, is_string};
+use super::model::{
+    self, LAST_KIND, STORE_PARAMETERS, element, is_encoding, is_mapping, is_string,
+};
 use super::rust::{OBJECT_NOT_FOUND, TYPE_MISMATCH, Written};
 use super::step::Write;
 use super::world::{Dictionary, Done, Refused};
@@ -14,21 +16,6 @@ const NO_STORAGE: u64 = 8;
 const TOO_LONG: u64 = 13;
 const STORE_FULL: u64 = 18;
 const RESTORE_REQUESTED: u64 = 19;
-
-pub const STORE_PARAMETERS: u16 = 0x1010;
-
-pub fn is_mapping(index: u16) -> bool {
-    matches!(index, 0x1600..=0x16FF | 0x1A00..=0x1AFF)
-}
-
-/// The value that a sub-index names, counted from 0; none for a list's count and beyond the end.
-pub fn element(object: &Object, sub_index: u8) -> Option<usize> {
-    let place = match object.shape {
-        VARIABLE => usize::from(sub_index),
-        _ => usize::from(sub_index).checked_sub(1)?,
-    };
-    (place < object.values.len()).then_some(place)
-}
 
 /// Which part of R3.4 makes it BadValue.
 fn bad_value(kind: u64, data: &[u8]) -> Option<&'static str> {
