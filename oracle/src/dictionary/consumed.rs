@@ -10,7 +10,7 @@ use super::objects;
 use super::payloads::{self, Arrival};
 use super::restores;
 use super::step::{Call, Cycle, History, Step};
-use super::tally::Tally;
+use super::tally::{Goal, Tally};
 use super::trial::Trial;
 use super::writes;
 use super::written::rising;
@@ -63,27 +63,19 @@ fn lacking(tally: &Tally) -> Vec<String> {
     if payloads < LEAST_PAYLOADS {
         lacking.push(format!("{payloads} payloads are too few"));
     }
-    if !tally.reached(CYCLE, 2, Some("too many payloads")) {
-        lacking.push("a cycle of over 1,024 payloads".to_string());
-    }
+    lacking.extend(tally.missed(&[(CYCLE, 2, Some("too many payloads"))]));
     lacking
 }
 
 /// What of consuming was not reached; the stored histories are held against it too.
 pub fn not_reached(tally: &Tally) -> Vec<String> {
-    let notes = [CONSUME, CYCLE].into_iter().flat_map(|call| {
-        let missed = NOTES.iter().filter(move |note| tally.noted(call, note) == 0);
-        missed.map(move |note| format!("{call}, {note}"))
-    });
-    let answers =
-        ANSWERS.iter().filter(|(call, answer, cause)| !tally.reached(call, *answer, *cause));
-    let answers = answers.map(|(call, answer, cause)| format!("{call} gives {answer}, {cause:?}"));
-    notes.chain(answers).collect()
+    let notes = [CONSUME, CYCLE].map(|call| tally.not_noted(call, &NOTES)).concat();
+    [notes, tally.missed(&ANSWERS)].concat()
 }
 
 const BIT: &str = "update_pdo_error_object";
 
-const ANSWERS: [(&str, u64, Option<&str>); 16] = [
+const ANSWERS: [Goal; 16] = [
     (CONSUME, 1, None),
     (CONSUME, 14, None),
     (CONSUME, 15, None),

@@ -9,6 +9,7 @@ use super::restored::{saved, varied};
 use super::restores::{self, range};
 use super::stored::{any_call, bare, until};
 use super::stores::{any_store, any_write, insert_all};
+use super::tally::Goal;
 use super::writes;
 use crate::original::KINDS;
 use crate::random::Random;
@@ -34,29 +35,26 @@ pub fn all(lines: &mut Lines, random: &mut Random) {
     for _ in 0..6 {
         mixture(lines, random);
     }
-    for (answer, cause) in ANSWERS {
-        assert!(lines.tally.reached(CALL, answer, cause), "a restore gives {answer}, {cause:?}");
-    }
-    for note in RULES.iter().chain(&NOTES) {
-        assert!(lines.tally.noted(CALL, note) > 0, "a restore finds {note}");
-    }
+    let notes = [&RULES[..], &NOTES].map(|notes| lines.tally.not_noted(CALL, notes)).concat();
+    let missed = [lines.tally.missed(&ANSWERS), notes].concat();
+    assert!(missed.is_empty(), "the lines lack {missed:?}");
 }
 
 const CALL: &str = "restore_power_on_values";
 
 /// What the lines must reach.
-const ANSWERS: [(u64, Option<&str>); 11] = [
-    (0, Some("first above last")),
-    (0, Some("nothing put")),
-    (0, Some("stored")),
-    (0, Some("stored, types changed")),
-    (0, Some("stored and defaults")),
-    (0, Some("stored and defaults, types changed")),
-    (0, Some("defaults")),
-    (0, Some("defaults, types changed")),
-    (1, None),
-    (13, Some("stored")),
-    (13, Some("default")),
+const ANSWERS: [Goal; 11] = [
+    (CALL, 0, Some("first above last")),
+    (CALL, 0, Some("nothing put")),
+    (CALL, 0, Some("stored")),
+    (CALL, 0, Some("stored, types changed")),
+    (CALL, 0, Some("stored and defaults")),
+    (CALL, 0, Some("stored and defaults, types changed")),
+    (CALL, 0, Some("defaults")),
+    (CALL, 0, Some("defaults, types changed")),
+    (CALL, 1, None),
+    (CALL, 13, Some("stored")),
+    (CALL, 13, Some("default")),
 ];
 
 const NOTES: [&str; 8] = [

@@ -9,6 +9,7 @@ use super::objects::{self, Sizes};
 use super::recovery;
 use super::step::Call;
 use super::stored::{any_call, bare, until};
+use super::tally::Goal;
 use super::writes::{self, write};
 use super::written::{image_length, mapped, mixed, rising};
 use crate::inputs::{damaged, text};
@@ -40,9 +41,8 @@ pub fn print() {
     damage(&mut lines, random);
     // With numbers of its own, so that it stays as it is where what stands before it changes.
     recovery::all(&mut lines, &mut Random::new(SEED + 1));
-    for (call, answer, cause) in WRITES {
-        assert!(lines.tally.reached(call, answer, cause), "{call} gives {answer}, {cause:?}");
-    }
+    let missed = lines.tally.missed(&WRITES);
+    assert!(missed.is_empty(), "the lines lack {missed:?}");
     print!("{}", lines.finish());
 }
 
@@ -50,7 +50,7 @@ const W: &str = "write";
 const V: &str = "validate_pdo_mapping";
 
 /// What the lines must reach.
-const WRITES: [(&str, u64, Option<&str>); 33] = [
+const WRITES: [Goal; 33] = [
     (W, 0, Some("a number put")),
     (W, 0, Some("a string put")),
     (W, 0, Some("count accepted")),
