@@ -191,11 +191,13 @@ pub fn element(object: &Object, sub_index: u8) -> Option<usize> {
     (place < object.values.len()).then_some(place)
 }
 
-/// R3.4: whether bytes are the encoding of a value of a type.
-pub fn is_encoding(kind: u64, bytes: &[u8]) -> bool {
-    match kind {
-        VISIBLE_STRING => is_text(bytes),
-        UNICODE_STRING => bytes.len().is_multiple_of(2),
-        _ => kind <= LAST_KIND && size(kind).is_none_or(|size| bytes.len() == size),
-    }
+/// The part of R3.4 that bytes break as the encoding of a value of a type.
+pub fn no_encoding(kind: u64, bytes: &[u8]) -> Option<&'static str> {
+    let (holds, rule) = match kind {
+        VISIBLE_STRING => (is_text(bytes), "not UTF-8"),
+        UNICODE_STRING => (bytes.len().is_multiple_of(2), "odd"),
+        _ if kind > LAST_KIND => (false, "type"),
+        _ => (size(kind).is_none_or(|size| bytes.len() == size), "byte count"),
+    };
+    (!holds).then_some(rule)
 }

@@ -1,5 +1,6 @@
 //! The restores among the stored histories with a store.
 
+use super::goals::IMAGES;
 use super::image;
 use super::lines::{Lines, STORE_BYTES};
 use super::memory::STORE;
@@ -9,7 +10,6 @@ use super::restored::{saved, varied};
 use super::restores::{self, range};
 use super::stored::{any_call, bare, until};
 use super::stores::{any_store, any_write, insert_all};
-use super::tally::Goal;
 use super::writes;
 use crate::original::KINDS;
 use crate::random::Random;
@@ -35,51 +35,7 @@ pub fn all(lines: &mut Lines, random: &mut Random) {
     for _ in 0..6 {
         mixture(lines, random);
     }
-    let notes = [&RULES[..], &NOTES].map(|notes| lines.tally.not_noted(CALL, notes)).concat();
-    let missed = [lines.tally.missed(&ANSWERS), notes].concat();
-    assert!(missed.is_empty(), "the lines lack {missed:?}");
 }
-
-const CALL: &str = "restore_power_on_values";
-
-/// What the lines must reach.
-const ANSWERS: [Goal; 11] = [
-    (CALL, 0, Some("first above last")),
-    (CALL, 0, Some("nothing put")),
-    (CALL, 0, Some("stored")),
-    (CALL, 0, Some("stored, types changed")),
-    (CALL, 0, Some("stored and defaults")),
-    (CALL, 0, Some("stored and defaults, types changed")),
-    (CALL, 0, Some("defaults")),
-    (CALL, 0, Some("defaults, types changed")),
-    (CALL, 1, None),
-    (CALL, 13, Some("stored")),
-    (CALL, 13, Some("default")),
-];
-
-const NOTES: [&str; 8] = [
-    "no store",
-    "an empty table",
-    "a table",
-    "a default of another type left",
-    "a number over a string",
-    "a string shorter than its room",
-    "1003h left",
-    "a record without its place",
-];
-
-/// What of R10.7 one changed byte can break in a short store.
-const RULES: [&str; 9] = [
-    "over 2,048 records",
-    "records past the store",
-    "over 16,384 bytes",
-    "bodies past the store",
-    "places that do not rise",
-    "a start that is not the end before it",
-    "no such type",
-    "a value that does not decode",
-    "a value longer than its type",
-];
 
 fn in_room(random: &mut Random, kind: u64, room: usize) -> Value {
     let mut value = objects::value_of(random, kind, room);
@@ -202,7 +158,7 @@ fn damage(lines: &mut Lines, random: &mut Random) {
         lines.lend(store);
         lines.call(restores::everything());
     }
-    for rule in RULES.iter().cycle().take(2 * RULES.len()) {
+    for rule in IMAGES.iter().cycle().take(2 * IMAGES.len()) {
         let (at, new) = until(|| changed(lines, random, image.len(), Some(rule)));
         restore_damaged(lines, at, new);
     }

@@ -224,11 +224,17 @@ impl Dictionary {
         if let Some(cause) = Insertion::full(&object, &self.objects, memory) {
             return Err((FULL, Some(cause)));
         }
+        let place = match row {
+            _ if self.objects.is_empty() => "the first object",
+            0 => "before all others",
+            row if row == self.objects.len() => "behind all others",
+            _ => "between others",
+        };
         self.rust.insert(&object);
         self.objects.insert(row, object);
         model::lay(&self.objects, memory);
         self.check(memory);
-        Ok(Done::default())
+        Ok(Done::because(place))
     }
 
     /// The two readings of the rules that this program has must agree.
