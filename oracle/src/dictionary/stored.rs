@@ -46,12 +46,12 @@ pub fn print() {
     print!("{}", lines.finish());
 }
 
-/// Any call but `new` and `insert`, at places of the objects and others.
+/// A read, a name to find, the configured nodes or a counter, at places of the objects and others.
 pub fn any_call(lines: &mut Lines, random: &mut Random, objects: &[Object]) {
     lines.call(until(|| Some(calls::any(random, objects)).filter(sayable)));
 }
 
-/// Each call but `new`.
+/// Each of these, and an insertion.
 pub fn each_call(lines: &mut Lines, random: &mut Random, objects: &[Object]) {
     let made = until(|| {
         let calls = calls::each(random, objects);
