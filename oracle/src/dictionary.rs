@@ -4,6 +4,7 @@ mod admission;
 mod asking;
 mod backend;
 mod bench;
+mod between;
 mod bounds;
 mod breakage;
 mod calls;
