@@ -4,9 +4,11 @@ mod admission;
 mod asking;
 mod backend;
 mod bench;
+mod between;
 mod bounds;
 mod breakage;
 mod calls;
+mod causes;
 mod channels;
 mod checked;
 mod checks;
@@ -17,6 +19,7 @@ mod demand;
 mod explained;
 mod faults;
 mod fields;
+mod goals;
 mod histories;
 mod image;
 mod images;
@@ -75,6 +78,7 @@ pub fn compare(port: &mut Port, random: &mut Random) -> (u64, u64) {
     consumed::compare(&mut trial, random);
     bounds::compare(&mut trial, random);
     malice::compare(&mut trial, random);
+    trial.demand(goals::lacking);
     trial.finish("the dictionary's answers")
 }
 

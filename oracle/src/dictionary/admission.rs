@@ -1,9 +1,8 @@
 //! Which payloads a channel admits (RULES.md R12.4), on the plain objects.
 
-use super::model::{Object, VARIABLE, Value, is_text};
+use super::model::{Object, VARIABLE, Value, element, is_text};
 use super::running::{Word, channel_of, is_right, list_u8, row};
 use super::step::Received;
-use super::writing::element;
 use crate::original::VISIBLE_STRING;
 
 const UNSIGNED64: u64 = 8;

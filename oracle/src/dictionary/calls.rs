@@ -1,4 +1,5 @@
-//! Random calls on objects that are, or are not, in the dictionary.
+//! Random reads, names to find, lists of nodes and counters, on objects that are, or are not, in the
+//! dictionary.
 
 use super::model::{LONGEST_NAME, Object, VARIABLE};
 use super::objects::{CONFIGURED_NODES, UNSIGNED32};
@@ -94,7 +95,7 @@ fn room_for_nodes(random: &mut Random, objects: &[Object]) -> usize {
     }
 }
 
-/// Any call but `new` and `insert`.
+/// A read, a read of a number, a name to find, the configured nodes, or a counter.
 pub fn any(random: &mut Random, objects: &[Object]) -> Call {
     match random.below(10) {
         0..=2 => {
@@ -112,7 +113,7 @@ pub fn any(random: &mut Random, objects: &[Object]) -> Call {
     }
 }
 
-/// Each call but `new` and `insert` once, most at places that are there.
+/// Each of these once, most at places that are there.
 pub fn each(random: &mut Random, objects: &[Object]) -> Vec<Call> {
     let (index, sub_index) = place(random, objects);
     let mut calls = vec![Call::Read { index, sub_index, numbers: 3 }];

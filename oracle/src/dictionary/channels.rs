@@ -1,6 +1,7 @@
 //! Random dictionaries that consume: records of channels, their mapping lists, what the words of
 //! these point at, and the two error objects. Most are nearly right.
 
+use super::image::Record;
 use super::model::*;
 use super::objects;
 use super::written::rising;
@@ -124,6 +125,30 @@ fn record(random: &mut Random, channel: u16) -> Object {
         (shape, values) = (VARIABLE, vec![number(random.pick(&NODES))]);
     }
     bare(RECORDS + channel, shape, values)
+}
+
+/// Records of a stored image for half the places of channels' records and lists, of any type that
+/// fits there; and for some other places.
+pub fn retyping(random: &mut Random, objects: &[Object]) -> Vec<Record> {
+    let mut records = Vec::new();
+    for object in objects {
+        let index = object.index as u16;
+        let first = u8::from(object.shape != VARIABLE);
+        for sub_index in (first..).take(object.values.len()) {
+            let is_channels = matches!(index, 0x1400..=0x16FF);
+            if random.below(if is_channels { 2 } else { 8 }) > 0 {
+                continue;
+            }
+            let kind = random.pick(&[UNSIGNED8, UNSIGNED64, 6, 7, 4, 10, 18, 19, OCTET_STRING]);
+            let body = match kind {
+                UNSIGNED8 => vec![random.pick(&NODES)],
+                UNSIGNED64 => word(random, objects, &mut 0).to_le_bytes().to_vec(),
+                _ => objects::encoding(random, kind, 0),
+            };
+            records.push(Record { index, sub_index, kind: kind as u8, body });
+        }
+    }
+    records
 }
 
 /// Words for what is there, in order; also another value between them, or no list but a number or a

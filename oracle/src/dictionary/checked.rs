@@ -1,10 +1,9 @@
 //! What the channel check must give: RULES.md R12.2, R12.3 and R12.13 on the plain objects, written
 //! from the rules alone. The Rust has no such call; demand.rs asks payloads about its answers.
 
-use super::model::{Object, VARIABLE, Value};
+use super::model::{Object, VARIABLE, Value, element};
 use super::running::{Word, channel_of, list_u8, row};
 use super::world::{Dictionary, Done, Refused};
-use super::writing::element;
 use crate::original::{BUFFER_TOO_SHORT, UNICODE_STRING, size};
 
 /// Numbers of the faults (R12.12).

@@ -4,13 +4,16 @@ use super::calls;
 use super::channels;
 use super::checks;
 use super::consuming::{LEAST_ROOM, MOST_PAYLOADS};
+use super::image;
+use super::insertion::Insertion;
 use super::memory::Lent;
 use super::model::*;
 use super::objects;
 use super::payloads::{self, Arrival};
 use super::restores;
+use super::spoil::spoil;
 use super::step::{Call, Cycle, History, Step};
-use super::tally::Tally;
+use super::tally::{Goal, Tally};
 use super::trial::Trial;
 use super::writes;
 use super::written::rising;
@@ -39,6 +42,10 @@ pub fn compare(trial: &mut Trial, random: &mut Random) {
         let calls = (0..12).map(|_| any(random, &objects)).collect();
         trial.compare(history(random, objects, calls));
     }
+    for _ in 0..2_000 {
+        trial.compare(let_in(random));
+        trial.compare(retyped(random));
+    }
     for _ in 0..12 {
         trial.compare(many_payloads(random));
         trial.compare(many_events(random));
@@ -63,27 +70,20 @@ fn lacking(tally: &Tally) -> Vec<String> {
     if payloads < LEAST_PAYLOADS {
         lacking.push(format!("{payloads} payloads are too few"));
     }
-    if !tally.reached(CYCLE, 2, Some("too many payloads")) {
-        lacking.push("a cycle of over 1,024 payloads".to_string());
-    }
+    lacking.extend(tally.missed(&[(CYCLE, 2, Some("too many payloads"))]));
+    lacking.extend([CONSUME, CYCLE].map(|call| tally.not_noted(call, &BETWEEN)).concat());
     lacking
 }
 
 /// What of consuming was not reached; the stored histories are held against it too.
 pub fn not_reached(tally: &Tally) -> Vec<String> {
-    let notes = [CONSUME, CYCLE].into_iter().flat_map(|call| {
-        let missed = NOTES.iter().filter(move |note| tally.noted(call, note) == 0);
-        missed.map(move |note| format!("{call}, {note}"))
-    });
-    let answers =
-        ANSWERS.iter().filter(|(call, answer, cause)| !tally.reached(call, *answer, *cause));
-    let answers = answers.map(|(call, answer, cause)| format!("{call} gives {answer}, {cause:?}"));
-    notes.chain(answers).collect()
+    let notes = [CONSUME, CYCLE].map(|call| tally.not_noted(call, &NOTES)).concat();
+    [notes, tally.missed(&ANSWERS)].concat()
 }
 
 const BIT: &str = "update_pdo_error_object";
 
-const ANSWERS: [(&str, u64, Option<&str>); 16] = [
+const ANSWERS: [Goal; 16] = [
     (CONSUME, 1, None),
     (CONSUME, 14, None),
     (CONSUME, 15, None),
@@ -126,6 +126,10 @@ const NOTES: [&str; 19] = [
     "a bit set",
 ];
 
+/// What must happen between two of them.
+const BETWEEN: [&str; 3] =
+    ["after an insertion", "after a record of another type", "after a list of another type"];
+
 pub fn history(random: &mut Random, objects: Vec<Object>, calls: Vec<Call>) -> History {
     let more = random.pick(&[0, 0, 0, 30]);
     let lengths = Used::of(&objects).lengths().map(|length| length + more);
@@ -160,6 +164,56 @@ fn any_cycle(random: &mut Random, objects: &[Object]) -> Call {
         1 => payloads::cycle(random, objects, 2),
         _ => payloads::cycle(random, objects, 40),
     }
+}
+
+fn any_arrivals(random: &mut Random, objects: &[Object], most: usize) -> Vec<Step> {
+    let calls = (0..1 + random.below(most)).map(|_| match random.below(4) {
+        0 => any_cycle(random, objects),
+        _ => any(random, objects),
+    });
+    calls.map(Step::Call).collect()
+}
+
+/// Some of the objects are let in between the payloads for all of them, in any order: a channel, its
+/// list, a target or an error object comes to be. Others are refused, now and then the last one.
+fn let_in(random: &mut Random) -> History {
+    let objects = channels::dictionary(random, 5);
+    let (mut later, first): (Vec<Object>, Vec<Object>) =
+        objects.iter().cloned().partition(|_| random.below(3) == 0);
+    (1..later.len()).for_each(|place| later.swap(place, random.below(place + 1)));
+    let fitting = later.len().saturating_sub(usize::from(random.below(8) == 0));
+    let lengths = Used::of(&[&first, &later[..fitting]].concat()).lengths();
+    let mut steps = vec![Step::Lay(first)];
+    for object in &later {
+        steps.extend(any_arrivals(random, &objects, 3));
+        let given = Insertion::of(object);
+        if random.below(4) == 0 {
+            let mut spoiled = given.clone();
+            spoil(random, &mut spoiled);
+            steps.push(Step::Call(Call::Insert(spoiled)));
+        }
+        let times = if random.below(8) == 0 { 2 } else { 1 };
+        steps.extend(vec![Step::Call(Call::Insert(given)); times]);
+    }
+    steps.extend(any_arrivals(random, &objects, 6));
+    History { first: Lent { at_start: random.below(2) == 0, lengths, store: STORE }, steps }
+}
+
+/// Restores from an image of other types, between payloads for the objects as they were.
+fn retyped(random: &mut Random) -> History {
+    let objects = channels::dictionary(random, 4);
+    let image = image::of(&channels::retyping(random, &objects));
+    let lengths = Used::of(&objects).lengths();
+    let first = Lent { at_start: random.below(2) == 0, lengths, store: image.len() };
+    let mut steps = vec![Step::Lay(objects.clone()), Step::Store(image)];
+    let ranges = [(0x1400, 0x14FF), (0x1600, 0x16FF), (0x1400, 0x16FF), (0, 0xFFFF)];
+    for _ in 0..3 {
+        steps.extend(any_arrivals(random, &objects, 4));
+        let (first, last) = random.pick(&ranges);
+        steps.push(Step::Call(restores::range(first, last)));
+    }
+    steps.extend(any_arrivals(random, &objects, 6));
+    History { first, steps }
 }
 
 /// As many payloads as a cycle may have, and one more; some of them end for event room.

@@ -3,12 +3,11 @@
 //! only the faults' numbers are those of checked.rs.
 
 use super::checked::{COUNT_TARGET, HAND_OFF, MISALIGNED, NO_TARGET, NOT_MAPPING, WRONG_LENGTH};
-use super::model::{Object, VARIABLE, Value, is_string};
+use super::model::{Object, VARIABLE, Value, element, is_string};
 use super::running::{Word, row};
 use super::step::{Call, Outcome};
-use super::tally::{Tally, answer_name};
+use super::tally::{Goal, Tally, answer_name};
 use super::world::{Dictionary, Done, Refused};
-use super::writing::element;
 use crate::original::{BUFFER_TOO_SHORT, UNICODE_STRING, size};
 
 /// The numbers of an explanation.
@@ -152,33 +151,31 @@ impl Named {
 const EXPLAIN: &str = "explain";
 
 /// The refusals, and each way to come to them.
-const REFUSALS: [(u64, Option<&str>); 8] = [
-    (1, None),
-    (3, Some("no mapping")),
-    (3, Some("a Variable")),
-    (4, Some("element 0")),
-    (4, Some("behind the last")),
-    (4, Some("element 255")),
-    (12, Some("none")),
-    (12, Some("too few")),
+const REFUSALS: [Goal; 8] = [
+    (EXPLAIN, 1, None),
+    (EXPLAIN, 3, Some("no mapping")),
+    (EXPLAIN, 3, Some("a Variable")),
+    (EXPLAIN, 4, Some("element 0")),
+    (EXPLAIN, 4, Some("behind the last")),
+    (EXPLAIN, 4, Some("element 255")),
+    (EXPLAIN, 12, Some("none")),
+    (EXPLAIN, 12, Some("too few")),
 ];
 
 /// What of the explanation was not reached.
 pub fn lacking(tally: &Tally) -> Vec<String> {
-    let verdicts = VERDICTS.map(|verdict| (0, Some(verdict_name(verdict))));
-    let answers = REFUSALS.into_iter().chain(verdicts);
-    let answers = answers.filter(|(answer, cause)| !tally.reached(EXPLAIN, *answer, *cause));
-    let answers = answers.map(|(answer, cause)| format!("{EXPLAIN} gives {answer}, {cause:?}"));
-    let notes = THERE.into_iter().chain(["just enough lent", "more lent"]);
-    let notes = notes.filter(|note| tally.noted(EXPLAIN, note) == 0);
-    let notes = notes.map(|note| format!("{EXPLAIN}, {note}"));
-    answers.chain(notes).chain(lacking_named(tally)).collect()
+    let verdicts = VERDICTS.map(|verdict| (EXPLAIN, 0, Some(verdict_name(verdict))));
+    let lent = tally.not_noted(EXPLAIN, &["just enough lent", "more lent"]);
+    let there = tally.not_noted(EXPLAIN, &THERE);
+    [tally.missed(&REFUSALS), tally.missed(&verdicts), there, lent, lacking_named(tally)].concat()
 }
 
 /// The faults of which no named element was explained; the stored histories are held against it
 /// too.
 pub fn lacking_named(tally: &Tally) -> Vec<String> {
     let faults = VERDICTS[1..].iter().map(|fault| answer_name(*fault));
-    let faults = faults.filter(|fault| tally.noted(EXPLAIN, fault) == 0);
-    faults.map(|fault| format!("{EXPLAIN}, {fault} of a named element")).collect()
+    let missed = faults.filter(|fault| tally.noted(EXPLAIN, fault) == 0);
+    missed
+        .map(|fault| format!("no explained element was one that a check named for {fault}"))
+        .collect()
 }

@@ -16,7 +16,7 @@ use super::payloads;
 use super::restores;
 use super::step::{Call, History, Step};
 use super::stored::bare;
-use super::tally::Tally;
+use super::tally::{Goal, Tally};
 use super::traps::{RECORD, u8s, w};
 use super::trial::Trial;
 use super::writes;
@@ -224,21 +224,17 @@ fn damaged(random: &mut Random) -> History {
 
 /// What of the check was not reached; the stored histories are held against it too.
 pub fn lacking(tally: &Tally) -> Vec<String> {
-    let answers =
-        ANSWERS.iter().filter(|(call, answer, cause)| !tally.reached(call, *answer, *cause));
-    let answers = answers.map(|(call, answer, cause)| format!("{call} gives {answer}, {cause:?}"));
     // The call for all channels passes over those without a record.
     let causes = ANSWERS.iter().filter_map(|(_, _, cause)| *cause);
-    let causes = causes.filter(|cause| *cause != "no record");
-    let notes = causes.chain(["a pass"]).filter(|note| tally.noted(CHECK_ALL, note) == 0);
-    answers.chain(notes.map(|note| format!("{CHECK_ALL}, {note}"))).collect()
+    let notes: Vec<&str> = causes.filter(|cause| *cause != "no record").chain(["a pass"]).collect();
+    [tally.missed(&ANSWERS), tally.not_noted(CHECK_ALL, &notes)].concat()
 }
 
 const CHECK: &str = "check";
 const CHECK_ALL: &str = "check_all";
 
 /// Each answer, and each way to come to it.
-const ANSWERS: [(&str, u64, Option<&str>); 23] = [
+const ANSWERS: [Goal; 23] = [
     (CHECK, 0, None),
     (CHECK, 1, None),
     (CHECK, 31, Some("no record")),

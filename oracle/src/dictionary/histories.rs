@@ -8,6 +8,7 @@ use super::objects::{self, Pool, Sizes};
 use super::spoil::spoil;
 use super::step::{Call, History, Step};
 use super::trial::Trial;
+use crate::original::{KINDS, size};
 use crate::random::Random;
 
 /// Memory beyond this is not needed by any of these.
@@ -23,6 +24,9 @@ pub fn compare(trial: &mut Trial, random: &mut Random) {
     }
     for elements in [1, 2, 253, MOST_ELEMENTS] {
         trial.compare(all_nodes(elements));
+    }
+    for kind in 0..KINDS {
+        trial.compare(wrong_encodings(random, kind));
     }
 }
 
@@ -91,6 +95,28 @@ fn all_nodes(elements: usize) -> History {
     }
     let lengths = list.used().lengths();
     History { first: Lent { at_start: false, lengths, store: 0 }, steps }
+}
+
+/// Bytes that are no encoding of a type, as a value and as a default; for most strings there are none.
+fn wrong_encodings(random: &mut Random, kind: u64) -> History {
+    let lengths = match size(kind) {
+        Some(size) => vec![0, size - 1, size + 1],
+        None => vec![1, 3, 9],
+    };
+    let mut steps = vec![call(Call::New)];
+    for (index, length) in (0..).zip(lengths) {
+        // No text begins with such a byte.
+        let encodings = [vec![0xFF], random.bytes(length)].concat()[..length].to_vec();
+        let room = if is_string(kind) { length as u64 } else { 0 };
+        for (shape, has_default) in [(VARIABLE, 0), (ARRAY, 0), (ARRAY, 1)] {
+            let (numbers, encodings) = (vec![kind, room, length as u64], encodings.clone());
+            let given =
+                Insertion { index, shape, has_default, numbers, encodings, ..Insertion::default() };
+            steps.push(insert(given));
+        }
+    }
+    let lengths = Used { objects: 3, values: 3, bytes: 13 }.lengths();
+    History { first: Lent { at_start: random.below(2) == 0, lengths, store: 0 }, steps }
 }
 
 /// Room for just the first few objects: each slice exact, one short, or longer.

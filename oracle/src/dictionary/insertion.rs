@@ -61,7 +61,9 @@ impl Insertion {
             let count = usize::try_from(numbers[2]).unwrap_or(usize::MAX);
             let (encoding, behind) = rest.split_at_checked(count).ok_or("bytes missing")?;
             rest = behind;
-            values.push(value(numbers[0], numbers[1], encoding, place < elements)?);
+            let is_default = place >= elements;
+            let value = value(numbers[0], numbers[1], encoding, is_default);
+            values.push(value.map_err(|rule| if is_default { of_default(rule) } else { rule })?);
         }
         if rest.is_empty() { Ok(values) } else { Err("bytes left over") }
     }
@@ -87,22 +89,35 @@ impl Insertion {
 }
 
 /// A default has no room of its own (R5.6), so the one given is just its bytes.
-fn value(kind: u64, room: u64, encoding: &[u8], element: bool) -> Result<Value, &'static str> {
+fn value(kind: u64, room: u64, encoding: &[u8], is_default: bool) -> Result<Value, &'static str> {
     if kind > LAST_KIND {
         return Err("type");
     }
     if room > LARGEST_ROOM as u64 {
         return Err("room");
     }
-    if !is_encoding(kind, encoding) {
-        return Err("encoding");
+    if let Some(rule) = no_encoding(kind, encoding) {
+        return Err(rule);
     }
     let length = if is_string(kind) { encoding.len() as u64 } else { 0 };
     if length > room {
         return Err("longer than its room");
     }
-    if !element && length != room {
-        return Err("default's room");
+    if is_default && length != room {
+        return Err("room that is not its length");
     }
     Ok(Value::new(kind, room as usize, encoding))
+}
+
+/// The rule as one that a default breaks.
+fn of_default(rule: &'static str) -> &'static str {
+    match rule {
+        "type" => "default's type",
+        "room" => "default's room",
+        "byte count" => "default's byte count",
+        "not UTF-8" => "default not UTF-8",
+        "odd" => "default odd",
+        "longer than its room" => "default longer than its room",
+        _ => "default's room not its length",
+    }
 }

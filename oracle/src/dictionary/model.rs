@@ -17,6 +17,9 @@ pub const ARRAY: u64 = 1;
 pub const LAST_SHAPE: u64 = 2;
 pub const NO_ACCESS: u64 = 7;
 
+/// Where a save is asked for.
+pub const STORE_PARAMETERS: u16 = 0x1010;
+
 /// A fixed type's word is its number, a string's its length; the room's first
 /// bytes are then the string.
 #[derive(Clone, PartialEq, Eq, Debug)]
@@ -175,11 +178,26 @@ pub fn place_of(objects: &[Object], index: u16, element: usize) -> (usize, usize
     (before.values + element, start)
 }
 
-/// R3.4: whether bytes are the encoding of a value of a type.
-pub fn is_encoding(kind: u64, bytes: &[u8]) -> bool {
-    match kind {
-        VISIBLE_STRING => is_text(bytes),
-        UNICODE_STRING => bytes.len().is_multiple_of(2),
-        _ => kind <= LAST_KIND && size(kind).is_none_or(|size| bytes.len() == size),
-    }
+pub fn is_mapping(index: u16) -> bool {
+    matches!(index, 0x1600..=0x16FF | 0x1A00..=0x1AFF)
+}
+
+/// The value that a sub-index names, counted from 0; none for a list's count and beyond the end.
+pub fn element(object: &Object, sub_index: u8) -> Option<usize> {
+    let place = match object.shape {
+        VARIABLE => usize::from(sub_index),
+        _ => usize::from(sub_index).checked_sub(1)?,
+    };
+    (place < object.values.len()).then_some(place)
+}
+
+/// The part of R3.4 that bytes break as the encoding of a value of a type.
+pub fn no_encoding(kind: u64, bytes: &[u8]) -> Option<&'static str> {
+    let (holds, rule) = match kind {
+        VISIBLE_STRING => (is_text(bytes), "not UTF-8"),
+        UNICODE_STRING => (bytes.len().is_multiple_of(2), "odd"),
+        _ if kind > LAST_KIND => (false, "type"),
+        _ => (size(kind).is_none_or(|size| bytes.len() == size), "byte count"),
+    };
+    (!holds).then_some(rule)
 }

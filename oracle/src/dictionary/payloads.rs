@@ -5,7 +5,6 @@ use super::consuming::{A_PAYLOAD, LEAST_ROOM, LONGEST_PAYLOAD};
 use super::model::*;
 use super::running::{channel_of, list_u8};
 use super::step::{Call, Cycle, Received};
-use super::writing::element;
 use crate::inputs::{EDGE_BYTES, text};
 use crate::original::VISIBLE_STRING;
 use crate::random::Random;

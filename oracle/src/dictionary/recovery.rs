@@ -1,5 +1,6 @@
 //! The restores among the stored histories with a store.
 
+use super::goals::IMAGES;
 use super::image;
 use super::lines::{Lines, STORE_BYTES};
 use super::memory::STORE;
@@ -34,54 +35,7 @@ pub fn all(lines: &mut Lines, random: &mut Random) {
     for _ in 0..6 {
         mixture(lines, random);
     }
-    for (answer, cause) in ANSWERS {
-        assert!(lines.tally.reached(CALL, answer, cause), "a restore gives {answer}, {cause:?}");
-    }
-    for note in RULES.iter().chain(&NOTES) {
-        assert!(lines.tally.noted(CALL, note) > 0, "a restore finds {note}");
-    }
 }
-
-const CALL: &str = "restore_power_on_values";
-
-/// What the lines must reach.
-const ANSWERS: [(u64, Option<&str>); 11] = [
-    (0, Some("first above last")),
-    (0, Some("nothing put")),
-    (0, Some("stored")),
-    (0, Some("stored, types changed")),
-    (0, Some("stored and defaults")),
-    (0, Some("stored and defaults, types changed")),
-    (0, Some("defaults")),
-    (0, Some("defaults, types changed")),
-    (1, None),
-    (13, Some("stored")),
-    (13, Some("default")),
-];
-
-const NOTES: [&str; 8] = [
-    "no store",
-    "an empty table",
-    "a table",
-    "a default of another type left",
-    "a number over a string",
-    "a string shorter than its room",
-    "1003h left",
-    "a record without its place",
-];
-
-/// What of R10.7 one changed byte can break in a short store.
-const RULES: [&str; 9] = [
-    "over 2,048 records",
-    "records past the store",
-    "over 16,384 bytes",
-    "bodies past the store",
-    "places that do not rise",
-    "a start that is not the end before it",
-    "no such type",
-    "a value that does not decode",
-    "a value longer than its type",
-];
 
 fn in_room(random: &mut Random, kind: u64, room: usize) -> Value {
     let mut value = objects::value_of(random, kind, room);
@@ -204,7 +158,7 @@ fn damage(lines: &mut Lines, random: &mut Random) {
         lines.lend(store);
         lines.call(restores::everything());
     }
-    for rule in RULES.iter().cycle().take(2 * RULES.len()) {
+    for rule in IMAGES.iter().cycle().take(2 * IMAGES.len()) {
         let (at, new) = until(|| changed(lines, random, image.len(), Some(rule)));
         restore_damaged(lines, at, new);
     }

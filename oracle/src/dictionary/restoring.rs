@@ -1,6 +1,7 @@
 //! What a restore must give. The Rust decides, from the table that the store has an image of; what
 //! it cannot say is document 01's: which images are readable, TooLong, and where bytes lie.
 
+use super::between::{LIST_RETYPED, RECORD_RETYPED};
 use super::image::{self, Record};
 use super::memory::Memory;
 use super::model::{self, Object, VARIABLE, Value, is_string};
@@ -75,6 +76,8 @@ struct Seen {
     number_over_string: bool,
     shorter_than_its_room: bool,
     error_history: bool,
+    record_retyped: bool,
+    list_retyped: bool,
     /// Records that are put, and those that stand in the range.
     used: usize,
     in_range: usize,
@@ -114,6 +117,8 @@ impl Seen {
         self.stored |= record.is_some();
         self.default |= record.is_none();
         self.retyped |= changes;
+        self.record_retyped |= changes && matches!(object.index, 0x1400..=0x14FF);
+        self.list_retyped |= changes && matches!(object.index, 0x1600..=0x16FF);
         self.stored_too_long |= record.is_some() && too_long;
         self.default_too_long |= record.is_none() && too_long;
         self.number_over_string |= is_string(value.kind) && !is_string(kind);
@@ -146,6 +151,8 @@ impl Seen {
             (self.number_over_string, "a number over a string"),
             (self.shorter_than_its_room, "a string shorter than its room"),
             (self.error_history, "1003h left"),
+            (self.record_retyped, RECORD_RETYPED),
+            (self.list_retyped, LIST_RETYPED),
             (self.in_range > self.used, "a record without its place"),
         ];
         notes.into_iter().filter(|(seen, _)| *seen).map(|(_, note)| note)

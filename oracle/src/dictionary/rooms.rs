@@ -21,7 +21,7 @@ pub fn compare(trial: &mut Trial, random: &mut Random) {
     for kind in 0..KINDS {
         trial.compare(over_every_type(random, kind));
     }
-    for _ in 0..40 {
+    for _ in 0..100 {
         too_long(trial, random);
     }
     for _ in 0..6 {
@@ -95,6 +95,7 @@ fn over_every_type(random: &mut Random, kind: u64) -> History {
 
 /// Lists of numbers, and a string in one place: the first, the last or any, whose record or default
 /// is as long as its room, or one byte longer; or it is the error history's, which is not judged.
+/// Half the times the default of a Variable behind them, which has no record, is too long as well.
 fn too_long(trial: &mut Trial, random: &mut Random) {
     let mut all: Vec<Object> = [0x1000, ERROR_HISTORY, 0x1004, 0x6000]
         .map(|index| {
@@ -120,6 +121,10 @@ fn too_long(trial: &mut Trial, random: &mut Random) {
     // Without its record the default counts.
     if random.below(3) == 0 {
         records.remove(3 * row + place);
+    }
+    if random.below(2) == 0 {
+        let [old, default] = [2, 3].map(|length| Value::new(kind, length, &random.bytes(length)));
+        all.push(object(0x6001, VARIABLE, vec![old], Some(default)));
     }
     let image = image::of(&records);
     let lengths = Used::of(&all).lengths();

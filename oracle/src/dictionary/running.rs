@@ -2,8 +2,7 @@
 //! alone.
 
 use super::memory::Memory;
-use super::model::{self, Object, VARIABLE, is_string, is_text};
-use super::writing::{element, is_mapping};
+use super::model::{self, Object, VARIABLE, element, is_mapping, is_string, is_text};
 use crate::original::{UNICODE_STRING, VISIBLE_STRING, size};
 
 /// Kinds of events (R11.14).

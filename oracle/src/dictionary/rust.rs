@@ -2,11 +2,10 @@
 
 use super::backend::{self, Kept, Table};
 use super::image::Record;
-use super::model::{ARRAY, Object, VARIABLE, Value};
+use super::model::{ARRAY, Object, VARIABLE, Value, element};
 use super::node::Node;
 use super::running::Told;
 use super::step::{Width, Write};
-use super::writing::element;
 use crate::original;
 use powerlink_rs::node::PdoHandler;
 use powerlink_rs::od::{

@@ -1,6 +1,7 @@
 //! The stored histories of writes, saves and count checks, with stores of several lengths; like those
 //! of stored.rs, which have no store. recovery.rs has the restores.
 
+use super::goals::lacking_stored;
 use super::insertion::Insertion;
 use super::lines::{Lines, STORE_BYTES, sayable};
 use super::mappings;
@@ -40,51 +41,10 @@ pub fn print() {
     damage(&mut lines, random);
     // With numbers of its own, so that it stays as it is where what stands before it changes.
     recovery::all(&mut lines, &mut Random::new(SEED + 1));
-    for (call, answer, cause) in WRITES {
-        assert!(lines.tally.reached(call, answer, cause), "{call} gives {answer}, {cause:?}");
-    }
+    let lacking = lacking_stored(&lines.tally);
+    assert!(lacking.is_empty(), "the lines lack {lacking:?}");
     print!("{}", lines.finish());
 }
-
-const W: &str = "write";
-const V: &str = "validate_pdo_mapping";
-
-/// What the lines must reach.
-const WRITES: [(&str, u64, Option<&str>); 33] = [
-    (W, 0, Some("a number put")),
-    (W, 0, Some("a string put")),
-    (W, 0, Some("count accepted")),
-    (W, 0, Some("saved")),
-    (W, 0, Some("an empty table saved")),
-    (W, 1, None),
-    (W, 2, Some("type")),
-    (W, 2, Some("byte count")),
-    (W, 2, Some("not UTF-8")),
-    (W, 2, Some("odd")),
-    (W, 3, Some("a value")),
-    (W, 3, Some("a mapping's count")),
-    (W, 4, None),
-    (W, 5, Some("a value")),
-    (W, 5, Some("a mapping's count")),
-    (W, 6, None),
-    (W, 7, Some("1010h")),
-    (W, 7, Some("1011h")),
-    (W, 8, Some("1010h")),
-    (W, 8, Some("1011h")),
-    (W, 9, None),
-    (W, 10, None),
-    (W, 11, None),
-    (W, 13, None),
-    (W, 18, Some("store lent")),
-    (W, 19, None),
-    (V, 0, Some("no mapping")),
-    (V, 0, Some("a count of 0")),
-    (V, 0, Some("within the limit")),
-    (V, 1, None),
-    (V, 3, None),
-    (V, 10, None),
-    (V, 11, None),
-];
 
 fn is_short(call: &Call) -> bool {
     sayable(call) && !matches!(call, Call::Write(given) if given.data.len() > LONGEST_DATA)

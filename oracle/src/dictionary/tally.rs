@@ -3,6 +3,9 @@
 use super::world::Wanted;
 use std::collections::BTreeMap;
 
+/// An answer of a call, by a part of its rule or, without one, by any.
+pub type Goal = (&'static str, u64, Option<&'static str>);
+
 #[derive(Default)]
 pub struct Tally {
     answers: BTreeMap<&'static str, BTreeMap<u64, u64>>,
@@ -64,14 +67,29 @@ impl Tally {
         *self.notes.entry(of).or_default().entry(note).or_default() += times;
     }
 
-    /// Whether an answer of a call was reached, by this part of its rule or, without one, by any.
-    pub fn reached(&self, call: &'static str, answer: u64, cause: Option<&str>) -> bool {
+    fn reached(&self, (call, answer, cause): Goal) -> bool {
         match cause {
             Some(cause) => {
                 self.causes.get(&(call, answer)).is_some_and(|causes| causes.contains_key(cause))
             }
             None => self.answers.get(call).is_some_and(|answers| answers.contains_key(&answer)),
         }
+    }
+
+    /// Says of each answer that was not reached that it was not.
+    pub fn missed(&self, goals: &[Goal]) -> Vec<String> {
+        let missed = goals.iter().filter(|goal| !self.reached(**goal));
+        let said = missed.map(|(call, answer, cause)| {
+            let by = cause.map_or(String::new(), |cause| format!(" because of: {cause}"));
+            format!("no call of {call} gave {}{by}", answer_name(*answer))
+        });
+        said.collect()
+    }
+
+    /// The same of what calls must find besides.
+    pub fn not_noted(&self, call: &str, notes: &[&str]) -> Vec<String> {
+        let missed = notes.iter().filter(|note| self.noted(call, note) == 0);
+        missed.map(|note| format!("no call of {call} came upon: {note}")).collect()
     }
 
     /// How often a call found this besides.

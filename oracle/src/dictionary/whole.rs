@@ -6,9 +6,8 @@ use super::asking::{Asked, stands};
 use super::link::Given;
 use super::malformed;
 use super::memory::Memory;
-use super::model::{self, Object, Value, is_encoding, is_string};
+use super::model::{self, Object, Value, element, is_string, no_encoding};
 use super::running::row;
-use super::writing::element;
 
 /// What a payload shows: a word of demand 3 that is not kept, and the places of the elements that
 /// it is seen to write whole.
@@ -104,7 +103,7 @@ impl Consumed<'_> {
 
 /// R5.7.
 fn put(value: &mut Value, encoding: &[u8]) -> Option<()> {
-    if !is_encoding(value.kind, encoding) {
+    if no_encoding(value.kind, encoding).is_some() {
         return None;
     }
     if is_string(value.kind) {

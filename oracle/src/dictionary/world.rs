@@ -1,6 +1,7 @@
 //! What a history must give, call by call: the memory after it, and the answer
 //! that the Rust has for it, or where the Rust has none, document 01.
 
+use super::between::Between;
 use super::explained::Named;
 use super::insertion::Insertion;
 use super::malformed;
@@ -36,6 +37,7 @@ pub struct World {
     pub memory: Memory,
     known: Known,
     pub named: Named,
+    between: Between,
 }
 
 /// The wanted outcome, and which part of its rule gave it.
@@ -67,7 +69,8 @@ impl World {
 
     /// Memory with anything in it.
     pub fn on(memory: Memory) -> Self {
-        Self { memory, known: Known::Nothing, named: Named::default() }
+        let (named, between) = (Named::default(), Between::default());
+        Self { memory, known: Known::Nothing, named, between }
     }
 
     /// What is done without a call.
@@ -84,6 +87,7 @@ impl World {
         }
         self.known = Known::Nothing;
         self.named = Named::default();
+        self.between = Between::default();
     }
 
     pub fn call(&mut self, call: &Call) -> Wanted {
@@ -109,6 +113,7 @@ impl World {
             }
         };
         self.named.follow(call, &outcome, &mut notes);
+        self.between.follow(call, &outcome, &mut notes);
         Wanted { outcome, cause, notes }
     }
 
@@ -224,11 +229,17 @@ impl Dictionary {
         if let Some(cause) = Insertion::full(&object, &self.objects, memory) {
             return Err((FULL, Some(cause)));
         }
+        let place = match row {
+            _ if self.objects.is_empty() => "the first object",
+            0 => "before all others",
+            row if row == self.objects.len() => "behind all others",
+            _ => "between others",
+        };
         self.rust.insert(&object);
         self.objects.insert(row, object);
         model::lay(&self.objects, memory);
         self.check(memory);
-        Ok(Done::default())
+        Ok(Done::because(place))
     }
 
     /// The two readings of the rules that this program has must agree.

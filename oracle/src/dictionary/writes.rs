@@ -2,10 +2,9 @@
 
 use super::calls;
 use super::mappings;
-use super::model::{Object, Value, is_string};
+use super::model::{Object, STORE_PARAMETERS, Value, element, is_mapping, is_string};
 use super::objects;
 use super::step::{Call, Write};
-use super::writing::{STORE_PARAMETERS, element, is_mapping};
 use crate::inputs::{damaged, text};
 use crate::original::{KINDS, UNICODE_STRING, VISIBLE_STRING};
 use crate::random::Random;

@@ -1,68 +1,30 @@
 //! What `write` and the count check must give. The Rust decides; what it cannot
 //! say is document 01's: BadValue, TooLong, StoreFull, and where bytes lie.
 
+use super::causes;
 use super::image::{self, Record};
 use super::memory::Memory;
-use super::model::{self, LAST_KIND, Object, VARIABLE, is_encoding, is_string};
-use super::rust::{OBJECT_NOT_FOUND, TYPE_MISMATCH, Written};
+use super::model::{self, element, is_string, no_encoding};
+use super::rust::Written;
 use super::step::Write;
 use super::world::{Dictionary, Done, Refused};
-use crate::original::{BAD_VALUE, UNICODE_STRING, VISIBLE_STRING};
+use crate::original::BAD_VALUE;
 
-const BAD_SIGNATURE: u64 = 7;
-const NO_STORAGE: u64 = 8;
 const TOO_LONG: u64 = 13;
 const STORE_FULL: u64 = 18;
 const RESTORE_REQUESTED: u64 = 19;
 
-pub const STORE_PARAMETERS: u16 = 0x1010;
-
-pub fn is_mapping(index: u16) -> bool {
-    matches!(index, 0x1600..=0x16FF | 0x1A00..=0x1AFF)
-}
-
-/// The value that a sub-index names, counted from 0; none for a list's count and beyond the end.
-pub fn element(object: &Object, sub_index: u8) -> Option<usize> {
-    let place = match object.shape {
-        VARIABLE => usize::from(sub_index),
-        _ => usize::from(sub_index).checked_sub(1)?,
-    };
-    (place < object.values.len()).then_some(place)
-}
-
-/// Which part of R3.4 makes it BadValue.
-fn bad_value(kind: u64, data: &[u8]) -> Option<&'static str> {
-    let rule = match kind {
-        VISIBLE_STRING => "not UTF-8",
-        UNICODE_STRING => "odd",
-        _ if kind > LAST_KIND => "type",
-        _ => "byte count",
-    };
-    (!is_encoding(kind, data)).then_some(rule)
-}
-
-/// Which of several rules gave a refusal of the Rust's.
-fn cause(given: &Write, refusal: u64) -> Option<&'static str> {
-    let by_count = is_mapping(given.index) && given.sub_index == 0;
-    match refusal {
-        OBJECT_NOT_FOUND | TYPE_MISMATCH if by_count => Some("a mapping's count"),
-        OBJECT_NOT_FOUND | TYPE_MISMATCH => Some("a value"),
-        BAD_SIGNATURE | NO_STORAGE if given.index == STORE_PARAMETERS => Some("1010h"),
-        BAD_SIGNATURE | NO_STORAGE => Some("1011h"),
-        _ => None,
-    }
-}
-
 impl Dictionary {
     pub fn write(&mut self, given: &Write, memory: &mut Memory) -> Result<Done, Refused> {
         // The Rust has no such value, so that it is not asked.
-        if let Some(rule) = bad_value(given.kind, &given.data) {
+        if let Some(rule) = no_encoding(given.kind, &given.data) {
             return Err((BAD_VALUE, Some(rule)));
         }
-        let written = self.rust.write(given).map_err(|refusal| (refusal, cause(given, refusal)));
-        let done = written.and_then(|written| match written {
+        let written = self.rust.write(given);
+        let refused = |refusal| (refusal, causes::of_refusal(&self.objects, given, refusal));
+        let done = written.map_err(refused).and_then(|written| match written {
             Written::Taken => self.put(given, memory),
-            Written::Saved(records) => self.save(&records, memory),
+            Written::Saved(records) => self.save(given.sub_index, &records, memory),
             // No refusal, but it too leaves everything as it was.
             Written::RestoreRequested => Err((RESTORE_REQUESTED, None)),
         });
@@ -77,8 +39,9 @@ impl Dictionary {
         let Write { index, sub_index, kind, ref data } = *given;
         let row = self.objects.iter().position(|object| object.index == index.into());
         let row = row.expect("the Rust has just these objects");
+        let cause = causes::of_put(&self.objects[row], given);
         let Some(element) = element(&self.objects[row], sub_index) else {
-            return Ok(Done::because("count accepted"));
+            return Ok(Done::because(cause));
         };
         let (place, start) = model::place_of(&self.objects, index, element);
         let value = &mut self.objects[row].values[element];
@@ -94,12 +57,12 @@ impl Dictionary {
         memory.words[place] = found.word;
         memory.bytes[start..][..found.bytes.len()].copy_from_slice(&found.bytes);
         self.check(memory);
-        Ok(Done::because(if is_string(kind) { "a string put" } else { "a number put" }))
+        Ok(Done::because(cause))
     }
 
     /// The image is that of the Rust's table. Its storage has no bounds: a table
     /// that passes one is outside the domain (R2.5), and the one before it stays.
-    fn save(&mut self, records: &[Record], memory: &mut Memory) -> Result<Done, Refused> {
+    fn save(&mut self, list: u8, records: &[Record], memory: &mut Memory) -> Result<Done, Refused> {
         assert!(self.all_equal(), "the model has the Rust's values at a save");
         if let Some(cause) = image::full(records, memory.store.len()) {
             self.rust.undo_save();
@@ -107,15 +70,13 @@ impl Dictionary {
         }
         let image = image::of(records);
         memory.store[..image.len()].copy_from_slice(&image);
-        Ok(Done::because(if records.is_empty() { "an empty table saved" } else { "saved" }))
+        Ok(Done::because(causes::of_save(list, records.is_empty())))
     }
 
     pub fn validate_pdo_mapping(&self, index: u16, count: u8) -> Result<Done, Refused> {
-        self.rust.validate_pdo_mapping(index, count).map_err(|refusal| (refusal, None))?;
-        Ok(Done::because(match count {
-            _ if !is_mapping(index) => "no mapping",
-            0 => "a count of 0",
-            _ => "within the limit",
-        }))
+        let cause = |answer| causes::of_count(&self.objects, index, count, answer);
+        let judged = self.rust.validate_pdo_mapping(index, count);
+        judged.map_err(|refusal| (refusal, cause(refusal)))?;
+        Ok(Done { cause: cause(0), ..Done::default() })
     }
 }
