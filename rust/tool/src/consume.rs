@@ -27,7 +27,7 @@ pub fn run(
         for line in &told.lines {
             writeln!(out, "  {line}")?;
         }
-        if told.fault.is_some() {
+        if !told.troubles.is_empty() {
             status = Status::Faults;
         }
     }

@@ -92,8 +92,9 @@ loomfinch replay RIG CAPTURE [options]
 
 Reads a network capture (pcap or pcapng, of an Ethernet), gives the payloads of
 its POWERLINK frames to the rig in their order, and says for each frame what it
-changed, what was refused and why. A table by sender follows. CAPTURE may be -
-for the standard input.
+changed, what was refused and why. A table by sender follows: how many frames
+had each kind of trouble, and the first of each, a CUT before all others.
+CAPTURE may be - for the standard input.
 
   --node N      the console's own node: requests of the managing node (PReq)
                 to other nodes are left out
@@ -105,11 +106,16 @@ for the standard input.
 Example:
 
   $ loomfinch replay rigs/mended.rig rigs/rehearsal.pcap --quiet
-  sender  frames  not ready  fields written  stops  first fault
-       5       7          1               6      2  No. 7: stopped at element 1
-  (6000h/0 \"Ramp time\"): it needs 4 bytes of payload, and 3 came
-       9       1          0               0      0  none: no channel takes this
-  sender
+  sender  frames  not ready  fields written  short  version  damaged
+       5       7          1               6      1        1        1
+          short in No. 7: stopped at element 1 (6000h/0 \"Ramp time\"): it needs
+          4 bytes of payload, and 3 came
+          version in No. 8: refused: the payload has version 22h, channel 0
+          expects 10h
+          damaged in No. 9: not consumed: its size field says 100 bytes of
+          payload, and the frame has 36
+       9       1          0               0      0        0        0
+          no channel takes this sender
   other frames: 1 EtherType 0800h, 1 SoC
 
 Exit status: 0 nothing was refused, stopped, cut or passed over, 1 something

@@ -22,6 +22,7 @@ mod replay;
 mod report;
 mod rig;
 mod table;
+mod trouble;
 mod words;
 
 #[cfg(test)]

@@ -5,24 +5,24 @@ use crate::explain::Mapped;
 use crate::faults::last_bytes;
 use crate::reasons;
 use crate::rig::{Rig, Value};
+use crate::trouble::Trouble;
 use crate::words::{self, named_place, Style};
-use loomfinch::{Target, ValueType};
+use loomfinch::{Cause, Target, ValueType};
 
 /// A payload's story, and what of it a table counts.
 #[derive(Default)]
 pub struct Told {
     pub lines: Vec<String>,
     pub written: u64,
-    pub stops: u64,
-    /// The first thing that went wrong.
-    pub fault: Option<String>,
+    /// What went wrong, in order.
+    pub troubles: Vec<(Trouble, String)>,
 }
 
 impl Told {
     /// The story of a payload that was refused as a whole.
     pub fn refused(why: String) -> Told {
         let mut told = Told::default();
-        told.fault(why);
+        told.trouble(Trouble::Refused, why);
         told
     }
 
@@ -30,9 +30,9 @@ impl Told {
         self.lines.push(text);
     }
 
-    fn fault(&mut self, text: String) {
-        self.fault.get_or_insert_with(|| text.clone());
-        self.lines.push(text);
+    fn trouble(&mut self, kind: Trouble, text: String) {
+        self.lines.push(text.clone());
+        self.troubles.push((kind, text));
     }
 }
 
@@ -70,13 +70,13 @@ struct Teller<'a> {
 
 impl Teller<'_> {
     fn wrong_version(&mut self, channel: u8, expected: u8) {
-        self.told.stops += 1;
-        self.told.fault(format!(
+        let why = format!(
             "refused: the payload has version {}, channel {} expects {}",
             words::version(self.received.version),
             channel,
             words::version(expected)
-        ));
+        );
+        self.told.trouble(Trouble::Version, why);
     }
 
     fn step(&mut self, step: &Step, later: &[Step]) {
@@ -89,21 +89,22 @@ impl Teller<'_> {
             Outcome::Written(change) => {
                 self.told.written += 1;
                 self.told.line(format!("{}: {}", at, self.changed(change, later)));
-                self.cut(step, change);
+                self.cut(&at, step, change);
             }
             Outcome::PassedOver => {
                 let why = reasons::passed_over(&step.element);
-                self.told.fault(format!("{element} is passed over: {why}"));
+                let text = format!("{element} is passed over: {why}");
+                self.told.trouble(Trouble::PassedOver, text);
             }
             Outcome::HandedOn => self.told.line(format!("{element} is handed on to SDO")),
             Outcome::Refused(why) => {
                 let why = reasons::refused(*why, &step.element);
-                self.told.fault(format!("{element} is not written: {why}"));
+                let text = format!("{element} is not written: {why}");
+                self.told.trouble(Trouble::Refused, text);
             }
             Outcome::Stopped(cause) => {
-                self.told.stops += 1;
                 let why = reasons::stopped(*cause, &step.element, self.received);
-                self.told.fault(format!("stopped at {element}: {why}"));
+                self.told.trouble(stop(*cause), format!("stopped at {element}: {why}"));
             }
             Outcome::NotReached => self.told.line(format!("{element} is not reached")),
         }
@@ -135,7 +136,7 @@ impl Teller<'_> {
     }
 
     /// Tells of a field of which only the first bytes are kept.
-    fn cut(&mut self, step: &Step, change: &Change) {
+    fn cut(&mut self, at: &str, step: &Step, change: &Change) {
         let (range, of, size) = match &step.element.mapped {
             Some(Mapped {
                 field: Some(range), target: Target::Fixed { value_type, size }, ..
@@ -156,15 +157,17 @@ impl Teller<'_> {
             }
             false => String::new(),
         };
-        self.told.fault(format!(
-            "  CUT: element {}'s field is {}{}; {}, {}, {} lost",
+        let why = format!(
+            "element {}'s field is {}{}; {}, {}, {} lost",
             step.element.number,
             words::hex(field),
             meant,
             last_bytes(lost.len()),
             words::hex(lost),
             if lost.len() == 1 { "is" } else { "are" }
-        ));
+        );
+        self.told.line(format!("  CUT: {why}"));
+        self.told.troubles.push((Trouble::Cut, format!("{at}: {why}")));
     }
 
     /// Tells which nodes an error object has noted newly.
@@ -181,6 +184,14 @@ impl Teller<'_> {
                 "{at}: the bit of node {node} is set (byte {k}: {before:02X} -> {after:02X})"
             ));
         }
+    }
+}
+
+/// The trouble of a payload that stopped.
+fn stop(cause: Cause) -> Trouble {
+    match cause {
+        Cause::Frame | Cause::Value => Trouble::Short,
+        Cause::Text | Cause::Odd => Trouble::NoText,
     }
 }
 

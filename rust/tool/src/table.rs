@@ -2,6 +2,7 @@
 
 use crate::report::Told;
 use crate::rig::Rig;
+use crate::trouble::{Trouble, Troubles};
 use std::collections::BTreeMap;
 use std::io::{self, Write};
 
@@ -18,34 +19,24 @@ struct Row {
     frames: u64,
     not_ready: u64,
     written: u64,
-    stops: u64,
-    fault: Option<String>,
-}
-
-impl Row {
-    fn fault(&mut self, number: u64, why: &str) {
-        self.fault.get_or_insert_with(|| format!("No. {}: {}", number, why.trim_start()));
-    }
+    troubles: Troubles,
 }
 
 impl Table {
     /// Counts a frame whose payload was given to the console.
-    pub fn told(&mut self, sender: u8, number: u64, ready: bool, told: &Told) {
+    pub fn told(&mut self, sender: u8, packet: u64, ready: bool, told: &Told) {
         let row = self.senders.entry(Some(sender)).or_default();
         row.frames += 1;
         row.not_ready += u64::from(!ready);
         row.written += told.written;
-        row.stops += told.stops;
-        if let Some(why) = &told.fault {
-            row.fault(number, why);
-        }
+        row.troubles.count(packet, &told.troubles);
     }
 
     /// Counts a frame that could not be consumed.
-    pub fn damaged(&mut self, sender: Option<u8>, number: u64, why: &str) {
+    pub fn damaged(&mut self, sender: Option<u8>, packet: u64, why: &str) {
         let row = self.senders.entry(sender).or_default();
         row.frames += 1;
-        row.fault(number, why);
+        row.troubles.count(packet, &[(Trouble::Damaged, why.to_string())]);
     }
 
     pub fn other(&mut self, kind: String) {
@@ -53,7 +44,7 @@ impl Table {
     }
 
     pub fn has_faults(&self) -> bool {
-        self.senders.values().any(|row| row.fault.is_some())
+        self.senders.values().any(|row| !row.troubles.is_empty())
     }
 
     pub fn is_empty(&self) -> bool {
@@ -64,26 +55,38 @@ impl Table {
         if self.senders.is_empty() {
             writeln!(out, "no frame with process data (PReq or PRes)")?;
         } else {
-            writeln!(out, "sender  frames  not ready  fields written  stops  first fault")?;
-        }
-        for (sender, row) in &self.senders {
-            let taken = sender.map_or(false, |sender| rig.channel_of(sender).is_some());
-            let fault = match &row.fault {
-                Some(fault) => fault.as_str(),
-                None if taken => "none",
-                None => "none: no channel takes this sender",
-            };
-            let sender = sender.map_or("?".to_string(), |sender| sender.to_string());
-            writeln!(
-                out,
-                "{:>6}  {:>6}  {:>9}  {:>14}  {:>5}  {}",
-                sender, row.frames, row.not_ready, row.written, row.stops, fault
-            )?;
+            self.write_senders(rig, out)?;
         }
         if !self.others.is_empty() {
             let kinds: Vec<String> =
                 self.others.iter().map(|(kind, count)| format!("{count} {kind}")).collect();
             writeln!(out, "other frames: {}", kinds.join(", "))?;
+        }
+        Ok(())
+    }
+
+    /// A column for each kind of trouble that any sender had, and below each sender the first of each kind.
+    fn write_senders(&self, rig: &Rig, out: &mut dyn Write) -> io::Result<()> {
+        let had = |kind: &Trouble| self.senders.values().any(|row| row.troubles.frames(*kind) > 0);
+        let kinds: Vec<Trouble> = Trouble::ALL.into_iter().filter(had).collect();
+        let names: String = kinds.iter().map(|kind| format!("  {}", kind.name())).collect();
+        writeln!(out, "sender  frames  not ready  fields written{names}")?;
+        for (sender, row) in &self.senders {
+            let shown = sender.map_or("?".to_string(), |sender| sender.to_string());
+            let count =
+                |kind: &Trouble| format!("  {:>1$}", row.troubles.frames(*kind), kind.name().len());
+            let counts: String = kinds.iter().map(count).collect();
+            writeln!(
+                out,
+                "{:>6}  {:>6}  {:>9}  {:>14}{}",
+                shown, row.frames, row.not_ready, row.written, counts
+            )?;
+            for line in row.troubles.lines() {
+                writeln!(out, "        {line}")?;
+            }
+            if sender.map_or(false, |sender| rig.channel_of(sender).is_none()) {
+                writeln!(out, "        no channel takes this sender")?;
+            }
         }
         Ok(())
     }

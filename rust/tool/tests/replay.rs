@@ -43,9 +43,14 @@ No. 8  0.050400 s  PRes from node 5, version 22h, 8 bytes
 No. 9  0.060400 s  PRes from node 5
     not consumed: its size field says 100 bytes of payload, and the frame has 36
 
-sender  frames  not ready  fields written  stops  first fault
-     5       7          1               6      2  No. 6: CUT: element 1's field is 90 5F 01 00, 90000 ms = 90.000 s; the last 2 bytes, 01 00, are lost
-     9       1          0               0      0  none: no channel takes this sender
+sender  frames  not ready  fields written  CUT  short  version  damaged
+     5       7          1               6    1      1        1        1
+        CUT in No. 6: 6000h/0 "Ramp time": element 1's field is 90 5F 01 00, 90000 ms = 90.000 s; the last 2 bytes, 01 00, are lost
+        short in No. 7: stopped at element 1 (6000h/0 "Ramp time"): it needs 4 bytes of payload, and 3 came
+        version in No. 8: refused: the payload has version 22h, channel 0 expects 10h
+        damaged in No. 9: not consumed: its size field says 100 bytes of payload, and the frame has 36
+     9       1          0               0    0      0        0        0
+        no channel takes this sender
 other frames: 1 EtherType 0800h, 1 SoC
 "#;
     assert_eq!(run.out, wanted);
@@ -62,7 +67,22 @@ fn the_mended_rig_keeps_the_ramp() {
 fn quiet_writes_the_table_alone() {
     let run = run(&["replay", "--quiet", &rig("ramp.rig"), &rig("rehearsal.pcap")]);
     assert!(run.out.starts_with("sender  frames"), "{}", run.out);
-    assert_eq!(run.out.lines().count(), 4);
+    assert_eq!(run.out.lines().count(), 9);
+}
+
+#[test]
+fn the_table_counts_each_kind_and_names_cuts_first() {
+    let mut frames = vec![response(5, 0x12, &[0xC4, 9, 0])];
+    frames.extend(vec![response(5, 0x12, &[0x90, 0x5F, 1, 0, 0, 0]); 200]);
+    frames.push(response(5, 0x12, &[0xC4, 9, 0, 0, 0, 0]));
+    let capture = file("kinds.pcap", &pcap(false, false, &frames));
+    let run = run(&["replay", "--quiet", &rig("ramp.rig"), &capture]);
+    let wanted = r#"sender  frames  not ready  fields written  CUT  short
+     5     202          0             402  200      1
+        CUT in 200 frames, first in No. 2: 6000h/0 "Ramp time": element 1's field is 90 5F 01 00, 90000 ms = 90.000 s; the last 2 bytes, 01 00, are lost
+        short in No. 1: stopped at element 1 (6000h/0 "Ramp time"): it needs 4 bytes of payload, and 3 came
+"#;
+    assert_eq!((run.status, run.out.as_str()), (1, wanted));
 }
 
 /// Two frames of a ramp each, in all forms of capture.
@@ -76,7 +96,7 @@ fn assert_ramps(name: &str, capture: &[u8]) {
     assert!(run.out.contains("0 ms = 0.000 s -> 2500 ms = 2.500 s"), "{}: {}", name, run.out);
     assert!(run.out.contains("2500 ms = 2.500 s -> 3000 ms = 3.000 s"), "{}: {}", name, run.out);
     assert!(
-        run.out.contains("     5       2          0               4      0  none\n"),
+        run.out.contains("     5       2          0               4\n"),
         "{}: {}",
         name,
         run.out
@@ -193,19 +213,16 @@ fn what_came_before_the_damage_is_told() {
     let run = run(&["replay", &rig("ramp.rig"), &path]);
     assert_eq!(run.status, 2);
     assert!(run.out.contains("0 ms = 0.000 s -> 2500 ms = 2.500 s"), "{}", run.out);
-    assert!(
-        run.out.contains("     5       1          0               2      0  none\n"),
-        "{}",
-        run.out
-    );
+    assert!(run.out.contains("     5       1          0               2\n"), "{}", run.out);
 }
 
 #[test]
 fn a_frame_that_ends_before_its_sender_is_a_fault() {
     let capture = pcap(false, false, &[ramps()[0][..16].to_vec()]);
     let run = run(&["replay", &rig("ramp.rig"), &file("sender.pcap", &capture), "--quiet"]);
-    let wanted = "sender  frames  not ready  fields written  stops  first fault
-     ?       1          0               0      0  No. 1: not consumed: the frame ends after 2 bytes of its head
+    let wanted = "sender  frames  not ready  fields written  damaged
+     ?       1          0               0        1
+        damaged in No. 1: not consumed: the frame ends after 2 bytes of its head
 ";
     assert_eq!((run.status, run.out.as_str()), (1, wanted));
 }
@@ -246,5 +263,5 @@ fn the_capture_may_come_through_a_pipe() {
         .stdin(std::fs::File::open(rig("rehearsal.pcap")).unwrap())
         .output()
         .unwrap();
-    assert_eq!(String::from_utf8_lossy(&output.stdout).lines().count(), 4);
+    assert_eq!(String::from_utf8_lossy(&output.stdout).lines().count(), 9);
 }
