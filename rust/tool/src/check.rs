@@ -149,10 +149,11 @@ fn json(file: &str, rig: &Rig, channels: &[Channel], explain: bool) -> Json {
 }
 
 fn channel_json(rig: &Rig, channel: &Channel, explain: bool) -> Json {
+    let named = faults::named_element(channel.checked, &channel.elements);
     let fault = Json::Object(vec![
         ("name", Json::text(channel.checked.name())),
         ("number", Json::number(channel.checked.number())),
-        ("element", Json::or_null(channel.checked.element().map(Json::number))),
+        ("element", Json::or_null(named.map(Json::number))),
         ("text", Json::text(channel.sentence.as_str())),
     ]);
     let mut members = vec![

@@ -34,7 +34,13 @@ impl Element {
             }
             Target::NoObject | Target::NoSubIndex => false,
         };
-        mapped.end > MOST_PAYLOAD_BYTES || (unreadable && self.fault != Some(Fault::HandOff))
+        self.ends_behind_payloads() || (unreadable && self.fault != Some(Fault::HandOff))
+    }
+
+    /// Does its field end behind the longest payload?
+    pub fn ends_behind_payloads(&self) -> bool {
+        let whole = self.mapped.as_ref().filter(|mapped| mapped.field.is_some());
+        whole.map_or(false, |mapped| mapped.end > MOST_PAYLOAD_BYTES)
     }
 }
 

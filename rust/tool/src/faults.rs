@@ -49,13 +49,26 @@ fn no_list(rig: &Rig, channel: u8) -> String {
 }
 
 fn too_far(elements: &[Element]) -> String {
-    let ends = elements
-        .iter()
-        .filter_map(|known| known.mapped.as_ref().map(|mapped| (mapped.end, known.number)));
-    let (end, element) = ends.max_by_key(|found| found.0).unwrap_or((0, 0));
+    let first = elements.iter().find(|element| element.ends_behind_payloads());
+    first.map_or("the mapping reaches too far".to_string(), |element| {
+        format!("element {} {}", element.number, needs_more(element))
+    })
+}
+
+fn needs_more(element: &Element) -> String {
+    let end = element.mapped.as_ref().map_or(0, |mapped| mapped.end);
     format!(
-        "element {element} needs a payload of {end} bytes, and none has more than {MOST_PAYLOAD_BYTES}: every payload stops there"
+        "needs a payload of {end} bytes, and none has more than {MOST_PAYLOAD_BYTES}: every payload stops there"
     )
+}
+
+/// The element that a fault names: TooFar names the first that ends behind every payload.
+pub fn named_element(checked: Checked, elements: &[Element]) -> Option<u8> {
+    let far = || elements.iter().find(|element| element.ends_behind_payloads());
+    match checked {
+        Checked::TooFar => far().map(|element| element.number),
+        checked => checked.element(),
+    }
 }
 
 /// What is wrong with an element, as a sentence.

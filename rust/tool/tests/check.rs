@@ -161,6 +161,23 @@ fn what_no_payload_reaches_is_drawn_so() {
 }
 
 #[test]
+fn too_far_names_the_first_element_that_is() {
+    let text = "1400h Record\n1 U8 = 5\n1600h Array\n1 6000h at 0 length 1\n2 6001h at 1490 length 1\n\
+                3 6002h at 1492 length 2\n6000h Variable U8\n6001h Variable U8\n6002h Variable U16\n";
+    let path = file("farther.rig", text.as_bytes());
+    let explained = run(&["check", "--explain", &path]).out;
+    let wanted =
+        "element 2 needs a payload of 1491 bytes, and none has more than 1490: every payload stops there";
+    assert!(explained.contains(&format!("FAULT: {wanted}\n")), "{explained}");
+    let later = "element 3 maps 2 bytes onto 6002h/0, an Unsigned16 of 2 bytes: never reached, since every payload stops at \
+                 element 2\n";
+    assert!(explained.contains(later), "{explained}");
+    let json = run(&["check", "--json", &path]).out;
+    let wanted = format!("\"name\": \"TooFar\",\n        \"number\": 39,\n        \"element\": 2,\n        \"text\": \"{wanted}\"");
+    assert!(json.contains(&wanted), "{json}");
+}
+
+#[test]
 fn what_is_no_fault_is_noted() {
     let text = "1400h Record\n1 U8 = 5\n2 U16 = 10h\n1600h Array\n1 6000h at 0 length 1\n2 6000h at 0 length 1\n\
                 6000h Variable U8\n";
