@@ -3,7 +3,7 @@
 use crate::args::Check;
 use crate::console::Console;
 use crate::drawing;
-use crate::explain::{Element, Mapped};
+use crate::explain::{first_stop, Element, Mapped};
 use crate::failure::{Failure, Status};
 use crate::faults;
 use crate::json::Json;
@@ -73,7 +73,7 @@ fn text(
 
 fn explanation(rig: &Rig, channel: &Channel, out: &mut dyn Write) -> Result<(), Failure> {
     let drawing = drawing::draw(rig, &channel.elements);
-    let stop = channel.elements.iter().find(|element| element.stops()).map(|one| one.number);
+    let stop = first_stop(&channel.elements);
     let words: Vec<String> =
         channel.elements.iter().map(|element| element_words(rig, element, stop)).collect();
     if !drawing.is_empty() {
@@ -88,19 +88,14 @@ fn explanation(rig: &Rig, channel: &Channel, out: &mut dyn Write) -> Result<(), 
 /// What becomes of an element; `stop` is the one at which every payload stops.
 fn element_words(rig: &Rig, element: &Element, stop: Option<u8>) -> String {
     match (element.fault, &element.mapped) {
-        (Some(fault), _) => faults::of_element(rig, element, fault),
+        (Some(fault), _) => faults::of_element(rig, element, fault, stop),
         (None, Some(mapped)) => format!(
             "element {} maps {} onto {}, {}: {}",
             element.number,
             words::bytes(mapped.length()),
             named_place(rig, mapped.entry.index, mapped.entry.sub_index),
             target_words(mapped.target),
-            match stop {
-                Some(stop) if stop < element.number =>
-                    format!("never reached, since every payload stops at element {stop}"),
-                Some(stop) if stop == element.number => "every payload stops there".to_string(),
-                _ => "whole".to_string(),
-            }
+            faults::unreached(element, stop).unwrap_or_else(|| "whole".to_string())
         ),
         (None, None) => format!("element {} maps nothing", element.number),
     }

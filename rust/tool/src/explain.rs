@@ -44,6 +44,11 @@ impl Element {
     }
 }
 
+/// The first element at which every payload stops, or none.
+pub fn first_stop(elements: &[Element]) -> Option<u8> {
+    elements.iter().find(|element| element.stops()).map(|element| element.number)
+}
+
 /// What a mapping word says. The field and its end are kept, since asking for them calls the library each time.
 #[derive(Clone, Debug)]
 pub struct Mapped {

@@ -1,6 +1,6 @@
 //! What is no fault of a rig, and still worth knowing.
 
-use crate::explain::Element;
+use crate::explain::{first_stop, Element};
 use crate::rig::{Place, Rig};
 use crate::words::{named_place, place, type_with_article};
 use loomfinch::ValueType;
@@ -40,8 +40,10 @@ fn notes_every_node(rig: &Rig, index: u16) -> bool {
 /// twice, each element with the first before it.
 pub fn of_channel(rig: &Rig, channel: u8, elements: &[Element]) -> Vec<String> {
     let mut notes: Vec<String> = unread_version(rig, channel).into_iter().collect();
+    let stop = first_stop(elements);
     for (k, later) in elements.iter().enumerate() {
-        notes.extend(own_record(rig, channel, later));
+        let reached = stop.map_or(true, |stop| later.number < stop);
+        notes.extend(own_record(rig, channel, later).filter(|_| reached));
         let earlier = &elements[..k];
         let with = |one: &Element| {
             format!("channel {}: elements {} and {}", channel, one.number, later.number)
@@ -51,7 +53,7 @@ pub fn of_channel(rig: &Rig, channel: u8, elements: &[Element]) -> Vec<String> {
             notes.push(format!("{} share {}", with(one), bytes));
         }
         let twice = earlier.iter().find_map(|one| Some((one, same_target(one, later)?)));
-        if let Some((one, (index, sub_index))) = twice {
+        if let Some((one, (index, sub_index))) = twice.filter(|_| reached) {
             let at = named_place(rig, index, sub_index);
             notes.push(format!("{} both map onto {}: the later one stands", with(one), at));
         }

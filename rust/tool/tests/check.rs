@@ -156,7 +156,14 @@ fn what_no_payload_reaches_is_drawn_so() {
     assert!(short.out.contains(wanted), "{}", short.out);
     let text = "1400h Record\n1 U8 = 5\n1600h Array\n1 6000h at 1490 length 1\n6000h Variable U8\n";
     let far = run(&["check", "--explain", &file("far.rig", text.as_bytes())]);
-    assert!(far.out.contains("an Unsigned8 of 1 byte: every payload stops there\n"), "{}", far.out);
+    assert!(
+        far.out.contains(
+            "an Unsigned8 of 1 byte: it needs a payload of 1491 bytes, and none has more than 1490: every payload stops \
+             there\n"
+        ),
+        "{}",
+        far.out
+    );
     assert!(far.out.contains("x lost\n"), "{}", far.out);
 }
 
@@ -175,6 +182,32 @@ fn too_far_names_the_first_element_that_is() {
     let json = run(&["check", "--json", &path]).out;
     let wanted = format!("\"name\": \"TooFar\",\n        \"number\": 39,\n        \"element\": 2,\n        \"text\": \"{wanted}\"");
     assert!(json.contains(&wanted), "{json}");
+}
+
+#[test]
+fn what_is_never_reached_is_told_so() {
+    let text = "1400h Record\n1 U8 = 5\n1600h Array\n1 6000h at 0 length 1\n2 6000h at 1489 length 2\n\
+                3 6001h at 0 length 1\n4 6003h at 0 length 1\n5 6002h at 0 length 3\n6 6004h at 0 length 1\n\
+                7 6000h at 0 bits length 3 bits\n8 6000h at 0 length 1\n6000h Variable U8\n6001h Variable U16\n\
+                6002h Variable VisibleString room 2\n";
+    let run = run(&["check", "--explain", &file("unreached.rig", text.as_bytes())]);
+    let behind = "never reached, since every payload stops at element 2";
+    for wanted in [
+        "element 2 maps 2 bytes onto 6000h/0, an Unsigned8 of 1 byte: it needs a payload of 1491 bytes, and none has \
+         more than 1490: every payload stops there",
+        &format!("element 3 maps 1 byte onto 6001h/0, an Unsigned16 of 2 bytes: {behind}"),
+        &format!("element 4 maps onto 6003h/0, and there is no object 6003h: {behind}"),
+        &format!("element 5 maps 3 bytes onto 6002h/0, a VisibleString with room for 2 bytes: {behind}"),
+        &format!("element 7 maps 3 bits from bit 0 on onto 6000h/0: {behind}"),
+        &format!("element 8 maps 1 byte onto 6000h/0, an Unsigned8 of 1 byte: {behind}"),
+    ] {
+        assert!(run.out.contains(&format!("\n    {wanted}\n")), "{wanted}\n{}", run.out);
+    }
+    for false_words in
+        ["the later one stands", "passed over", "nothing would be written", "lost\n    e"]
+    {
+        assert!(!run.out.contains(false_words), "{false_words}\n{}", run.out);
+    }
 }
 
 #[test]
