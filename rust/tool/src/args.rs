@@ -24,6 +24,8 @@ pub struct Check {
     pub rig: Named,
     pub json: bool,
     pub explain: bool,
+    /// Notes count as faults.
+    pub strict: bool,
 }
 
 pub struct Consume {
@@ -82,14 +84,16 @@ fn help_on(command: Option<&OsString>) -> Result<Command, String> {
 }
 
 fn check(arguments: Vec<OsString>) -> Result<Command, String> {
-    let known = Known { flags: &["--json", "--explain"], settings: &[] };
+    let known = Known { flags: &["--json", "--explain", "--strict"], settings: &[] };
     let mut given = Given::split("check", arguments, known)?;
     if given.help {
         return Ok(Command::Help(help::CHECK));
     }
     let rig = given.file("the rig file")?;
     given.no_more()?;
-    Ok(Command::Check(Check { rig, json: given.has("--json"), explain: given.has("--explain") }))
+    let (json, explain, strict) =
+        (given.has("--json"), given.has("--explain"), given.has("--strict"));
+    Ok(Command::Check(Check { rig, json, explain, strict }))
 }
 
 fn consume(arguments: Vec<OsString>) -> Result<Command, String> {

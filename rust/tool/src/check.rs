@@ -7,7 +7,7 @@ use crate::explain::{first_stop, Element, Mapped};
 use crate::failure::{Failure, Status};
 use crate::faults;
 use crate::json::Json;
-use crate::notes;
+use crate::notes::{self, Note, Receiving};
 use crate::rig::Rig;
 use crate::words::{self, named_place};
 use loomfinch::{Checked, Target};
@@ -31,13 +31,18 @@ pub fn run(options: &Check, console: &mut Console, out: &mut dyn Write) -> Resul
             Channel { number, checked, elements, sentence }
         })
         .collect();
+    let notes = all_notes(&console.rig, &channels);
     if options.json {
         let file = options.rig.path.to_string_lossy();
-        writeln!(out, "{}", json(&file, &console.rig, &channels, options.explain))?;
+        writeln!(out, "{}", json(&file, &console.rig, &channels, &notes, options.explain))?;
     } else {
         text(&console.rig, &channels, options.explain, out)?;
+        for note in &notes {
+            writeln!(out, "note: {}", note.text)?;
+        }
     }
-    let clean = channels.iter().all(|channel| channel.checked.is_pass());
+    let passed = channels.iter().all(|channel| channel.checked.is_pass());
+    let clean = passed && (notes.is_empty() || !options.strict);
     Ok(if clean { Status::Clean } else { Status::Faults })
 }
 
@@ -64,9 +69,6 @@ fn text(
         if explain {
             explanation(rig, channel, out)?;
         }
-    }
-    for note in all_notes(rig, channels) {
-        writeln!(out, "note: {note}")?;
     }
     Ok(())
 }
@@ -123,23 +125,28 @@ fn sender_words(rig: &Rig, channel: &Channel) -> String {
     sender(rig, channel).map_or("no node".to_string(), words::node)
 }
 
-/// What is no fault, of the channels and of the rig.
-fn all_notes(rig: &Rig, channels: &[Channel]) -> Vec<String> {
+/// What is no fault, of each channel, of several channels and of the rig.
+fn all_notes(rig: &Rig, channels: &[Channel]) -> Vec<Note> {
     let of_channel = |channel: &Channel| notes::of_channel(rig, channel.number, &channel.elements);
-    channels.iter().flat_map(of_channel).chain(notes::of_rig(rig)).collect()
+    let receiving: Vec<Receiving> = channels
+        .iter()
+        .filter_map(|channel| {
+            let sender = sender(rig, channel)?;
+            Some(Receiving { channel: channel.number, sender, elements: &channel.elements })
+        })
+        .collect();
+    let several = notes::of_channels(rig, &receiving);
+    channels.iter().flat_map(of_channel).chain(several).chain(notes::of_rig(rig)).collect()
 }
 
-fn json(file: &str, rig: &Rig, channels: &[Channel], explain: bool) -> Json {
+fn json(file: &str, rig: &Rig, channels: &[Channel], notes: &[Note], explain: bool) -> Json {
+    let channel = |channel: &Channel| channel_json(rig, channel, explain);
     Json::Object(vec![
         ("rig", Json::text(file)),
         ("pass", Json::Bool(channels.iter().all(|channel| channel.checked.is_pass()))),
-        (
-            "channels",
-            Json::List(
-                channels.iter().map(|channel| channel_json(rig, channel, explain)).collect(),
-            ),
-        ),
-        ("notes", Json::List(all_notes(rig, channels).into_iter().map(Json::Text).collect())),
+        ("channels", Json::List(channels.iter().map(channel).collect())),
+        ("notes", Json::List(notes.iter().map(|note| Json::text(note.text.as_str())).collect())),
+        ("noted", Json::List(notes.iter().map(Note::json).collect())),
     ])
 }
 

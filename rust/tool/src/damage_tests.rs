@@ -71,7 +71,7 @@ fn use_rig(text: &[u8]) -> bool {
     let mut out = Vec::new();
     for json in [false, true] {
         let rig = crate::args::Named { path: "x".into(), shown: "x".to_string() };
-        let options = crate::args::Check { rig, json, explain: true };
+        let options = crate::args::Check { rig, json, explain: true, strict: false };
         assert!(check::run(&options, &mut console, &mut out).is_ok());
     }
     assert!(!out.is_empty());

@@ -33,7 +33,7 @@ not be understood, or the output not be written.
 ";
 
 pub const CHECK: &str = "\
-loomfinch check RIG [--explain] [--json]
+loomfinch check RIG [--explain] [--json] [--strict]
 
 Checks every channel of a rig: is each mapped field written whole, by every
 payload that the channel accepts? Each channel has a line: who sends, how many
@@ -42,6 +42,8 @@ elements its mapping has, and 'pass' or what is wrong, in words.
   --explain   draws the payload of each channel: which bytes go to which
               object, where fields overlap, what is lost
   --json      writes one JSON object for programs (docs/TOOL.md has its shape)
+  --strict    lets notes count: they are no faults, as two channels that write
+              one object, and change the exit status only so
 
 Example:
 
@@ -52,8 +54,8 @@ Example:
 
 So a ramp of 90000 ms would be stored as 24464 ms.
 
-Exit status: 0 all channels pass, 1 some channel has a fault, 2 the command or
-the rig file could not be understood.
+Exit status: 0 all channels pass, 1 some channel has a fault or, with --strict,
+there is a note, 2 the command or the rig file could not be understood.
 ";
 
 pub const CONSUME: &str = "\

@@ -24,7 +24,7 @@ fn the_mended_ramp_passes() {
 fn every_fault_has_its_sentence() {
     let run = run(&["check", &rig("faults.rig")]);
     assert_eq!(run.status, 1);
-    let lines: Vec<&str> = run.out.lines().collect();
+    let lines: Vec<&str> = run.out.lines().filter(|line| !line.starts_with("note: ")).collect();
     let wanted = [
         "channel 0, from node 1, 2 elements: pass",
         "channel 1, from no node, 1 element: FAULT: no sender: channel 0 takes node 1 before it",
@@ -92,7 +92,8 @@ fn the_json_of_the_ramp() {
       }
     }
   ],
-  "notes": []
+  "notes": [],
+  "noted": []
 }
 "#;
     assert!(run.out.ends_with(wanted), "{}", run.out);
@@ -231,6 +232,50 @@ fn a_channel_that_maps_onto_itself_is_noted() {
 note: channel 1: element 1 maps onto 1401h/1, a record of the channel itself: a payload may change what the next ones do
 ";
     assert_eq!((run.status, run.out.as_str()), (0, wanted));
+}
+
+/// Two drives write one move time, the second also what a payload should not.
+const TWO_CHANNELS: &str = "1400h Record\n1 U8 = 5\n1600h Array\n1 6000h at 0 length 2\n1401h Record\n1 U8 = 7\n1601h Array\n\
+                            1 6001h at 0 length 1\n2 6000h at 1 length 2\n3 1010h/1 at 3 length 1\n4 6002h at 4 length 1\n\
+                            1402h Record\n1 U8 = 7\n1602h Array\n1 6000h at 0 length 2\n1010h Array\n1 U8\n\
+                            6000h Variable U16 \"Move\"\n6001h Variable U8 ro\n6002h Variable U8 const\n";
+
+#[test]
+fn what_two_channels_write_is_noted() {
+    let path = file("two.rig", TWO_CHANNELS.replace("1402h", "1502h").as_bytes());
+    let found = run(&["check", &path]);
+    let wanted = r#"channel 0, from node 5, 1 element: pass
+channel 1, from node 7, 4 elements: pass
+note: channel 1: element 1 maps onto 6001h/0, which is ReadOnly: payloads change it all the same
+note: channel 1: element 3 maps onto 1010h/1, which takes a plain value from a payload: nothing is saved
+note: channel 1: element 4 maps onto 6002h/0, which is Constant: payloads change it all the same
+note: channels 0 and 1 both map onto 6000h/0 "Move" (elements 1 and 2): of node 5 and node 7 the last to arrive stands
+note: nothing uses the mapping 1602h: there is no 1402h that names its sender
+"#;
+    assert_eq!((found.status, found.out.as_str()), (0, wanted));
+    assert_eq!(run(&["check", "--strict", &path]).status, 1);
+    assert_eq!(run(&["check", "--strict", &rig("mended.rig")]).status, 0);
+    let json = run(&["check", "--json", &path]).out;
+    let wanted = r#"    {
+      "kind": "TwoChannels",
+      "channel": 1,
+      "element": 2,
+      "other": {
+        "channel": 0,
+        "element": 1
+      },
+      "text": "channels 0 and 1 both map onto 6000h/0 \"Move\" (elements 1 and 2): of node 5 and node 7 the last to arrive stands"
+    },
+"#;
+    assert!(json.contains(wanted), "{json}");
+    assert!(json.contains("\"kind\": \"StoreTarget\""), "{json}");
+}
+
+#[test]
+fn a_channel_that_takes_no_payload_writes_nothing() {
+    let run = run(&["check", &file("untaken.rig", TWO_CHANNELS.as_bytes())]);
+    assert!(!run.out.contains("channels 0 and 2"), "{}", run.out);
+    assert!(!run.out.contains("channels 1 and 2"), "{}", run.out);
 }
 
 #[test]
