@@ -1,6 +1,7 @@
 //! The command line.
 
 use crate::help;
+use crate::quoting;
 use crate::rig::{hex_bytes, numbers};
 use crate::words::Style;
 use std::ffi::OsString;
@@ -64,8 +65,8 @@ pub fn parse(arguments: Vec<OsString>) -> Result<Command, String> {
         Some("consume") => consume(rest),
         Some("replay") => replay(rest),
         _ => Err(format!(
-            "there is no command '{}'.\n{}",
-            first.to_string_lossy().escape_debug(),
+            "there is no command {}.\n{}",
+            quoting::word(&first.to_string_lossy()),
             help::MORE
         )),
     }
@@ -78,7 +79,7 @@ fn help_on(command: Option<&OsString>) -> Result<Command, String> {
         Some("consume") => Ok(Command::Help(help::CONSUME)),
         Some("replay") => Ok(Command::Help(help::REPLAY)),
         Some(other) => {
-            Err(format!("there is no command '{}'.\n{}", other.escape_debug(), help::MORE))
+            Err(format!("there is no command {}.\n{}", quoting::word(other), help::MORE))
         }
     }
 }
@@ -132,12 +133,6 @@ fn replay(arguments: Vec<OsString>) -> Result<Command, String> {
     let node = given.byte("--node", 1)?;
     let (quiet, style) = (given.has("--quiet"), given.style());
     Ok(Command::Replay(Replay { rig, capture, node, quiet, style }))
-}
-
-/// A name without the control characters that a terminal would obey.
-fn printable(name: &str) -> String {
-    let shown = |c: char| if c.is_control() { c.escape_debug().to_string() } else { c.to_string() };
-    name.chars().map(shown).collect()
 }
 
 /// A command's arguments, options apart from the others.
@@ -196,7 +191,7 @@ impl Given {
             let value = value.ok_or_else(missing)?;
             self.settings.push((name.to_string(), value));
         } else {
-            return Err(self.wrong(&format!("there is no option '{}'", text.escape_debug())));
+            return Err(self.wrong(&format!("there is no option {}", quoting::word(text))));
         }
         Ok(())
     }
@@ -218,7 +213,7 @@ impl Given {
             return Err(self.wrong(&format!("{what} is missing")));
         }
         let word = self.words.remove(0);
-        let shown = printable(&word.to_string_lossy());
+        let shown = quoting::printable(&word.to_string_lossy());
         Ok(Named { path: PathBuf::from(word), shown })
     }
 
@@ -227,7 +222,7 @@ impl Given {
             None => Ok(()),
             Some(word) => {
                 let text =
-                    format!("'{}' is one argument too many", word.to_string_lossy().escape_debug());
+                    format!("{} is one argument too many", quoting::word(&word.to_string_lossy()));
                 Err(self.wrong(&text))
             }
         }
@@ -243,10 +238,10 @@ impl Given {
             Some(number) if number >= least => Ok(Some(number)),
             _ => {
                 let text = format!(
-                    "{} needs a number from {} to 255, as 16, 10h or 0x10, not '{}'",
+                    "{} needs a number from {} to 255, as 16, 10h or 0x10, not {}",
                     name,
                     least,
-                    value.escape_debug()
+                    quoting::word(value)
                 );
                 Err(self.wrong(&text))
             }
@@ -259,8 +254,8 @@ impl Given {
         let bytes: Option<Vec<Vec<u8>>> = groups.map(hex_bytes).collect();
         bytes.map(|bytes| bytes.concat()).ok_or_else(|| {
             let text = format!(
-                "a payload is pairs of hexadecimal digits, as in C40910270000, not '{}'",
-                text.escape_debug()
+                "a payload is pairs of hexadecimal digits, as in C40910270000, not {}",
+                quoting::word(&text)
             );
             self.wrong(&text)
         })

@@ -17,6 +17,7 @@ mod json;
 mod memory;
 mod notes;
 mod progress;
+mod quoting;
 mod reasons;
 mod replay;
 mod report;

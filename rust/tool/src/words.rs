@@ -1,5 +1,6 @@
 //! Plain words: numbers, places, types and values as a person reads them.
 
+use crate::quoting;
 use crate::rig::{is_unsigned, little_endian, Kind, Rig, Value};
 use loomfinch::{PdoMappingEntry, ValueType};
 
@@ -40,7 +41,7 @@ pub fn place(index: u16, sub_index: u8) -> String {
 pub fn named_place(rig: &Rig, index: u16, sub_index: u8) -> String {
     match rig.name(index) {
         "" => place(index, sub_index),
-        name => format!("{} \"{}\"", place(index, sub_index), name.escape_debug()),
+        name => format!("{} {}", place(index, sub_index), quoting::text(name)),
     }
 }
 
@@ -75,8 +76,8 @@ pub fn as_type(of: ValueType, bytes: &[u8], milliseconds: bool, style: Style) ->
         Integer8 | Integer16 | Integer32 | Integer64 => signed(number, bytes.len()).to_string(),
         Real32 => f32::from_bits(number as u32).to_string(),
         Real64 => f64::from_bits(number).to_string(),
-        VisibleString => format!("\"{}\"", String::from_utf8_lossy(bytes).escape_debug()),
-        UnicodeString => format!("\"{}\"", String::from_utf16_lossy(&units(bytes)).escape_debug()),
+        VisibleString => quoting::text(&String::from_utf8_lossy(bytes)),
+        UnicodeString => quoting::text(&String::from_utf16_lossy(&units(bytes))),
         OctetString | Domain => format!("[{}]", hex(bytes)),
         TimeOfDay | TimeDifference => format!("{} ms {} days", number as u32, number >> 32),
         NetTime => format!("{} s {} ns", number as u32, number >> 32),

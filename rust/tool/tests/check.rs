@@ -101,6 +101,17 @@ fn the_json_of_the_ramp() {
 }
 
 #[test]
+fn names_are_shown_as_they_are_written() {
+    let text = "1400h Record\n1 U8 = 5\n1600h Array\n1 6000h at 0 length 4\n6000h Variable U16 \"Durée d'accélération\"\n";
+    let run = run(&["check", &file("apostrophe.rig", text.as_bytes())]);
+    assert!(
+        run.out.contains("onto 6000h/0 \"Durée d'accélération\", an Unsigned16"),
+        "{}",
+        run.out
+    );
+}
+
+#[test]
 fn the_drawing_shows_what_is_cut_and_shared() {
     let run = run(&["check", "--explain", &rig("ramp.rig")]);
     let wanted = r#"

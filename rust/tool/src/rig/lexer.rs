@@ -1,6 +1,7 @@
 //! A line of a rig file as tokens, each with the column where it begins.
 
 use super::problem::Problem;
+use crate::quoting;
 
 #[derive(Clone, Debug, PartialEq, Eq)]
 pub enum Token {
@@ -17,8 +18,8 @@ impl Token {
     /// The token as an error message quotes it.
     pub fn shown(&self) -> String {
         match self {
-            Token::Word(word) => format!("'{}'", word.escape_debug()),
-            Token::Text(text) => format!("the text \"{}\"", text.escape_debug()),
+            Token::Word(word) => quoting::word(word),
+            Token::Text(text) => format!("the text {}", quoting::text(text)),
             Token::Bytes(bytes) => format!("{} in brackets", crate::words::bytes(bytes.len())),
             Token::Equals => "'='".to_string(),
         }
@@ -145,8 +146,8 @@ impl<'a> Scanner<'a> {
             Some(more) => bytes.extend(more),
             None => {
                 let found = format!(
-                    "expected pairs of hexadecimal digits in brackets, as in [C4 09], found '{}'",
-                    word.escape_debug()
+                    "expected pairs of hexadecimal digits in brackets, as in [C4 09], found {}",
+                    quoting::word(word)
                 );
                 return Err(Problem::at(self.line, found));
             }
