@@ -159,7 +159,7 @@ uint64_t loomfinch_write(const uint64_t *objects, size_t objects_len, const uint
 
 /* May the first `count` elements of the mapping at an index be used? Answers 1; then 0 for a count of 0 or another index than a
  * mapping's; 3 where there is no Array; 10 where one of them is missing or no Unsigned64; 11 where one of them ends behind the
- * Unsigned16 at 1F98h/1 (1A00h..1AFFh) or 1F98h/2 (1600h..16FFh), or behind 1,490 bytes where there is none. */
+ * Unsigned16 at 1F98h/1 (1A00h..1AFFh) or 1F98h/2 (1600h..16FFh), or behind 1490 bytes where there is none. */
 uint64_t loomfinch_validate_pdo_mapping(const uint64_t *objects, size_t objects_len, const uint64_t *slots, size_t slots_len,
                                         const uint64_t *words, size_t words_len, const uint8_t *bytes, size_t bytes_len,
                                         uint16_t index, uint8_t count);
@@ -199,7 +199,7 @@ enum { LOOMFINCH_MOST_EVENTS = 254, LOOMFINCH_MOST_PAYLOADS = 1024, LOOMFINCH_MO
 
 /* Consumes a received payload: the first of the channels 0..255 whose record 1400h+i names the sender, its version, and then the
  * mapping words of 1600h+i, each field decoded and put at its target without an access test (docs/RULES.md 11). Ready: 0 is not
- * ready, and nothing happens; any other number is ready. Answers 1; 15 for fewer than 254 events; 14 for a payload over 1,490 bytes;
+ * ready, and nothing happens; any other number is ready. Answers 1; 15 for fewer than 254 events; 14 for a payload over 1490 bytes;
  * in this order.
  * Done: *count is the number of events, which lie from events[0] on, and those behind stay. A run that stops half-way is Done too:
  * the fields before the stop are put, and the last event says why it stopped. */
@@ -210,7 +210,7 @@ uint64_t loomfinch_consume_pdo_payload(const uint64_t *objects, size_t objects_l
 
 /* Consumes the payloads of a cycle, one after another; the dictionary is judged once. Each payload takes five numbers of `payloads`:
  * where it starts in `delivered`, its length, sender, version and ready. Answers 1; 2 where payloads_len is no multiple of 5 or above
- * 5 * 1,024, a payload does not lie within what was delivered, or a sender or version is above 255; 14 for a payload over 1,490 bytes;
+ * 5 * 1024, a payload does not lie within what was delivered, or a sender or version is above 255; 14 for a payload over 1490 bytes;
  * in this order, and before any payload is consumed.
  * Done: each payload was consumed as loomfinch_consume_pdo_payload would, on the dictionary that those before it left, up to the
  * first one, ready or not, that had fewer than 254 free events. *consumed is how many were, and *count the number of their events. */
@@ -235,7 +235,7 @@ enum {
     LOOMFINCH_NO_TARGET = 36,    /* its target is missing */
     LOOMFINCH_COUNT_TARGET = 37, /* its target is a list's count */
     LOOMFINCH_WRONG_LENGTH = 38, /* not the size of the target's type; of a string: over its room, or odd for a UnicodeString */
-    LOOMFINCH_TOO_FAR = 39       /* the elements reach past 1,490 bytes */
+    LOOMFINCH_TOO_FAR = 39       /* the elements reach past 1490 bytes */
 };
 
 /* Checks a channel, and changes nothing in the dictionary. Passes exactly when the channel maps at least one field, some payload can

@@ -85,7 +85,9 @@ fn help_on(command: Option<&OsString>) -> Result<Command, String> {
 }
 
 fn check(arguments: Vec<OsString>) -> Result<Command, String> {
-    let known = Known { flags: &["--json", "--explain", "--strict"], settings: &[] };
+    // The check shows no decimals, and takes the mark that every command takes.
+    let flags = &["--json", "--explain", "--strict", "--comma"];
+    let known = Known { flags, settings: &[] };
     let mut given = Given::split("check", arguments, known)?;
     if given.help {
         return Ok(Command::Help(help::CHECK));

@@ -33,7 +33,7 @@ not be understood, or the output not be written.
 ";
 
 pub const CHECK: &str = "\
-loomfinch check RIG [--explain] [--json] [--strict]
+loomfinch check RIG [--explain] [--json] [--strict] [--comma]
 
 Checks every channel of a rig: is each mapped field written whole, by every
 payload that the channel accepts? Each channel has a line: who sends, how many
@@ -42,6 +42,7 @@ elements its mapping has, and 'pass' or what is wrong, in words.
   --explain   draws the payload of each channel: which bytes go to which
               object, where fields overlap, what is lost
   --json      writes one JSON object for programs (docs/TOOL.md has its shape)
+  --comma     writes decimals with a comma, as in the other commands
   --strict    lets notes count: they are no faults, as two channels that write
               one object, and change the exit status only so
 
@@ -72,7 +73,7 @@ in 1C80h and 1C81h.
   --not-ready   the payloads come without the RD flag
   --times       show every Unsigned16 and Unsigned32 as a time in ms and s,
                 also where the rig file has no 'ms' beside it
-  --comma       write seconds with a comma: 2,500 s
+  --comma       write decimals with a comma: 2,500 s
 
 Numbers are decimal (16) or hexadecimal (10h, 0x10).
 
@@ -103,7 +104,7 @@ CAPTURE may be - for the standard input.
   --quiet       write the table alone
   --times       show every Unsigned16 and Unsigned32 as a time in ms and s,
                 also where the rig file has no 'ms' beside it
-  --comma       write seconds with a comma: 2,500 s
+  --comma       write decimals with a comma: 2,500 s
 
 Example:
 

@@ -129,7 +129,7 @@ impl Player<'_> {
 
     /// Seconds since the first packet.
     fn time(&self, packet: &Packet) -> String {
-        let mark = if self.options.style.comma { ',' } else { '.' };
+        let mark = self.options.style.mark();
         match (packet.time, self.first) {
             (Some(time), Some(first)) => {
                 let sign = if time < first { "-" } else { "" };

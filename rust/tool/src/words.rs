@@ -13,6 +13,22 @@ pub struct Style {
     pub comma: bool,
 }
 
+impl Style {
+    /// The decimal mark.
+    pub fn mark(self) -> char {
+        if self.comma {
+            ','
+        } else {
+            '.'
+        }
+    }
+
+    /// A number that is written with a point, with the decimal mark.
+    fn decimal(self, number: &str) -> String {
+        number.replace('.', &self.mark().to_string())
+    }
+}
+
 pub fn bytes(count: usize) -> String {
     counted(count, "byte")
 }
@@ -74,8 +90,8 @@ pub fn as_type(of: ValueType, bytes: &[u8], milliseconds: bool, style: Style) ->
     match of {
         _ if is_unsigned(of) && (milliseconds || timed) => time(number, style),
         Integer8 | Integer16 | Integer32 | Integer64 => signed(number, bytes.len()).to_string(),
-        Real32 => f32::from_bits(number as u32).to_string(),
-        Real64 => f64::from_bits(number).to_string(),
+        Real32 => style.decimal(&f32::from_bits(number as u32).to_string()),
+        Real64 => style.decimal(&f64::from_bits(number).to_string()),
         VisibleString => quoting::text(&String::from_utf8_lossy(bytes)),
         UnicodeString => quoting::text(&String::from_utf16_lossy(&units(bytes))),
         OctetString | Domain => format!("[{}]", hex(bytes)),
@@ -102,8 +118,8 @@ pub fn mapping(word: u64) -> String {
 
 /// `2500 ms = 2.500 s`.
 fn time(milliseconds: u64, style: Style) -> String {
-    let mark = if style.comma { ',' } else { '.' };
-    format!("{} ms = {}{}{:03} s", milliseconds, milliseconds / 1000, mark, milliseconds % 1000)
+    let (seconds, rest) = (milliseconds / 1000, milliseconds % 1000);
+    format!("{} ms = {}{}{:03} s", milliseconds, seconds, style.mark(), rest)
 }
 
 /// The number that so many bytes of two's complement say.
@@ -130,6 +146,16 @@ mod tests {
         assert_eq!(time(2500, Style::default()), "2500 ms = 2.500 s");
         assert_eq!(time(90_000, comma), "90000 ms = 90,000 s");
         assert_eq!(time(7, Style::default()), "7 ms = 0.007 s");
+    }
+
+    #[test]
+    fn reals_have_the_decimal_mark_too() {
+        let comma = Style { comma: true, ..Style::default() };
+        let half = (-2.5f64).to_le_bytes();
+        assert_eq!(as_type(ValueType::Real64, &half, false, Style::default()), "-2.5");
+        assert_eq!(as_type(ValueType::Real64, &half, false, comma), "-2,5");
+        assert_eq!(as_type(ValueType::Real32, &1.25f32.to_le_bytes(), false, comma), "1,25");
+        assert_eq!(as_type(ValueType::IpAddress, &[1, 2, 3, 4], false, comma), "1.2.3.4");
     }
 
     #[test]

@@ -122,6 +122,21 @@ fn times_and_decimal_marks_are_asked_for() {
 }
 
 #[test]
+fn the_decimal_comma_is_whole() {
+    let text =
+        "1400h Record\n1 U8 = 5\n1600h Array\n1 6000h at 0 length 4\n6000h Variable Real32 = 1.5\n";
+    let path = file("real.rig", text.as_bytes());
+    let arguments = ["consume", &path, "--from", "5", "--version", "0", "--comma", "000020C0"];
+    let real = run(&arguments);
+    assert!(real.out.contains("6000h/0: 1,5 -> -2,5\n"), "{}", real.out);
+    let long = "00".repeat(1491);
+    let refused = run(&["consume", &path, "--from", "5", "--version", "0", "--comma", &long]);
+    assert!(refused.out.contains("refused: PayloadTooLong"), "{}", refused.out);
+    assert!(!refused.out.contains("1,490"), "{}", refused.out);
+    assert_eq!(run(&["check", "--comma", &path]).status, 0);
+}
+
+#[test]
 fn a_wrong_version_is_noted() {
     let path = file("version.rig", CASES.as_bytes());
     let run =

@@ -18,7 +18,7 @@ impl Dictionary {
     ///
     /// A run that stops half-way is no refusal: the fields before the stop are written, and the last event says why.
     ///
-    /// Refuses with [`PayloadTooLong`](Refusal::PayloadTooLong) a payload over 1,490 bytes.
+    /// Refuses with [`PayloadTooLong`](Refusal::PayloadTooLong) a payload over 1490 bytes.
     pub fn consume_pdo_payload(
         &mut self,
         source_node_id: NodeId,
@@ -43,8 +43,8 @@ impl Dictionary {
     /// Consumes the payloads of a cycle, one after another, each as
     /// [`consume_pdo_payload`](Dictionary::consume_pdo_payload) would; the dictionary is judged once.
     ///
-    /// Refuses, before any is consumed, with [`BadValue`](Refusal::BadValue) more than 1,024 payloads and one that does
-    /// not lie within what was delivered, and with [`PayloadTooLong`](Refusal::PayloadTooLong) one over 1,490 bytes.
+    /// Refuses, before any is consumed, with [`BadValue`](Refusal::BadValue) more than 1024 payloads and one that does
+    /// not lie within what was delivered, and with [`PayloadTooLong`](Refusal::PayloadTooLong) one over 1490 bytes.
     pub fn consume_cycle(
         &mut self,
         delivered: &[u8],

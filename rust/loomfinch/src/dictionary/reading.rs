@@ -140,7 +140,7 @@ impl Dictionary {
     /// Refuses, in this order, with [`ObjectNotFound`](Refusal::ObjectNotFound) where no Array is there, with
     /// [`MissingEntries`](Refusal::MissingEntries) where one of them is missing or no Unsigned64, and with
     /// [`PdoMapOverrun`](Refusal::PdoMapOverrun) where one ends behind the limit that 1F98h has for payloads, or behind
-    /// 1,490 bytes where it has none.
+    /// 1490 bytes where it has none.
     pub fn validate_pdo_mapping(&self, index: u16, count: u8) -> Result<(), Refusal> {
         done(sys::validate_pdo_mapping(&self.parts, index, count))
     }
