@@ -23,6 +23,7 @@ pub enum Frame<'a> {
     /// A poll frame whose size goes past its end, or that ends inside its head.
     Cut {
         request: bool,
+        destination: Option<u8>,
         sender: Option<u8>,
         said: Option<usize>,
         there: usize,
@@ -73,9 +74,10 @@ fn message(bytes: &[u8]) -> Frame<'_> {
         return Frame::Message(kind);
     }
     let sender = if request { Some(MANAGING_NODE) } else { bytes.get(2).copied() };
+    let destination = bytes.get(1).copied();
     let there = bytes.len().saturating_sub(HEAD);
     if bytes.len() < HEAD {
-        return Frame::Cut { request, sender, said: None, there: bytes.len() };
+        return Frame::Cut { request, destination, sender, said: None, there: bytes.len() };
     }
     let said = usize::from(u16::from_le_bytes([bytes[8], bytes[9]]));
     match bytes.get(HEAD..HEAD + said) {
@@ -87,7 +89,7 @@ fn message(bytes: &[u8]) -> Frame<'_> {
             ready: bytes[4] & READY != 0,
             payload,
         }),
-        None => Frame::Cut { request, sender, said: Some(said), there },
+        None => Frame::Cut { request, destination, sender, said: Some(said), there },
     }
 }
 
@@ -155,9 +157,10 @@ mod tests {
     fn what_is_cut_or_foreign() {
         let mut long = RESPONSE;
         long[8] = 4;
-        let cut = Frame::Cut { request: false, sender: Some(5), said: Some(4), there: 3 };
+        let (request, destination, sender) = (false, Some(255), Some(5));
+        let cut = Frame::Cut { request, destination, sender, said: Some(4), there: 3 };
         assert_eq!(dissect(&frame(&[], &long)), cut);
-        let head = Frame::Cut { request: false, sender: Some(5), said: None, there: 9 };
+        let head = Frame::Cut { request, destination, sender, said: None, there: 9 };
         assert_eq!(dissect(&frame(&[], &RESPONSE[..9])), head);
         assert_eq!(dissect(&frame(&[], &[0x01, 255, 240])), Frame::Message(1));
         assert_eq!(dissect(&frame(&[0x08, 0x00], &RESPONSE)), Frame::Foreign(0x0800));

@@ -100,7 +100,9 @@ had each kind of trouble, and the first of each, a CUT before all others.
 CAPTURE may be - for the standard input.
 
   --node N      the console's own node: requests of the managing node (PReq)
-                to other nodes are left out
+                to other nodes are left out, and node N's own responses.
+                Without it, PReqs are left out where they go to several nodes,
+                and where the capture comes through a pipe
   --quiet       write the table alone
   --times       show every Unsigned16 and Unsigned32 as a time in ms and s,
                 also where the rig file has no 'ms' beside it

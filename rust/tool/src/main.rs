@@ -21,6 +21,7 @@ mod quoting;
 mod reasons;
 mod replay;
 mod report;
+mod requests;
 mod rig;
 mod table;
 mod trouble;

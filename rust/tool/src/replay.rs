@@ -7,10 +7,11 @@ use crate::consume::give;
 use crate::failure::{Failure, Status};
 use crate::frame::{self, Frame, Poll};
 use crate::progress::Progress;
+use crate::requests::{self, Requests};
 use crate::table::Table;
 use crate::words;
 use std::collections::BTreeSet;
-use std::fs::File;
+use std::fs::{self, File};
 use std::io::{self, BufReader, Read, Write};
 
 pub fn run(
@@ -19,6 +20,7 @@ pub fn run(
     out: &mut dyn Write,
 ) -> Result<Status, Failure> {
     let (reader, size) = open(options)?;
+    let requests = requests(options)?;
     let damaged = |damage: Damage| {
         Failure::Message(format!(
             "{}: byte {}: {}",
@@ -26,8 +28,8 @@ pub fn run(
         ))
     };
     let mut capture = Capture::open(reader).map_err(damaged)?;
-    let mut player =
-        Player { options, console, table: Table::default(), first: None, asked: BTreeSet::new() };
+    let (table, first, asked) = (Table::default(), None, BTreeSet::new());
+    let mut player = Player { options, console, table, requests, first, asked };
     let mut progress = Progress::new(size, options.quiet);
     let ended = loop {
         match capture.next_packet() {
@@ -55,10 +57,25 @@ fn open(options: &Replay) -> Result<(Box<dyn Read>, u64), Failure> {
     Ok((Box::new(BufReader::with_capacity(1 << 16, file)), size))
 }
 
+/// The poll requests that are for the rig; a capture that is a file is read for it.
+fn requests(options: &Replay) -> Result<Requests, Failure> {
+    let path = &options.capture.path;
+    let failed = |error| Failure::Message(format!("{}: {}", options.capture.shown, error));
+    if let Some(node) = options.node {
+        return Ok(Requests::To(node));
+    }
+    if options.capture.shown == "-" || !fs::metadata(path).map_err(failed)?.is_file() {
+        return Ok(Requests::ReadOnce);
+    }
+    let file = File::open(path).map_err(failed)?;
+    Ok(Requests::of_capture(Box::new(BufReader::with_capacity(1 << 16, file))))
+}
+
 struct Player<'a> {
     options: &'a Replay,
     console: &'a mut Console,
     table: Table,
+    requests: Requests,
     /// When the first packet was captured.
     first: Option<i128>,
     /// The nodes that poll requests were addressed to.
@@ -72,9 +89,13 @@ impl Player<'_> {
             self.table.other("not Ethernet".to_string());
             return Ok(());
         }
-        match frame::dissect(&packet.bytes) {
+        let frame = frame::dissect(&packet.bytes);
+        if let Some(why) = self.left_out(&frame) {
+            return self.count(why);
+        }
+        match frame {
             Frame::Poll(poll) => self.poll(packet, &poll, out),
-            Frame::Cut { request, sender, said, there } => {
+            Frame::Cut { request, sender, said, there, .. } => {
                 let why = cut(packet, said, there);
                 self.table.damaged(sender, packet.number, &why);
                 let from = sender.map_or("an unknown node".to_string(), words::node);
@@ -92,13 +113,27 @@ impl Player<'_> {
         Ok(())
     }
 
-    fn poll(&mut self, packet: &Packet, poll: &Poll, out: &mut dyn Write) -> io::Result<()> {
-        if poll.request {
-            self.asked.insert(poll.destination);
-            if self.options.node.map_or(false, |node| node != poll.destination) {
-                return self.count("PReq to other nodes".to_string());
-            }
+    /// Why a poll frame is not for the rig: a request to another node, or the rig's own response.
+    fn left_out(&mut self, frame: &Frame) -> Option<String> {
+        let (request, sender) = match frame {
+            Frame::Poll(poll) => (poll.request, Some(poll.sender)),
+            Frame::Cut { request, sender, .. } => (*request, *sender),
+            _ => return None,
+        };
+        if !request {
+            let own = |node: &u8| sender == Some(*node);
+            return self.options.node.filter(own).map(|node| format!("PRes of node {node} itself"));
         }
+        let destination = requests::destination(frame);
+        self.asked.extend(destination);
+        match self.requests {
+            requests if requests.take(destination) => None,
+            Requests::To(_) => Some("PReq to other nodes".to_string()),
+            _ => Some("PReq".to_string()),
+        }
+    }
+
+    fn poll(&mut self, packet: &Packet, poll: &Poll, out: &mut dyn Write) -> io::Result<()> {
         let Poll { sender, version, ready, payload, .. } = *poll;
         let told =
             give(self.console, Received { sender, version, ready, payload }, self.options.style);
@@ -145,15 +180,10 @@ impl Player<'_> {
             writeln!(out)?;
         }
         self.table.write(&self.console.rig, out)?;
-        if self.options.node.is_none() && self.asked.len() > 1 {
-            let nodes: Vec<String> = self.asked.iter().map(u8::to_string).collect();
-            writeln!(
-                out,
-                "note: PReq frames went to nodes {}; --node N takes those to N alone",
-                nodes.join(", ")
-            )?;
+        match self.requests.note(&self.asked) {
+            Some(note) => writeln!(out, "note: {note}"),
+            None => Ok(()),
         }
-        Ok(())
     }
 }
 

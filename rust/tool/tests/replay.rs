@@ -240,20 +240,54 @@ fn requests_come_from_the_managing_node() {
     let capture =
         file("request.pcap", &pcap(false, false, &[request(1, 0, &[7]), request(2, 0, &[8])]));
     let all = run(&["replay", &rig, &capture]);
-    assert!(
-        all.out.contains("PReq from the managing node (240), version 00h, 1 byte"),
-        "{}",
-        all.out
-    );
-    assert!(all.out.contains("6000h/0: 7 -> 8"), "{}", all.out);
-    assert!(
-        all.out.contains("note: PReq frames went to nodes 1, 2; --node N takes those to N alone"),
-        "{}",
-        all.out
-    );
+    assert!(!all.out.contains("6000h/0"), "{}", all.out);
+    let note = "note: PReq frames went to nodes 1, 2 and were left out: --node N says which of them the rig is\n";
+    assert!(all.out.starts_with("other frames: 2 PReq\n"), "{}", all.out);
+    assert!(all.out.ends_with(note), "{}", all.out);
     let one = run(&["replay", &rig, &capture, "--node", "2"]);
-    assert!(one.out.contains("6000h/0: 0 -> 8"), "{}", one.out);
+    assert!(
+        one.out.contains(
+            "PReq from the managing node (240), version 00h, 1 byte\n    6000h/0: 0 -> 8\n"
+        ),
+        "{}",
+        one.out
+    );
     assert!(one.out.contains("other frames: 1 PReq to other nodes\n"), "{}", one.out);
+    assert!(!one.out.contains("note:"), "{}", one.out);
+    let single = pcap(false, false, &[request(1, 0, &[7]), request(1, 0, &[8])]);
+    let single = run(&["replay", &rig, &file("single.pcap", &single)]);
+    assert!(single.out.contains("6000h/0: 7 -> 8\n"), "{}", single.out);
+}
+
+#[test]
+fn a_node_does_not_hear_itself() {
+    let text = "1400h Record\n1 U8 = 5\n1600h Array\n1 6000h at 0 length 1\n6000h Variable U8\n";
+    let rig = file("own.rig", text.as_bytes());
+    let frames = [response(5, 0, &[7]), response(6, 0, &[8]), request(5, 0, &[])];
+    let capture = file("own.pcap", &pcap(false, false, &frames));
+    let run = run(&["replay", &rig, &capture, "--node", "5", "--quiet"]);
+    assert!(run.out.contains("other frames: 1 PRes of node 5 itself\n"), "{}", run.out);
+    assert!(!run.out.contains("\n     5 "), "{}", run.out);
+}
+
+#[test]
+fn requests_through_a_pipe_need_the_node() {
+    let text = "1400h Record\n1 U8 = 0\n1600h Array\n1 6000h at 0 length 1\n6000h Variable U8\n";
+    let rig = file("pipe.rig", text.as_bytes());
+    let capture = file("pipe.pcap", &pcap(false, false, &[request(1, 0, &[7])]));
+    let replay = |options: &[&str]| {
+        let output = Command::new(env!("CARGO_BIN_EXE_loomfinch"))
+            .args(["replay", &rig, "-"])
+            .args(options)
+            .stdin(std::fs::File::open(&capture).unwrap())
+            .output();
+        String::from_utf8_lossy(&output.unwrap().stdout).into_owned()
+    };
+    let note = "note: PReq frames went to node 1 and were left out, since a pipe does not say beforehand where they go";
+    let all = replay(&[]);
+    assert!(all.contains(note) && !all.contains("6000h/0"), "{all}");
+    let one = replay(&["--node", "1"]);
+    assert!(one.contains("6000h/0: 0 -> 7\n") && !one.contains("note:"), "{one}");
 }
 
 #[test]
