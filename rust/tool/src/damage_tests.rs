@@ -145,7 +145,7 @@ fn use_capture(console: &mut Console, bytes: &[u8]) -> usize {
             Ok(Some(packet)) => {
                 packets += 1;
                 assert!(packets <= bytes.len() && packet.bytes.len() <= bytes.len());
-                if let Frame::Poll(poll) = frame::dissect(&packet.bytes) {
+                if let Frame::Poll(poll) = frame::dissect(packet.link, &packet.bytes) {
                     let (sender, version, ready, payload) =
                         (poll.sender, poll.version, poll.ready, poll.payload);
                     give(console, Received { sender, version, ready, payload }, Style::default());

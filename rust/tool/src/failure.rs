@@ -20,4 +20,6 @@ impl From<io::Error> for Failure {
 pub enum Status {
     Clean,
     Faults,
+    /// Nothing was looked at, so nothing can be said.
+    Nothing,
 }

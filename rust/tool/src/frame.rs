@@ -1,5 +1,6 @@
 //! What an Ethernet frame carries: a POWERLINK payload, or something else.
 
+use crate::capture::Link;
 use crate::rig::MANAGING_NODE;
 
 /// The EtherType of POWERLINK.
@@ -34,6 +35,8 @@ pub enum Frame<'a> {
     Foreign(u16),
     /// Too short for an EtherType.
     Runt,
+    /// Captured on something else than an Ethernet.
+    OtherLink(u16),
 }
 
 /// A poll request or response: the frames that carry process data.
@@ -48,19 +51,29 @@ pub struct Poll<'a> {
     pub payload: &'a [u8],
 }
 
-pub fn dissect(bytes: &[u8]) -> Frame<'_> {
-    let mut at = 12;
+/// What a packet carries that was captured on a link.
+pub fn dissect(link: Link, bytes: &[u8]) -> Frame<'_> {
+    // Where the EtherType stands, and what it is of.
+    let (at, behind) = match link {
+        Link::Ethernet => (12, 14),
+        Link::Cooked => (14, 16),
+        Link::Cooked2 => (0, 20),
+        Link::Other(number) => return Frame::OtherLink(number),
+    };
+    let mut found = pair(bytes, at).zip(bytes.get(behind..));
     loop {
-        let ether_type = match bytes.get(at..at + 2) {
-            Some(pair) => u16::from_be_bytes([pair[0], pair[1]]),
+        match found {
+            Some((POWERLINK, rest)) => return message(rest),
+            Some((tag, rest)) if TAGS.contains(&tag) => found = pair(rest, 2).zip(rest.get(4..)),
+            Some((other, _)) => return Frame::Foreign(other),
             None => return Frame::Runt,
-        };
-        match ether_type {
-            POWERLINK => return message(&bytes[at + 2..]),
-            tag if TAGS.contains(&tag) => at += 4,
-            other => return Frame::Foreign(other),
         }
     }
+}
+
+/// The two bytes at a place as a number, the higher first.
+fn pair(bytes: &[u8], at: usize) -> Option<u16> {
+    bytes.get(at..at + 2).map(|pair| u16::from_be_bytes([pair[0], pair[1]]))
 }
 
 /// A POWERLINK message, from its message type on.
@@ -127,7 +140,7 @@ mod tests {
             ready: true,
             payload: &[0xC4, 9],
         };
-        assert_eq!(dissect(&frame(&[], &RESPONSE)), Frame::Poll(wanted));
+        assert_eq!(dissect(Link::Ethernet, &frame(&[], &RESPONSE)), Frame::Poll(wanted));
     }
 
     #[test]
@@ -143,14 +156,14 @@ mod tests {
             ready: false,
             payload: &[0xC4, 9],
         };
-        assert_eq!(dissect(&frame(&[], &request)), Frame::Poll(wanted));
+        assert_eq!(dissect(Link::Ethernet, &frame(&[], &request)), Frame::Poll(wanted));
     }
 
     #[test]
     fn tags_are_passed_over() {
         let plain = frame(&[], &RESPONSE);
         let tagged = frame(&[0x88, 0xA8, 0, 2, 0x81, 0x00, 0, 3], &RESPONSE);
-        assert_eq!(dissect(&plain), dissect(&tagged));
+        assert_eq!(dissect(Link::Ethernet, &plain), dissect(Link::Ethernet, &tagged));
     }
 
     #[test]
@@ -159,12 +172,30 @@ mod tests {
         long[8] = 4;
         let (request, destination, sender) = (false, Some(255), Some(5));
         let cut = Frame::Cut { request, destination, sender, said: Some(4), there: 3 };
-        assert_eq!(dissect(&frame(&[], &long)), cut);
+        assert_eq!(dissect(Link::Ethernet, &frame(&[], &long)), cut);
         let head = Frame::Cut { request, destination, sender, said: None, there: 9 };
-        assert_eq!(dissect(&frame(&[], &RESPONSE[..9])), head);
-        assert_eq!(dissect(&frame(&[], &[0x01, 255, 240])), Frame::Message(1));
-        assert_eq!(dissect(&frame(&[0x08, 0x00], &RESPONSE)), Frame::Foreign(0x0800));
-        assert_eq!(dissect(&[0; 13]), Frame::Runt);
-        assert_eq!(dissect(&frame(&[], &[])), Frame::Runt);
+        assert_eq!(dissect(Link::Ethernet, &frame(&[], &RESPONSE[..9])), head);
+        assert_eq!(dissect(Link::Ethernet, &frame(&[], &[0x01, 255, 240])), Frame::Message(1));
+        assert_eq!(
+            dissect(Link::Ethernet, &frame(&[0x08, 0x00], &RESPONSE)),
+            Frame::Foreign(0x0800)
+        );
+        assert_eq!(dissect(Link::Ethernet, &[0; 13]), Frame::Runt);
+        assert_eq!(dissect(Link::Ethernet, &frame(&[], &[])), Frame::Runt);
+    }
+
+    #[test]
+    fn cooked_heads_have_their_own_length() {
+        let message = [&[0x88, 0xAB][..], &RESPONSE].concat();
+        let plain = frame(&[], &RESPONSE);
+        let wanted = dissect(Link::Ethernet, &plain);
+        let cooked = [&[0; 14][..], &message].concat();
+        assert_eq!(dissect(Link::Cooked, &cooked), wanted);
+        let tagged = [&[0; 14][..], &[0x81, 0, 0xE0, 0x0A], &message].concat();
+        assert_eq!(dissect(Link::Cooked, &tagged), wanted);
+        let newer = [&[0x88, 0xAB][..], &[0; 18], &RESPONSE].concat();
+        assert_eq!(dissect(Link::Cooked2, &newer), wanted);
+        assert_eq!(dissect(Link::Cooked2, &newer[..19]), Frame::Runt);
+        assert_eq!(dissect(Link::Other(127), &plain), Frame::OtherLink(127));
     }
 }

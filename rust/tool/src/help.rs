@@ -29,7 +29,7 @@ A rig file looks like this (docs/RIG.md has all of it):
   6000h Variable Unsigned16 \"Ramp time\" = 2500 ms
 
 Exit status: 0 nothing is wrong, 1 something is, 2 the command or a file could
-not be understood, or the output not be written.
+not be understood, or the output not be written, 3 nothing was looked at.
 ";
 
 pub const CHECK: &str = "\
@@ -93,8 +93,8 @@ was, 2 the command or the rig file could not be understood.
 pub const REPLAY: &str = "\
 loomfinch replay RIG CAPTURE [options]
 
-Reads a network capture (pcap or pcapng, of an Ethernet), gives the payloads of
-its POWERLINK frames to the rig in their order, and says for each frame what it
+Reads a network capture (pcap or pcapng, of an Ethernet or cooked by Linux),
+gives the payloads of its POWERLINK frames to the rig in their order, and says for each frame what it
 changed, what was refused and why. A table by sender follows: how many frames
 had each kind of trouble, and the first of each, a CUT before all others.
 CAPTURE may be - for the standard input.
@@ -125,5 +125,6 @@ Example:
 
 Exit status: 0 nothing was refused, stopped, cut or passed over, 1 something
 was, 2 the command or a file could not be understood; a capture that is damaged
-is told up to the damage.
+is told up to the damage. 3 nothing was looked at: the capture is empty, or not
+of an Ethernet, or has no ready payload that a channel of the rig takes.
 ";

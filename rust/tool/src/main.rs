@@ -49,6 +49,7 @@ fn main() -> ExitCode {
     match done.and_then(|status| flushed.map(|()| status).map_err(Failure::Output)) {
         Ok(Status::Clean) => ExitCode::SUCCESS,
         Ok(Status::Faults) => ExitCode::from(1),
+        Ok(Status::Nothing) => ExitCode::from(3),
         // Whoever read the output has read enough; what was not said may have been a fault.
         Err(Failure::Output(error)) if error.kind() == ErrorKind::BrokenPipe => ExitCode::from(2),
         Err(Failure::Output(error)) => complain(&format!("the output cannot be written: {error}")),

@@ -8,7 +8,7 @@ use crate::failure::{Failure, Status};
 use crate::frame::{self, Frame, Poll};
 use crate::progress::Progress;
 use crate::requests::{self, Requests};
-use crate::table::Table;
+use crate::table::{Other, Table};
 use crate::words;
 use std::collections::BTreeSet;
 use std::fs::{self, File};
@@ -41,7 +41,7 @@ pub fn run(
     };
     progress.finish();
     player.finish(out)?;
-    let status = if player.table.has_faults() { Status::Faults } else { Status::Clean };
+    let status = player.table.status();
     ended.map(|()| status).map_err(damaged)
 }
 
@@ -85,13 +85,9 @@ struct Player<'a> {
 impl Player<'_> {
     fn packet(&mut self, packet: &Packet, out: &mut dyn Write) -> io::Result<()> {
         self.first = self.first.or(packet.time);
-        if !packet.ethernet {
-            self.table.other("not Ethernet".to_string());
-            return Ok(());
-        }
-        let frame = frame::dissect(&packet.bytes);
+        let frame = frame::dissect(packet.link, &packet.bytes);
         if let Some(why) = self.left_out(&frame) {
-            return self.count(why);
+            return self.count(Other::LeftOut(why));
         }
         match frame {
             Frame::Poll(poll) => self.poll(packet, &poll, out),
@@ -102,14 +98,17 @@ impl Player<'_> {
                 let head = format!("{} from {}", poll_name(request), from);
                 self.tell(packet, &head, &[why], out)
             }
-            Frame::Message(kind) => self.count(frame::message_name(kind)),
-            Frame::Foreign(ether_type) => self.count(format!("EtherType {ether_type:04X}h")),
-            Frame::Runt => self.count("too short for a frame".to_string()),
+            Frame::Message(kind) => self.count(Other::Frame(frame::message_name(kind))),
+            Frame::Foreign(ether_type) => {
+                self.count(Other::Frame(format!("EtherType {ether_type:04X}h")))
+            }
+            Frame::Runt => self.count(Other::Frame("too short for a frame".to_string())),
+            Frame::OtherLink(number) => self.count(Other::OtherLink(number)),
         }
     }
 
-    fn count(&mut self, kind: String) -> io::Result<()> {
-        self.table.other(kind);
+    fn count(&mut self, other: Other) -> io::Result<()> {
+        self.table.other(other);
         Ok(())
     }
 

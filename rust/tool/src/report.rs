@@ -14,6 +14,8 @@ use loomfinch::{Cause, Target, ValueType};
 pub struct Told {
     pub lines: Vec<String>,
     pub written: u64,
+    /// Did a channel look at the payload?
+    pub taken: bool,
     /// What went wrong, in order.
     pub troubles: Vec<(Trouble, String)>,
 }
@@ -21,7 +23,7 @@ pub struct Told {
 impl Told {
     /// The story of a payload that was refused as a whole.
     pub fn refused(why: String) -> Told {
-        let mut told = Told::default();
+        let mut told = Told { taken: true, ..Told::default() };
         told.trouble(Trouble::Refused, why);
         told
     }
@@ -37,7 +39,9 @@ impl Told {
 }
 
 pub fn tell(rig: &Rig, received: &Received, consumed: &Consumed, style: Style) -> Told {
-    let mut teller = Teller { rig, received, style, told: Told::default() };
+    let taken = matches!(consumed, Consumed::WrongVersion { .. } | Consumed::Taken { .. });
+    let told = Told { taken, ..Told::default() };
+    let mut teller = Teller { rig, received, style, told };
     match consumed {
         Consumed::NotReady => teller.told.line("not ready: nothing happens".to_string()),
         Consumed::NoChannel => {

@@ -27,7 +27,7 @@ impl Requests {
             Err(_) => return Requests::All,
         };
         while let Ok(Some(packet)) = capture.next_packet() {
-            asked.extend(destination(&frame::dissect(&packet.bytes)));
+            asked.extend(destination(&frame::dissect(packet.link, &packet.bytes)));
             if asked.len() > 1 {
                 return Requests::SeveralNodes;
             }

@@ -1,5 +1,6 @@
 //! The table at the end of a replay: what each sender's frames came to.
 
+use crate::failure::Status;
 use crate::report::Told;
 use crate::rig::Rig;
 use crate::trouble::{Trouble, Troubles};
@@ -10,8 +11,30 @@ use std::io::{self, Write};
 pub struct Table {
     /// None stands for frames that end before they name their sender.
     senders: BTreeMap<Option<u8>, Row>,
-    /// Frames without process data, by what they are.
-    others: BTreeMap<String, u64>,
+    /// Frames that are not given to the console, by what they are.
+    others: BTreeMap<Other, u64>,
+    /// Payloads that a channel looked at, and frames that could not be consumed.
+    looked_at: u64,
+}
+
+/// A frame that is not given to the console.
+#[derive(Clone, Debug, PartialEq, Eq, PartialOrd, Ord)]
+pub enum Other {
+    /// It carries no process data.
+    Frame(String),
+    /// It was captured on something else than an Ethernet.
+    OtherLink(u16),
+    /// It carries process data that is not for the rig.
+    LeftOut(String),
+}
+
+impl Other {
+    fn shown(&self) -> String {
+        match self {
+            Other::Frame(kind) | Other::LeftOut(kind) => kind.clone(),
+            Other::OtherLink(number) => format!("not Ethernet (link type {number})"),
+        }
+    }
 }
 
 #[derive(Default)]
@@ -30,6 +53,7 @@ impl Table {
         row.not_ready += u64::from(!ready);
         row.written += told.written;
         row.troubles.count(packet, &told.troubles);
+        self.looked_at += u64::from(told.taken);
     }
 
     /// Counts a frame that could not be consumed.
@@ -37,14 +61,41 @@ impl Table {
         let row = self.senders.entry(sender).or_default();
         row.frames += 1;
         row.troubles.count(packet, &[(Trouble::Damaged, why.to_string())]);
+        self.looked_at += 1;
     }
 
-    pub fn other(&mut self, kind: String) {
-        *self.others.entry(kind).or_default() += 1;
+    pub fn other(&mut self, other: Other) {
+        *self.others.entry(other).or_default() += 1;
     }
 
-    pub fn has_faults(&self) -> bool {
-        self.senders.values().any(|row| !row.troubles.is_empty())
+    pub fn status(&self) -> Status {
+        match self.senders.values().any(|row| !row.troubles.is_empty()) {
+            true => Status::Faults,
+            false if self.looked_at == 0 => Status::Nothing,
+            false => Status::Clean,
+        }
+    }
+
+    /// Why no channel looked at anything; none where one did.
+    fn nothing(&self, rig: &Rig) -> Option<&'static str> {
+        let link = |other: &Other| matches!(other, Other::OtherLink(_));
+        let left_out = |other: &Other| matches!(other, Other::LeftOut(_));
+        let known = |sender: &Option<u8>| sender.and_then(|one| rig.channel_of(one)).is_some();
+        if self.looked_at > 0 {
+            None
+        } else if self.senders.is_empty() && self.others.is_empty() {
+            Some("the capture has no packet")
+        } else if self.senders.keys().any(known) {
+            Some("no frame of a sender that the rig takes was ready")
+        } else if !self.senders.is_empty() {
+            Some("no channel of the rig takes a sender of these frames")
+        } else if self.others.keys().any(left_out) {
+            Some("all frames with process data were left out")
+        } else if self.others.keys().all(link) {
+            Some("no packet was captured on an Ethernet")
+        } else {
+            Some("no frame carries process data (PReq or PRes)")
+        }
     }
 
     pub fn is_empty(&self) -> bool {
@@ -52,17 +103,18 @@ impl Table {
     }
 
     pub fn write(&self, rig: &Rig, out: &mut dyn Write) -> io::Result<()> {
-        if self.senders.is_empty() {
-            writeln!(out, "no frame with process data (PReq or PRes)")?;
-        } else {
+        if !self.senders.is_empty() {
             self.write_senders(rig, out)?;
         }
         if !self.others.is_empty() {
-            let kinds: Vec<String> =
-                self.others.iter().map(|(kind, count)| format!("{count} {kind}")).collect();
+            let kind = |(other, count): (&Other, &u64)| format!("{} {}", count, other.shown());
+            let kinds: Vec<String> = self.others.iter().map(kind).collect();
             writeln!(out, "other frames: {}", kinds.join(", "))?;
         }
-        Ok(())
+        match self.nothing(rig) {
+            Some(why) => writeln!(out, "nothing was looked at: {why}"),
+            None => Ok(()),
+        }
     }
 
     /// A column for each kind of trouble that any sender had, and below each sender the first of each kind.

@@ -3,7 +3,7 @@
 mod common;
 
 use common::captures::{
-    interface, interface_behind, packet, pcap, request, response, section, simple_packet,
+    interface, interface_behind, packet, pcap, pcap_of, request, response, section, simple_packet,
 };
 use common::{file, rig, run};
 use std::process::Command;
@@ -142,7 +142,7 @@ fn several_sections_interfaces_and_unknown_blocks() {
     let capture = [
         section(false),
         common::captures::block(false, 0x0BAD, &[1, 2, 3]),
-        interface(false, 113, 6),
+        interface(false, 127, 6),
         interface(false, 1, 9),
         packet(false, false, 0, 0, &frames[1]),
         packet(false, false, 1, 1_000_000, &frames[0]),
@@ -154,7 +154,7 @@ fn several_sections_interfaces_and_unknown_blocks() {
     let run = run(&["replay", &rig("ramp.rig"), &path]);
     assert!(run.out.contains("No. 2  0.001000 s  PRes"), "{}", run.out);
     assert!(run.out.contains("No. 3  0.003000 s  PRes"), "{}", run.out);
-    assert!(run.out.contains("other frames: 1 not Ethernet\n"), "{}", run.out);
+    assert!(run.out.contains("other frames: 1 not Ethernet (link type 127)\n"), "{}", run.out);
 }
 
 #[test]
@@ -181,8 +181,6 @@ fn damage_is_told_with_its_place() {
         [section(false), interface(false, 1, 6), packet(false, false, 0, 1, &ramps()[0])].concat();
     let mut huge = good.clone();
     huge[32..36].copy_from_slice(&u32::MAX.to_le_bytes());
-    let mut link = good.clone();
-    link[20] = 113;
     let mut trailer = newer.clone();
     *trailer.last_mut().unwrap() = 1;
     let mut order = newer.clone();
@@ -195,7 +193,6 @@ fn damage_is_told_with_its_place() {
         ("packet-head", &good[..30], "byte 30: the file ends inside the header of packet 1 that begins at byte 24"),
         ("packet", &good[..60], "byte 60: the file ends inside packet 1 that begins at byte 24: 30 bytes needed, 20 there"),
         ("huge", &huge, "byte 32: packet 1 says it has 4294967295 bytes"),
-        ("link", &link, "byte 20: expected a capture of an Ethernet (link type 1), found link type 113"),
         ("block", &newer[..newer.len() - 6], "the file ends inside the block that begins at byte 60"),
         ("trailer", &trailer, "the block that begins at byte 60 has length"),
         ("order", &order, "byte 8: expected the byte-order mark of a pcapng section"),
@@ -227,10 +224,60 @@ fn a_frame_that_ends_before_its_sender_is_a_fault() {
     assert_eq!((run.status, run.out.as_str()), (1, wanted));
 }
 
+/// The same Ethernet frames behind a cooked head.
+fn cooked(newer: bool, frames: &[Vec<u8>]) -> Vec<Vec<u8>> {
+    let head = |frame: &Vec<u8>| match newer {
+        true => [&frame[12..14], &[0; 18], &frame[14..]].concat(),
+        false => [&[0; 14], &frame[12..]].concat(),
+    };
+    frames.iter().map(head).collect()
+}
+
 #[test]
-fn a_capture_without_packets() {
-    let run = run(&["replay", &rig("ramp.rig"), &file("none.pcap", &pcap(false, false, &[]))]);
-    assert_eq!((run.status, run.out.as_str()), (0, "no frame with process data (PReq or PRes)\n"));
+fn cooked_captures() {
+    for (link, newer) in [(113, false), (276, true)] {
+        let frames = cooked(newer, &ramps());
+        assert_ramps(&format!("cooked-{link}.pcap"), &pcap_of(link, false, false, &frames));
+        let newer = [
+            section(false),
+            interface(false, link as u16, 6),
+            packet(false, false, 0, 1, &frames[0]),
+            packet(false, false, 0, 2, &frames[1]),
+        ];
+        assert_ramps(&format!("cooked-{link}.pcapng"), &newer.concat());
+    }
+}
+
+#[test]
+fn a_capture_in_which_nothing_was_looked_at() {
+    let mut not_ready = ramps()[0].clone();
+    not_ready[18] = 0;
+    let foreign = [vec![0; 12], vec![8, 0, 0x45, 0]].concat();
+    for (name, capture, why) in [
+        ("none", pcap(false, false, &[]), "the capture has no packet"),
+        ("link", pcap_of(127, false, false, &ramps()), "no packet was captured on an Ethernet"),
+        ("foreign", pcap(false, false, &[foreign]), "no frame carries process data (PReq or PRes)"),
+        (
+            "sender",
+            pcap(false, false, &[response(9, 0x12, &[0; 6])]),
+            "no channel of the rig takes a sender of these frames",
+        ),
+        (
+            "waiting",
+            pcap(false, false, &[not_ready]),
+            "no frame of a sender that the rig takes was ready",
+        ),
+        (
+            "requests",
+            pcap(false, false, &[request(1, 0, &[]), request(2, 0, &[])]),
+            "all frames with process data were left out",
+        ),
+    ] {
+        let run = run(&["replay", &rig("ramp.rig"), &file(&format!("nothing-{name}"), &capture)]);
+        let wanted = format!("nothing was looked at: {why}\n");
+        assert!(run.out.contains(&wanted), "{}: {}", name, run.out);
+        assert_eq!(run.status, 3, "{name}");
+    }
 }
 
 #[test]
