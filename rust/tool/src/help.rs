@@ -97,7 +97,10 @@ Reads a network capture (pcap or pcapng, of an Ethernet or cooked by Linux),
 gives the payloads of its POWERLINK frames to the rig in their order, and says for each frame what it
 changed, what was refused and why. A table by sender follows: how many frames
 had each kind of trouble, and the first of each, a CUT before all others.
-CAPTURE may be - for the standard input.
+CAPTURE may be - for the standard input: each packet is told as it comes, and an
+interrupt (Ctrl-C) ends the capture and writes the table:
+
+  tcpdump -U -w - | loomfinch replay RIG -
 
   --node N      the console's own node: requests of the managing node (PReq)
                 to other nodes are left out, and node N's own responses.

@@ -1,6 +1,7 @@
 //! `loomfinch`: checks a rig's POWERLINK mappings, and shows what received payloads change in it.
 
-#![forbid(unsafe_code)]
+// interrupt.rs alone declares two functions of C.
+#![deny(unsafe_code)]
 
 mod args;
 mod capture;
@@ -13,6 +14,7 @@ mod failure;
 mod faults;
 mod frame;
 mod help;
+mod interrupt;
 mod json;
 mod memory;
 mod notes;

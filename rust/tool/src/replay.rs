@@ -6,12 +6,13 @@ use crate::console::{Console, Received};
 use crate::consume::give;
 use crate::failure::{Failure, Status};
 use crate::frame::{self, Frame, Poll};
+use crate::interrupt::{self, UntilInterrupt};
 use crate::progress::Progress;
 use crate::requests::{self, Requests};
 use crate::table::{Other, Table};
 use crate::words;
 use std::collections::BTreeSet;
-use std::fs::{self, File};
+use std::fs::{File, Metadata};
 use std::io::{self, BufReader, Read, Write};
 
 pub fn run(
@@ -19,56 +20,78 @@ pub fn run(
     console: &mut Console,
     out: &mut dyn Write,
 ) -> Result<Status, Failure> {
-    let (reader, size) = open(options)?;
-    let requests = requests(options)?;
+    interrupt::watch();
+    let input = open(options)?;
+    let requests = requests(options, input.live)?;
     let damaged = |damage: Damage| {
         Failure::Message(format!(
             "{}: byte {}: {}",
             options.capture.shown, damage.offset, damage.text
         ))
     };
-    let mut capture = Capture::open(reader).map_err(damaged)?;
+    let mut capture = Capture::open(input.reader).map_err(damaged)?;
     let (table, first, asked) = (Table::default(), None, BTreeSet::new());
     let mut player = Player { options, console, table, requests, first, asked };
-    let mut progress = Progress::new(size, options.quiet);
+    let mut progress = Progress::new(input.size, options.quiet);
     let ended = loop {
         match capture.next_packet() {
             Ok(Some(packet)) => player.packet(&packet, out)?,
+            // An interrupt ends the input wherever it is.
+            Ok(None) | Err(_) if interrupt::came() => break Ok(()),
             Ok(None) => break Ok(()),
             Err(damage) => break Err(damage),
+        }
+        if input.live {
+            out.flush()?;
         }
         progress.at(capture.offset());
     };
     progress.finish();
     player.finish(out)?;
+    if interrupt::came() {
+        writeln!(out, "note: an interrupt ended the capture after packet {}", capture.packets())?;
+    }
     let status = player.table.status();
     ended.map(|()| status).map_err(damaged)
 }
 
-/// The capture's bytes, and how many there are where that is known.
-fn open(options: &Replay) -> Result<(Box<dyn Read>, u64), Failure> {
+/// A capture to read.
+struct Input {
+    reader: Box<dyn Read>,
+    /// How many bytes it has, or 0 where that is not known.
+    size: u64,
+    /// May more come while it is read? It can then be read once only.
+    live: bool,
+}
+
+fn open(options: &Replay) -> Result<Input, Failure> {
     if options.capture.shown == "-" {
-        return Ok((Box::new(BufReader::new(io::stdin())), 0));
+        let reader = Box::new(UntilInterrupt(BufReader::new(io::stdin())));
+        return Ok(Input { reader, size: 0, live: true });
     }
-    let failed =
-        |error: io::Error| Failure::Message(format!("{}: {}", options.capture.shown, error));
-    let file = File::open(&options.capture.path).map_err(failed)?;
-    let size = file.metadata().map_err(failed)?.len();
-    Ok((Box::new(BufReader::with_capacity(1 << 16, file)), size))
+    let (file, metadata) = file(options)?;
+    let reader = Box::new(UntilInterrupt(BufReader::with_capacity(1 << 16, file)));
+    Ok(Input { reader, size: metadata.len(), live: !metadata.is_file() })
+}
+
+fn file(options: &Replay) -> Result<(File, Metadata), Failure> {
+    let opened = File::open(&options.capture.path).and_then(|file| {
+        let metadata = file.metadata()?;
+        Ok((file, metadata))
+    });
+    opened.map_err(|error| Failure::Message(format!("{}: {}", options.capture.shown, error)))
 }
 
 /// The poll requests that are for the rig; a capture that is a file is read for it.
-fn requests(options: &Replay) -> Result<Requests, Failure> {
-    let path = &options.capture.path;
-    let failed = |error| Failure::Message(format!("{}: {}", options.capture.shown, error));
-    if let Some(node) = options.node {
-        return Ok(Requests::To(node));
+fn requests(options: &Replay, live: bool) -> Result<Requests, Failure> {
+    match options.node {
+        Some(node) => Ok(Requests::To(node)),
+        None if live => Ok(Requests::ReadOnce),
+        None => {
+            let reader = BufReader::with_capacity(1 << 16, file(options)?.0);
+            Ok(Requests::of_capture(Box::new(UntilInterrupt(reader))))
+        }
     }
-    if options.capture.shown == "-" || !fs::metadata(path).map_err(failed)?.is_file() {
-        return Ok(Requests::ReadOnce);
-    }
-    let file = File::open(path).map_err(failed)?;
-    Ok(Requests::of_capture(Box::new(BufReader::with_capacity(1 << 16, file))))
 }
 
 struct Player<'a> {

@@ -86,6 +86,11 @@ impl Capture {
         Ok(packet)
     }
 
+    /// How many packets were read so far.
+    pub fn packets(&self) -> u64 {
+        self.packets
+    }
+
     /// How many bytes were read so far.
     pub fn offset(&self) -> u64 {
         self.source.offset()
