@@ -109,9 +109,10 @@ impl Console {
             let noted = self.noted(WRONG_VERSIONS);
             return Ok(Consumed::WrongVersion { channel, expected, noted });
         }
-        let steps = self.steps(elements, &events);
+        let mut steps = self.steps(elements, &events, received.payload);
         let short = events.iter().any(|record| record.event == Event::PayloadShort(Cause::Frame));
         let noted = if short { self.noted(SHORT_PAYLOADS) } else { None };
+        self.confirm(&mut steps, noted.as_ref());
         Ok(Consumed::Taken { channel, steps, noted })
     }
 
@@ -122,21 +123,25 @@ impl Console {
         explained.or_insert_with(|| explain::mapping(dictionary, channel)).clone()
     }
 
-    /// Each element with its outcome. The old values are taken before the first is read again, since two elements may
-    /// have one target.
-    fn steps(&mut self, elements: Vec<Element>, events: &[EventRecord]) -> Vec<Step> {
-        let before: Vec<Option<Value>> =
-            elements.iter().map(|element| self.stored_at(element)).collect();
+    /// Each element with its outcome, on the values that the elements before it left.
+    fn steps(
+        &mut self,
+        elements: Vec<Element>,
+        events: &[EventRecord],
+        payload: &[u8],
+    ) -> Vec<Step> {
         let mut stopped = false;
         let mut steps = Vec::new();
-        for (element, old) in elements.into_iter().zip(before) {
+        for element in elements {
             let event = events.iter().find(|record| record.element == Some(element.number));
             let outcome = match event.map(|record| record.event) {
                 _ if stopped => Outcome::NotReached,
                 Some(Event::PayloadShort(cause)) => Outcome::Stopped(cause),
                 Some(Event::Server { .. }) | Some(Event::Client { .. }) => Outcome::HandedOn,
                 Some(Event::WriteRefused(why)) => Outcome::Refused(why),
-                Some(Event::MapVersion) | None => self.quiet_outcome(&element, old),
+                Some(Event::MapVersion) | None => {
+                    self.put(&element, payload).map_or(Outcome::PassedOver, Outcome::Written)
+                }
             };
             stopped = stopped || matches!(outcome, Outcome::Stopped(_));
             steps.push(Step { element, outcome });
@@ -144,21 +149,39 @@ impl Console {
         steps
     }
 
-    /// The value that an element's field would be written to.
-    fn stored_at(&self, element: &Element) -> Option<Value> {
+    /// Puts a field that was reached and gave no event into the rig's copy; none where it has no place there.
+    fn put(&mut self, element: &Element, payload: &[u8]) -> Option<Change> {
         let mapped = element.mapped.as_ref()?;
-        match self.rig.place(mapped.entry.index, mapped.entry.sub_index) {
-            Place::Value(_, value) if mapped.field.is_some() => Some(value.clone()),
-            _ => None,
+        let field = payload.get(mapped.field.clone()?)?;
+        let (index, sub_index) = (mapped.entry.index, mapped.entry.sub_index);
+        let value = self.rig.value_mut(index, sub_index)?;
+        let before = value.clone();
+        value.bytes = field[..value.of.size().unwrap_or(field.len()).min(field.len())].to_vec();
+        let after = value.clone();
+        if (0x1600..=0x16FF).contains(&index) {
+            self.explained.remove(&(index as u8));
         }
+        Some(Change { index, sub_index, before, after })
     }
 
-    /// The outcome of an element that was reached and gave no event.
-    fn quiet_outcome(&mut self, element: &Element, old: Option<Value>) -> Outcome {
-        let entry = element.mapped.as_ref().map(|mapped| mapped.entry).zip(old);
-        let change =
-            entry.and_then(|(entry, old)| self.read_again(entry.index, entry.sub_index, old));
-        change.map_or(Outcome::PassedOver, Outcome::Written)
+    /// Reads each value that was written from the dictionary: what the last step left is what the library holds, but for
+    /// an error object in which it then set a bit.
+    fn confirm(&mut self, steps: &mut [Step], noted: Option<&Change>) {
+        let mut done: Vec<(u16, u8)> = noted.map(|change| (change.index, 0)).into_iter().collect();
+        for step in steps.iter_mut().rev() {
+            let change = match &mut step.outcome {
+                Outcome::Written(change) => change,
+                _ => continue,
+            };
+            let place = (change.index, change.sub_index);
+            if !done.contains(&place) {
+                done.push(place);
+                let before = change.after.clone();
+                if let Some(read) = self.read_again(place.0, place.1, before) {
+                    change.after = read.after;
+                }
+            }
+        }
     }
 
     /// Reads a value from the dictionary, and brings the rig's copy up to date.
@@ -167,9 +190,6 @@ impl Console {
         let place = object.value_place(sub_index)?;
         let value = object.values.get_mut(place)?;
         value.bytes = self.memory.read(self.dictionary.parts(), index, place, value.of)?;
-        if (0x1600..=0x16FF).contains(&index) {
-            self.explained.remove(&(index as u8));
-        }
         Some(Change { index, sub_index, before, after: value.clone() })
     }
 

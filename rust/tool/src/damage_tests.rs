@@ -243,8 +243,7 @@ fn assert_written(console: &mut Console, payload: &[u8]) -> usize {
         }
     }
     for ((index, _), (field, change)) in &written {
-        // A short payload sets a bit in 1C81h after it was written.
-        assert!(*index == 0x1C81 || change.after.bytes == *field, "{index:04X}h");
+        assert_eq!(change.after.bytes, *field, "{index:04X}h");
     }
     written.len()
 }

@@ -120,14 +120,14 @@ impl Teller<'_> {
             Outcome::Written(other) => (other.index, other.sub_index) == target,
             _ => false,
         });
-        if let Some(step) = again {
-            return format!("written, and again by element {}", step.element.number);
-        }
+        let again = again.map_or(String::new(), |step| {
+            format!(" (element {} writes it again)", step.element.number)
+        });
         let after = self.shown(change.index, &change.after);
         if change.before.bytes == change.after.bytes {
-            return format!("{after}, as before");
+            return format!("{after}, as before{again}");
         }
-        format!("{} -> {}", self.shown(change.index, &change.before), after)
+        format!("{} -> {}{}", self.shown(change.index, &change.before), after, again)
     }
 
     /// A value; a mapping's element as the mapping that it says.

@@ -205,11 +205,25 @@ fn each_way_in_which_an_element_fails() {
     let run = common::run(&["consume", &path, "--from", "240", "--version", "0", "414243"]);
     let wanted = "
   element 7 (6100h/0) is not written: 3 bytes are more than its room of 2
-  6000h/0: written, and again by element 9
-  6000h/0: written, and again by element 12
+  6000h/0: 0 -> 65 (element 9 writes it again)
+  6000h/0: 65 -> 66 (element 12 writes it again)
   6101h/0: \"\" -> \"ABC\"
   6102h/0: \"\" -> \"C\"
-  6000h/0: 0 -> 65
+  6000h/0: 66 -> 65
+";
+    assert!(run.out.ends_with(wanted), "{}", run.out);
+}
+
+#[test]
+fn a_bit_that_is_set_is_not_the_field_s() {
+    let text = "1400h Record\n1 U8 = 5\n1600h Array\n1 1C81h at 0 length 2\n2 6000h at 2 length 1\n6000h Variable U8\n\
+                1C81h Variable OctetString = [00 00]\n";
+    let path = file("bit.rig", text.as_bytes());
+    let run = run(&["consume", &path, "--from", "5", "--version", "0", "0102"]);
+    let wanted = "
+  1C81h/0: [00 00] -> [01 02]
+  stopped at element 2 (6000h/0): it needs 3 bytes of payload, and 2 came
+  1C81h/0: the bit of node 5 is set (byte 0: 01 -> 11)
 ";
     assert!(run.out.ends_with(wanted), "{}", run.out);
 }

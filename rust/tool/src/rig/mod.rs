@@ -118,6 +118,13 @@ impl Rig {
         }
     }
 
+    /// The value at a place, to be changed.
+    pub fn value_mut(&mut self, index: u16, sub_index: u8) -> Option<&mut Value> {
+        let object = self.objects.get_mut(&index)?;
+        let place = object.value_place(sub_index)?;
+        object.values.get_mut(place)
+    }
+
     /// The name of an object, empty where it has none.
     pub fn name(&self, index: u16) -> &str {
         self.objects.get(&index).map_or("", |object| object.name.as_str())
