@@ -110,10 +110,7 @@ fn consume(arguments: Vec<OsString>) -> Result<Command, String> {
     let sender = given.byte("--from", 1)?;
     let sender = sender
         .ok_or_else(|| given.wrong("--from is missing: the node that sends, as in --from 5"))?;
-    let version = given.byte("--version", 0)?;
-    let version = version.ok_or_else(|| {
-        given.wrong("--version is missing: the payload's mapping version, as in --version 12h")
-    })?;
+    let version = given.version()?;
     if given.words.is_empty() {
         return Err(given.wrong("a payload is missing, as in C40910270000"));
     }
@@ -248,6 +245,22 @@ impl Given {
                 Err(self.wrong(&text))
             }
         }
+    }
+
+    /// The mapping version, which must be given: 1.2, 12h, 0x12 or 18.
+    fn version(&self) -> Result<u8, String> {
+        let value = match self.settings.iter().rev().find(|setting| setting.0 == "--version") {
+            Some((_, value)) => value,
+            None => {
+                let text = "--version is missing: the payload's mapping version, as in --version 1.2 or 12h";
+                return Err(self.wrong(text));
+            }
+        };
+        let plain = || numbers::unsigned(value).and_then(|number| u8::try_from(number).ok());
+        numbers::version(value).or_else(plain).ok_or_else(|| {
+            let value = quoting::word(value);
+            self.wrong(&format!("--version needs a mapping version, as 1.2 or 12h, not {value}"))
+        })
     }
 
     fn payload(&self, word: &OsString) -> Result<Vec<u8>, String> {

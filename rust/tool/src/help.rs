@@ -69,7 +69,8 @@ in 1C80h and 1C81h.
   HEX           a payload as hexadecimal digits: C40910270000, or with spaces
                 in quotes: 'C4 09 10 27 00 00'; each HEX is one payload
   --from NODE   the node that sends: 1 to 239, or 240, the managing node
-  --version V   the mapping version that comes with the payloads; 0 is none
+  --version V   the mapping version that comes with the payloads, as 1.2 or
+                12h; 0 is none
   --not-ready   the payloads come without the RD flag
   --times       show every Unsigned16 and Unsigned32 as a time in ms and s,
                 also where the rig file has no 'ms' beside it
@@ -80,7 +81,7 @@ Numbers are decimal (16) or hexadecimal (10h, 0x10).
 Example:
 
   $ loomfinch consume rigs/ramp.rig --from 5 --version 12h 905F01000000
-  payload 1: 6 bytes from node 5, version 12h
+  payload 1: 6 bytes from node 5, version 1.2 (12h)
     6000h/0 \"Ramp time\": 0 ms = 0.000 s -> 24464 ms = 24.464 s
       CUT: element 1's field is 90 5F 01 00, 90000 ms = 90.000 s; the last 2
       bytes, 01 00, are lost
@@ -118,8 +119,8 @@ Example:
        5       7          1               6      1        1        1
           short in No. 7: stopped at element 1 (6000h/0 \"Ramp time\"): it needs
           4 bytes of payload, and 3 came
-          version in No. 8: refused: the payload has version 22h, channel 0
-          expects 10h
+          version in No. 8: refused: the payload has version 2.2 (22h), channel 0
+          expects 1.0 to 1.F
           damaged in No. 9: not consumed: its size field says 100 bytes of
           payload, and the frame has 36
        9       1          0               0      0        0        0

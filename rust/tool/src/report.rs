@@ -78,7 +78,7 @@ impl Teller<'_> {
             "refused: the payload has version {}, channel {} expects {}",
             words::version(self.received.version),
             channel,
-            words::version(expected)
+            words::versions_from(expected)
         );
         self.told.trouble(Trouble::Version, why);
     }

@@ -2,7 +2,7 @@
 
 use crate::quoting;
 use crate::rig::{is_unsigned, little_endian, Kind, Rig, Value};
-use loomfinch::{PdoMappingEntry, ValueType};
+use loomfinch::{PDOVersion, PdoMappingEntry, ValueType};
 
 /// How values are shown.
 #[derive(Clone, Copy, Debug, Default)]
@@ -68,8 +68,19 @@ pub fn node(node: u8) -> String {
     }
 }
 
+/// A mapping version: `1.2 (12h)`.
 pub fn version(version: u8) -> String {
-    format!("{version:02X}h")
+    format!("{} ({:02X}h)", PDOVersion(version), version)
+}
+
+/// The versions that a channel takes which expects one: `1.0 to 1.F`.
+pub fn versions_from(expected: u8) -> String {
+    let last = PDOVersion(expected | 0x0F);
+    match expected {
+        0 => version(0),
+        expected if expected & 0x0F == 0x0F => version(expected),
+        expected => format!("{} to {}", PDOVersion(expected), last),
+    }
 }
 
 pub fn hex(bytes: &[u8]) -> String {
@@ -146,6 +157,16 @@ mod tests {
         assert_eq!(time(2500, Style::default()), "2500 ms = 2.500 s");
         assert_eq!(time(90_000, comma), "90000 ms = 90,000 s");
         assert_eq!(time(7, Style::default()), "7 ms = 0.007 s");
+    }
+
+    #[test]
+    fn a_version_has_one_spelling() {
+        assert_eq!((version(0x12).as_str(), version(0).as_str()), ("1.2 (12h)", "0.0 (00h)"));
+        for (expected, wanted) in
+            [(0, "0.0 (00h)"), (0x10, "1.0 to 1.F"), (0x2A, "2.A to 2.F"), (0x3F, "3.F (3Fh)")]
+        {
+            assert_eq!(versions_from(expected), wanted);
+        }
     }
 
     #[test]

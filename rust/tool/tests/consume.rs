@@ -30,7 +30,7 @@ fn case_8() {
         "12h",
         "C40910270000",
     ]);
-    let wanted = "payload 1: 6 bytes from node 5, version 12h\n  6000h/0: 0 -> 2500\n  6200h/3: 0 -> 10000\n";
+    let wanted = "payload 1: 6 bytes from node 5, version 1.2 (12h)\n  6000h/0: 0 -> 2500\n  6200h/3: 0 -> 10000\n";
     assert_eq!((run.status, run.out.as_str()), (0, wanted));
 }
 
@@ -43,7 +43,7 @@ fn case_9() {
         "--version=18",
         "C4 09 10:27 00",
     ]);
-    let wanted = "payload 1: 5 bytes from node 5, version 12h\n  6000h/0: 0 -> 2500\n  stopped at element 2 (6200h/3): it \
+    let wanted = "payload 1: 5 bytes from node 5, version 1.2 (12h)\n  6000h/0: 0 -> 2500\n  stopped at element 2 (6200h/3): it \
                   needs 6 bytes of payload, and 5 came\n  1C81h/0: the bit of node 5 is set (byte 0: 00 -> 10)\n";
     assert_eq!((run.status, run.out.as_str()), (1, wanted));
 }
@@ -60,7 +60,7 @@ fn case_10() {
         "0x12",
         "C40910270000",
     ]);
-    let wanted = "payload 1: 6 bytes from node 5, version 12h\n  stopped at element 1 (6000h/0): a field of 1 byte is too \
+    let wanted = "payload 1: 6 bytes from node 5, version 1.2 (12h)\n  stopped at element 1 (6000h/0): a field of 1 byte is too \
                   short for an Unsigned16 of 2 bytes\n  element 2 (6200h/3) is not reached\n";
     assert_eq!((run.status, run.out.as_str()), (1, wanted));
 }
@@ -69,7 +69,7 @@ fn case_10() {
 fn case_11() {
     let run =
         run(&["consume", &rig("ramp.rig"), "--from", "5", "--version", "12h", "905F01000000"]);
-    let wanted = "payload 1: 6 bytes from node 5, version 12h
+    let wanted = "payload 1: 6 bytes from node 5, version 1.2 (12h)
   6000h/0 \"Ramp time\": 0 ms = 0.000 s -> 24464 ms = 24.464 s
     CUT: element 1's field is 90 5F 01 00, 90000 ms = 90.000 s; the last 2 bytes, 01 00, are lost
   6200h/3 \"Move times\": 0 ms = 0.000 s -> 1 ms = 0.001 s
@@ -93,11 +93,11 @@ fn a_cut_that_changes_the_value_is_told() {
         "FEFFFFFF00000000",
         "FEFFFF7F00000000",
     ]);
-    let wanted = "payload 1: 8 bytes from node 5, version 00h
+    let wanted = "payload 1: 8 bytes from node 5, version 0.0 (00h)
   6000h/0: 0 -> -2
   6001h/0: 0 -> NaN
     CUT: element 2's field is FE FF FF FF 00 00 00 00; the last 4 bytes, 00 00 00 00, are lost
-payload 2: 8 bytes from node 5, version 00h
+payload 2: 8 bytes from node 5, version 0.0 (00h)
   6000h/0: -2, as before
     CUT: element 1's field is FE FF FF 7F, 2147483646; the last 2 bytes, FF 7F, are lost
 ";
@@ -141,13 +141,27 @@ fn a_wrong_version_is_noted() {
     let path = file("version.rig", CASES.as_bytes());
     let run =
         run(&["consume", &path, "--from", "5", "--version", "22h", "C40910270000", "C40910270000"]);
-    let wanted = "payload 1: 6 bytes from node 5, version 22h
-  refused: the payload has version 22h, channel 0 expects 10h
+    let wanted = "payload 1: 6 bytes from node 5, version 2.2 (22h)
+  refused: the payload has version 2.2 (22h), channel 0 expects 1.0 to 1.F
   1C80h/0: the bit of node 5 is set (byte 0: 00 -> 10)
-payload 2: 6 bytes from node 5, version 22h
-  refused: the payload has version 22h, channel 0 expects 10h
+payload 2: 6 bytes from node 5, version 2.2 (22h)
+  refused: the payload has version 2.2 (22h), channel 0 expects 1.0 to 1.F
 ";
     assert_eq!((run.status, run.out.as_str()), (1, wanted));
+}
+
+#[test]
+fn a_version_is_taken_in_both_forms() {
+    let path = file("versions.rig", CASES.as_bytes());
+    for version in ["1.2", "12h", "0x12", "18"] {
+        let run = run(&["consume", &path, "--from", "5", "--version", version, "C40910270000"]);
+        let wanted = "payload 1: 6 bytes from node 5, version 1.2 (12h)\n  6000h/0: 0 -> 2500\n";
+        assert!(run.out.starts_with(wanted), "{}", run.out);
+    }
+    for version in ["1.G", "1.", ".2", "11.2", "1.2.3", "100h"] {
+        let run = run(&["consume", &path, "--from", "5", "--version", version, "C40910270000"]);
+        assert!(run.err.contains("--version needs a mapping version"), "{}", run.err);
+    }
 }
 
 #[test]
@@ -191,7 +205,7 @@ fn each_way_in_which_an_element_fails() {
 ";
     let path = file("ways.rig", text.as_bytes());
     let run = run(&["consume", &path, "--from", "240", "--version", "0", "4142 C3"]);
-    let wanted = "payload 1: 3 bytes from the managing node (240), version 00h
+    let wanted = "payload 1: 3 bytes from the managing node (240), version 0.0 (00h)
   element 1 (an Unsigned8) is passed over: it is no mapping word
   element 2 (6000h/0) is passed over: it is not whole bytes
   element 3 (6001h/0) is passed over: there is no such object
@@ -290,7 +304,7 @@ fn errors_of_use() {
         ),
         (
             &["consume", &path, "--from", "5", "--version", "C", "C4"],
-            "--version needs a number from 0 to 255",
+            "--version needs a mapping version, as 1.2 or 12h, not 'C'",
         ),
         (
             &["consume", &path, "--from", "5", "--version", "1", "C4G"],
