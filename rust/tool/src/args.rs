@@ -2,10 +2,13 @@
 
 use crate::help;
 use crate::quoting;
-use crate::rig::{hex_bytes, numbers};
+use crate::rig::{hex_bytes, numbers, MANAGING_NODE};
 use crate::words::Style;
 use std::ffi::OsString;
 use std::path::PathBuf;
+
+/// The last number that a node may have; 255 is all of them.
+const LAST_NODE: u8 = 254;
 
 pub enum Command {
     Help(&'static str),
@@ -107,7 +110,7 @@ fn consume(arguments: Vec<OsString>) -> Result<Command, String> {
         return Ok(Command::Help(help::CONSUME));
     }
     let rig = given.file("the rig file")?;
-    let sender = given.byte("--from", 1)?;
+    let sender = given.node("--from", MANAGING_NODE)?;
     let sender = sender
         .ok_or_else(|| given.wrong("--from is missing: the node that sends, as in --from 5"))?;
     let version = given.version()?;
@@ -129,7 +132,7 @@ fn replay(arguments: Vec<OsString>) -> Result<Command, String> {
     let rig = given.file("the rig file")?;
     let capture = given.file("the capture")?;
     given.no_more()?;
-    let node = given.byte("--node", 1)?;
+    let node = given.node("--node", LAST_NODE)?;
     let (quiet, style) = (given.has("--quiet"), given.style());
     Ok(Command::Replay(Replay { rig, capture, node, quiet, style }))
 }
@@ -228,19 +231,22 @@ impl Given {
     }
 
     /// The value of a setting, where it was given; the last one stands.
-    fn byte(&self, name: &str, least: u8) -> Result<Option<u8>, String> {
-        let value = match self.settings.iter().rev().find(|setting| setting.0 == name) {
-            Some((_, value)) => value,
+    fn setting(&self, name: &str) -> Option<&str> {
+        self.settings.iter().rev().find(|setting| setting.0 == name).map(|found| found.1.as_str())
+    }
+
+    /// A node from 1 to the last, where it was given.
+    fn node(&self, name: &str, last: u8) -> Result<Option<u8>, String> {
+        let value = match self.setting(name) {
+            Some(value) => value,
             None => return Ok(None),
         };
         match numbers::unsigned(value).and_then(|number| u8::try_from(number).ok()) {
-            Some(number) if number >= least => Ok(Some(number)),
+            Some(number) if (1..=last).contains(&number) => Ok(Some(number)),
             _ => {
+                let value = quoting::word(value);
                 let text = format!(
-                    "{} needs a number from {} to 255, as 16, 10h or 0x10, not {}",
-                    name,
-                    least,
-                    quoting::word(value)
+                    "{name} needs a node from 1 to {last}, as 16, 10h or 0x10, not {value}"
                 );
                 Err(self.wrong(&text))
             }
@@ -249,8 +255,8 @@ impl Given {
 
     /// The mapping version, which must be given: 1.2, 12h, 0x12 or 18.
     fn version(&self) -> Result<u8, String> {
-        let value = match self.settings.iter().rev().find(|setting| setting.0 == "--version") {
-            Some((_, value)) => value,
+        let value = match self.setting("--version") {
+            Some(value) => value,
             None => {
                 let text = "--version is missing: the payload's mapping version, as in --version 1.2 or 12h";
                 return Err(self.wrong(text));

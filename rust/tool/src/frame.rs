@@ -9,6 +9,9 @@ const POWERLINK: u16 = 0x88AB;
 /// EtherTypes of tags that stand before the frame's own.
 const TAGS: [u16; 2] = [0x8100, 0x88A8];
 
+/// What is not larger is a frame's length and no EtherType.
+const MOST_LENGTH: u16 = 1500;
+
 const POLL_REQUEST: u8 = 3;
 const POLL_RESPONSE: u8 = 4;
 
@@ -33,6 +36,8 @@ pub enum Frame<'a> {
     Message(u8),
     /// Another protocol, by its EtherType.
     Foreign(u16),
+    /// A frame with its length in place of an EtherType.
+    Llc,
     /// Too short for an EtherType.
     Runt,
     /// Captured on something else than an Ethernet.
@@ -65,6 +70,7 @@ pub fn dissect(link: Link, bytes: &[u8]) -> Frame<'_> {
         match found {
             Some((POWERLINK, rest)) => return message(rest),
             Some((tag, rest)) if TAGS.contains(&tag) => found = pair(rest, 2).zip(rest.get(4..)),
+            Some((0..=MOST_LENGTH, _)) => return Frame::Llc,
             Some((other, _)) => return Frame::Foreign(other),
             None => return Frame::Runt,
         }
@@ -112,6 +118,7 @@ pub fn message_name(kind: u8) -> String {
         1 => "SoC".to_string(),
         5 => "SoA".to_string(),
         6 => "ASnd".to_string(),
+        7 => "AMNI".to_string(),
         other => format!("POWERLINK message {other:02X}h"),
     }
 }
@@ -179,6 +186,11 @@ mod tests {
         assert_eq!(
             dissect(Link::Ethernet, &frame(&[0x08, 0x00], &RESPONSE)),
             Frame::Foreign(0x0800)
+        );
+        assert_eq!(dissect(Link::Ethernet, &frame(&[0x05, 0xDC], &RESPONSE)), Frame::Llc);
+        assert_eq!(
+            dissect(Link::Ethernet, &frame(&[0x05, 0xDD], &RESPONSE)),
+            Frame::Foreign(0x05DD)
         );
         assert_eq!(dissect(Link::Ethernet, &[0; 13]), Frame::Runt);
         assert_eq!(dissect(Link::Ethernet, &frame(&[], &[])), Frame::Runt);

@@ -125,6 +125,7 @@ impl Player<'_> {
             Frame::Foreign(ether_type) => {
                 self.count(Other::Frame(format!("EtherType {ether_type:04X}h")))
             }
+            Frame::Llc => self.count(Other::Frame("LLC".to_string())),
             Frame::Runt => self.count(Other::Frame("too short for a frame".to_string())),
             Frame::OtherLink(number) => self.count(Other::OtherLink(number)),
         }

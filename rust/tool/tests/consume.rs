@@ -295,12 +295,12 @@ fn errors_of_use() {
         (&full[..4], "--version is missing"),
         (&full[..6], "a payload is missing"),
         (
-            &["consume", &path, "--from", "256", "--version", "1", "C4"],
-            "--from needs a number from 1 to 255",
+            &["consume", &path, "--from", "241", "--version", "1", "C4"],
+            "--from needs a node from 1 to 240",
         ),
         (
             &["consume", &path, "--from", "0", "--version", "1", "C4"],
-            "--from needs a number from 1 to 255",
+            "--from needs a node from 1 to 240, as 16, 10h or 0x10, not '0'",
         ),
         (
             &["consume", &path, "--from", "5", "--version", "C", "C4"],

@@ -307,6 +307,16 @@ fn requests_come_from_the_managing_node() {
 }
 
 #[test]
+fn other_frames_have_their_names() {
+    let head = vec![0; 12];
+    let llc = [head.clone(), vec![0, 46], vec![0x42; 46]].concat();
+    let active = [head, vec![0x88, 0xAB, 7, 255, 240]].concat();
+    let capture = file("others.pcap", &pcap(false, false, &[llc, active, ramps()[0].clone()]));
+    let run = run(&["replay", &rig("ramp.rig"), &capture]);
+    assert!(run.out.ends_with("other frames: 1 AMNI, 1 LLC\n"), "{}", run.out);
+}
+
+#[test]
 fn a_node_does_not_hear_itself() {
     let text = "1400h Record\n1 U8 = 5\n1600h Array\n1 6000h at 0 length 1\n6000h Variable U8\n";
     let rig = file("own.rig", text.as_bytes());
