@@ -55,15 +55,20 @@ impl Chance {
 /// Checks and uses a rig if it is one; else its error has words, and a line of the file if any.
 fn use_rig(text: &[u8]) -> bool {
     let lines = text.iter().filter(|byte| **byte == b'\n').count() + 1;
-    let mut console = match rig::parse(text).and_then(Console::new) {
+    let console =
+        rig::parse(text).and_then(|rig| Console::new(rig).map_err(|problem| vec![problem]));
+    let mut console = match console {
         Ok(console) => console,
-        Err(problem) => {
-            assert!(!problem.text.is_empty());
-            assert!(
-                problem.line.map_or(true, |line| (1..=lines).contains(&line)),
-                "{}",
-                problem.text
-            );
+        Err(problems) => {
+            for problem in &problems {
+                assert!(!problem.text.is_empty());
+                assert!(
+                    problem.line.map_or(true, |line| (1..=lines).contains(&line)),
+                    "{}",
+                    problem.text
+                );
+            }
+            assert!(!problems.is_empty());
             return false;
         }
     };
@@ -255,7 +260,7 @@ fn what_is_told_was_written() {
     for _ in 0..400 {
         let text = random_rig(&mut chance);
         let rig = rig::parse(text.as_bytes())
-            .unwrap_or_else(|problem| panic!("{}\n{}", problem.text, text));
+            .unwrap_or_else(|problems| panic!("{}\n{}", problems[0].text, text));
         let mut console = Console::new(rig).unwrap_or_else(|problem| panic!("{}", problem.text));
         assert_explained(&mut console);
         for _ in 0..3 {

@@ -54,14 +54,19 @@ fn main() -> ExitCode {
         Ok(Status::Nothing) => ExitCode::from(3),
         // Whoever read the output has read enough; what was not said may have been a fault.
         Err(Failure::Output(error)) if error.kind() == ErrorKind::BrokenPipe => ExitCode::from(2),
-        Err(Failure::Output(error)) => complain(&format!("the output cannot be written: {error}")),
-        Err(Failure::Message(text)) => complain(&text),
+        Err(Failure::Output(error)) => {
+            complain(&[format!("the output cannot be written: {error}")])
+        }
+        Err(Failure::Message(text)) => complain(&[text]),
+        Err(Failure::Problems(texts)) => complain(&texts),
     }
 }
 
-fn complain(text: &str) -> ExitCode {
-    // There is no one left to tell if this fails.
-    let _ = writeln!(io::stderr(), "loomfinch: {text}");
+fn complain(texts: &[String]) -> ExitCode {
+    for text in texts {
+        // There is no one left to tell if this fails.
+        let _ = writeln!(io::stderr(), "loomfinch: {text}");
+    }
     ExitCode::from(2)
 }
 
@@ -93,6 +98,6 @@ fn console(file: &Named) -> Result<Console, Failure> {
         return Err(Failure::Message(text));
     }
     rig::parse(&text)
-        .and_then(Console::new)
-        .map_err(|problem| Failure::Message(problem.shown(&file.shown)))
+        .and_then(|rig| Console::new(rig).map_err(|problem| vec![problem]))
+        .map_err(|problems| Failure::problems(&file.shown, &problems))
 }

@@ -307,19 +307,19 @@ fn a_rig_without_channels_says_so() {
 
 #[test]
 fn rigs_that_are_damaged_missing_or_empty() {
-    let damaged = file("damaged.rig", b"# one\n6000h Variable Unsigned16 = 65536\n");
+    let damaged = file("damaged.rig", b"# one\n6000h Variable Unsigned16 = 65536\nwinch\n");
     for (path, wanted) in [
         (
             damaged.clone(),
             format!(
-                "{damaged}:2: expected a number from 0 to 65535 for an Unsigned16, found '65536'"
+                "{damaged}:2:29: expected a number from 0 to 65535 for an Unsigned16, found '65536'\nloomfinch: {damaged}:3:1: expected"
             ),
         ),
         (file("empty.rig", b""), "expected at least one object".to_string()),
-        (file("bytes.rig", &[0xFF, 0xFE, 0]), ":1: expected text in UTF-8".to_string()),
+        (file("bytes.rig", &[0xFF, 0xFE, 0]), ":1:1: expected text in UTF-8".to_string()),
         (rig("no-such.rig"), "No such file".to_string()),
         (rig("."), "irectory".to_string()),
-        (rig("rehearsal.pcap"), ":1: expected text in UTF-8".to_string()),
+        (rig("rehearsal.pcap"), ":1:1: expected text in UTF-8".to_string()),
         (
             file("large.rig", &vec![b'#'; (4 << 20) + 1]),
             "expected a rig file of at most".to_string(),

@@ -5,6 +5,7 @@ mod element;
 mod lexer;
 mod literal;
 pub mod numbers;
+mod object;
 mod parser;
 mod problem;
 mod types;
@@ -95,6 +96,11 @@ impl Object {
 }
 
 impl Value {
+    /// A value that stands for none.
+    pub fn empty() -> Value {
+        Value { of: ValueType::Unsigned8, bytes: vec![0], room: 0, milliseconds: false }
+    }
+
     /// The number of an Unsigned type's value.
     pub fn unsigned(&self) -> Option<u64> {
         Some(little_endian(&self.bytes)).filter(|_| is_unsigned(self.of))
