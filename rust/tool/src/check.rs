@@ -122,7 +122,7 @@ fn sender(rig: &Rig, channel: &Channel) -> Option<u8> {
 }
 
 fn sender_words(rig: &Rig, channel: &Channel) -> String {
-    sender(rig, channel).map_or("no node".to_string(), words::node)
+    sender(rig, channel).map_or("no node".to_string(), |sender| words::node(rig, sender))
 }
 
 /// What is no fault, of each channel, of several channels and of the rig.

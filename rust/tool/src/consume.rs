@@ -21,7 +21,7 @@ pub fn run(
             "payload {}: {} from {}, version {}",
             k + 1,
             words::bytes(payload.len()),
-            words::node(sender),
+            words::node(&console.rig, sender),
             words::version(version)
         )?;
         for line in &told.lines {

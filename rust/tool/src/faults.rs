@@ -25,7 +25,11 @@ fn no_sender(rig: &Rig, channel: u8) -> String {
     let index = 0x1400 + u16::from(channel);
     let taken = |sender| rig.channel_of(sender).map(|earlier| (earlier, sender));
     if let Some((earlier, sender)) = rig.named_sender(channel).and_then(taken) {
-        return format!("no sender: channel {} takes {} before it", earlier, words::node(sender));
+        return format!(
+            "no sender: channel {} takes {} before it",
+            earlier,
+            words::node(rig, sender)
+        );
     }
     let found = match rig.place(index, 1) {
         Place::Value(_, value) => {

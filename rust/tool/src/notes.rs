@@ -246,8 +246,8 @@ fn two_channels(
         named_place(rig, target.0, target.1),
         other,
         element,
-        words::node(one.sender),
-        words::node(later.sender)
+        words::node(rig, one.sender),
+        words::node(rig, later.sender)
     );
     let (kind, channel, element) = (Kind::TwoChannels, Some(later.channel), Some(element));
     Note { kind, channel, element, other: Some((one.channel, other)), text }

@@ -117,7 +117,9 @@ impl Player<'_> {
             Frame::Cut { request, sender, said, there, .. } => {
                 let why = cut(packet, said, there);
                 self.table.damaged(sender, packet.number, &why);
-                let from = sender.map_or("an unknown node".to_string(), words::node);
+                let from = sender.map_or("an unknown node".to_string(), |node| {
+                    words::node(&self.console.rig, node)
+                });
                 let head = format!("{} from {}", poll_name(request), from);
                 self.tell(packet, &head, &[why], out)
             }
@@ -164,7 +166,7 @@ impl Player<'_> {
         let head = format!(
             "{} from {}, version {}, {}",
             poll_name(poll.request),
-            words::node(sender),
+            words::node(&self.console.rig, sender),
             words::version(version),
             words::bytes(payload.len())
         );

@@ -45,7 +45,7 @@ pub fn tell(rig: &Rig, received: &Received, consumed: &Consumed, style: Style) -
     match consumed {
         Consumed::NotReady => teller.told.line("not ready: nothing happens".to_string()),
         Consumed::NoChannel => {
-            let node = words::node(received.sender);
+            let node = words::node(rig, received.sender);
             teller.told.line(format!("no channel of the rig takes {node}: nothing happens"));
         }
         Consumed::WrongVersion { channel, expected, noted } => {

@@ -1,6 +1,7 @@
 //! The table at the end of a replay: what each sender's frames came to.
 
 use crate::failure::Status;
+use crate::quoting;
 use crate::report::Told;
 use crate::rig::Rig;
 use crate::trouble::{Trouble, Troubles};
@@ -128,10 +129,12 @@ impl Table {
             let count =
                 |kind: &Trouble| format!("  {:>1$}", row.troubles.frames(*kind), kind.name().len());
             let counts: String = kinds.iter().map(count).collect();
+            let name = sender.and_then(|sender| rig.nodes.get(&sender));
+            let name = name.map_or(String::new(), |name| format!("  {}", quoting::text(name)));
             writeln!(
                 out,
-                "{:>6}  {:>6}  {:>9}  {:>14}{}",
-                shown, row.frames, row.not_ready, row.written, counts
+                "{:>6}  {:>6}  {:>9}  {:>14}{}{}",
+                shown, row.frames, row.not_ready, row.written, counts, name
             )?;
             for line in row.troubles.lines() {
                 writeln!(out, "        {line}")?;

@@ -1,7 +1,7 @@
 //! Plain words: numbers, places, types and values as a person reads them.
 
 use crate::quoting;
-use crate::rig::{is_unsigned, little_endian, Kind, Rig, Value};
+use crate::rig::{is_unsigned, little_endian, Kind, Rig, Value, MANAGING_NODE};
 use loomfinch::{PDOVersion, PdoMappingEntry, ValueType};
 
 /// How values are shown.
@@ -55,17 +55,21 @@ pub fn place(index: u16, sub_index: u8) -> String {
 
 /// `6000h/0 "Ramp time"`.
 pub fn named_place(rig: &Rig, index: u16, sub_index: u8) -> String {
-    match rig.name(index) {
+    match rig.name(index, sub_index) {
         "" => place(index, sub_index),
         name => format!("{} {}", place(index, sub_index), quoting::text(name)),
     }
 }
 
-pub fn node(node: u8) -> String {
-    match node {
-        240 => "the managing node (240)".to_string(),
+/// `node 5 "Revolve"`.
+pub fn node(rig: &Rig, node: u8) -> String {
+    let number = match node {
+        MANAGING_NODE => "the managing node (240)".to_string(),
         node => format!("node {node}"),
-    }
+    };
+    rig.nodes
+        .get(&node)
+        .map_or(number.clone(), |name| format!("{} {}", number, quoting::text(name)))
 }
 
 /// A mapping version: `1.2 (12h)`.

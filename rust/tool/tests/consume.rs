@@ -229,6 +229,24 @@ fn each_way_in_which_an_element_fails() {
 }
 
 #[test]
+fn elements_and_nodes_have_names() {
+    let text = "rig 1\nnode 5 \"Drehbühne\"\n1400h Record\n1 U8 = 5\n1600h Array\n1 6200h/3 at 0 length 4\n\
+                2 6000h at 0 length 4\n6000h Variable U16\n6200h Array \"Move times\"\n1..2 U32 ms\n\
+                3 U32 \"Revolve move\" ms\n";
+    let path = file("names.rig", text.as_bytes());
+    let check = run(&["check", &path]).out;
+    assert!(
+        check.starts_with("channel 0, from node 5 \"Drehbühne\", 2 elements: FAULT"),
+        "{check}"
+    );
+    let consume = run(&["consume", &path, "--from", "5", "--version", "0", "905F0100"]).out;
+    let wanted = "payload 1: 4 bytes from node 5 \"Drehbühne\", version 0.0 (00h)
+  6200h/3 \"Revolve move\": 0 ms = 0.000 s -> 90000 ms = 90.000 s
+";
+    assert!(consume.starts_with(wanted), "{consume}");
+}
+
+#[test]
 fn a_bit_that_is_set_is_not_the_field_s() {
     let text = "1400h Record\n1 U8 = 5\n1600h Array\n1 1C81h at 0 length 2\n2 6000h at 2 length 1\n6000h Variable U8\n\
                 1C81h Variable OctetString = [00 00]\n";

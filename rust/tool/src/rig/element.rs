@@ -114,7 +114,7 @@ impl Parts {
                 cursor.problem_of_line(format!("expected at most {MOST_ROOM} bytes, found {room}"))
             );
         }
-        Ok(Value { of, bytes, room, milliseconds: self.milliseconds })
+        Ok(Value { of, bytes, room, milliseconds: self.milliseconds, name: String::new() })
     }
 }
 
@@ -142,7 +142,7 @@ pub fn default_value(cursor: &mut Cursor, like: Option<ValueType>) -> Result<Val
         return Err(cursor
             .problem(format!("expected at most {MOST_ROOM} bytes in a default, found {room}")));
     }
-    Ok(Value { of, bytes, room, milliseconds: false })
+    Ok(Value { of, bytes, room, milliseconds: false, name: String::new() })
 }
 
 fn once(cursor: &Cursor, first: bool, part: &str) -> Result<bool, Problem> {

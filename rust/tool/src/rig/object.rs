@@ -60,7 +60,8 @@ fn set<T>(place: &mut Option<T>, found: T, cursor: &Cursor, part: &str) -> Resul
     }
 }
 
-fn named(name: String, cursor: &Cursor) -> Result<String, Problem> {
+/// A name that was taken, of a length that the library takes.
+pub fn named(name: String, cursor: &Cursor) -> Result<String, Problem> {
     if name.len() > MOST_NAME {
         let text = format!("expected a name of at most {} bytes, found {}", MOST_NAME, name.len());
         return Err(cursor.problem(text));
@@ -71,16 +72,20 @@ fn named(name: String, cursor: &Cursor) -> Result<String, Problem> {
 /// An element's line behind its number.
 pub fn element(cursor: &mut Cursor) -> Result<Value, Problem> {
     let mut parts = Parts::default();
+    let mut name: Option<String> = None;
     parts.take_mapping(cursor)?;
-    while cursor.peek().is_some() {
-        if !parts.take(cursor)? {
+    while let Some(token) = cursor.peek().cloned() {
+        if let Token::Text(text) = token {
+            cursor.next();
+            set(&mut name, named(text, cursor)?, cursor, "name")?;
+        } else if !parts.take(cursor)? {
             let wanted = if parts.is_empty() {
                 "a type, as in Unsigned16, or a mapping, as in 6000h/0 at 0 length 2"
             } else {
-                "a type, '=', 'room', 'ms' or the end of the line"
+                "a type, a \"name\", '=', 'room', 'ms' or the end of the line"
             };
             return Err(cursor.expected_next(wanted));
         }
     }
-    parts.finish(cursor)
+    Ok(Value { name: name.unwrap_or_default(), ..parts.finish(cursor)? })
 }

@@ -6,7 +6,7 @@ use super::numbers;
 use super::object;
 use super::problem::Problem;
 use super::types::Kind;
-use super::{Object, Rig, Value};
+use super::{Object, Rig, Value, FORM, MANAGING_NODE};
 use super::{MOST_BYTES, MOST_ELEMENTS, MOST_OBJECTS, MOST_VALUES};
 
 /// The rig that the bytes of a file describe, or all that is wrong with it, line by line.
@@ -46,6 +46,8 @@ struct Reader {
     open: Open,
     values: usize,
     bytes: usize,
+    /// Was a line that is not empty read?
+    begun: bool,
     problems: Vec<Problem>,
 }
 
@@ -65,7 +67,13 @@ impl Reader {
             Some(first) => first,
             None => return Ok(()),
         };
+        let is_first = !std::mem::replace(&mut self.begun, true);
         if let Token::Word(word) = &first {
+            match word.as_str() {
+                "rig" => return form(cursor, is_first),
+                "node" => return self.node(cursor),
+                _ => (),
+            }
             let kind = cursor.word_ahead(0).and_then(Kind::of_name);
             match numbers::index(word) {
                 Some(number) if kind.is_none() && self.has_elements() && number <= 0xFF => {
@@ -86,8 +94,38 @@ impl Reader {
                 return self.element(cursor, from, to);
             }
         }
-        let wanted = "an index, as in 6000h, or an element's number, as in 1";
+        let wanted = "an index, as in 6000h, an element's number, as in 1, or 'node'";
         Err(cursor.expected(wanted, Some(&first)))
+    }
+
+    /// `node 5 "Drehbühne"`, behind its first word.
+    fn node(&mut self, cursor: &mut Cursor) -> Result<(), Problem> {
+        self.begin(Open::Nothing);
+        let token = cursor.next();
+        let number = match &token {
+            Some(Token::Word(word)) => numbers::unsigned(word),
+            _ => None,
+        };
+        let node = number.and_then(|number| u8::try_from(number).ok());
+        let node = node.filter(|node| (1..=MANAGING_NODE).contains(node)).ok_or_else(|| {
+            cursor.expected("a node from 1 to 240, as in node 5 \"Revolve\"", token.as_ref())
+        })?;
+        if self.rig.nodes.contains_key(&node) {
+            return Err(
+                cursor.problem(format!("expected one name for each node, found node {node} again"))
+            );
+        }
+        let name = match cursor.next() {
+            Some(Token::Text(text)) => object::named(text, cursor)?,
+            other => {
+                return Err(cursor.expected("the node's name in double quotes", other.as_ref()))
+            }
+        };
+        self.rig.nodes.insert(node, name);
+        match cursor.next() {
+            None => Ok(()),
+            other => Err(cursor.expected("the end of the line", other.as_ref())),
+        }
     }
 
     /// Is the object above one that has elements?
@@ -174,6 +212,28 @@ impl Reader {
                 );
                 self.problems.push(Problem::of_line(line, text));
             }
+        }
+    }
+}
+
+/// `rig 1`, behind its first word.
+fn form(cursor: &mut Cursor, is_first: bool) -> Result<(), Problem> {
+    if !is_first {
+        return Err(cursor.problem("expected 'rig' and the form's version on the first line only"));
+    }
+    let token = cursor.next();
+    let version = match &token {
+        Some(Token::Word(word)) => numbers::unsigned(word),
+        _ => None,
+    };
+    match (version, cursor.peek()) {
+        (Some(FORM), None) => Ok(()),
+        (Some(FORM), Some(_)) => Err(cursor.expected_next("the end of the line")),
+        (Some(other), _) => Err(cursor.problem(format!(
+            "expected version {FORM} of the rig form, found {other}: a newer loomfinch may read it"
+        ))),
+        (None, _) => {
+            Err(cursor.expected("the version of the rig form, as in rig 1", token.as_ref()))
         }
     }
 }

@@ -95,8 +95,8 @@ fn error_of(line: &str) -> Problem {
 #[test]
 fn errors_name_the_line_and_what_was_expected() {
     for (line, wanted) in [
-        ("Variable", "expected an index, as in 6000h, or an element's number, as in 1, found 'Variable'"),
-        ("\"6000h\"", "expected an index, as in 6000h, or an element's number, as in 1, found the text \"6000h\""),
+        ("Variable", "expected an index, as in 6000h, an element's number, as in 1, or 'node', found 'Variable'"),
+        ("\"6000h\"", "expected an index, as in 6000h, an element's number, as in 1, or 'node', found the text \"6000h\""),
         ("6000h", "expected Variable, Array or Record, found the end of the line"),
         ("6000h Varible", "expected Variable, Array or Record, found 'Varible'"),
         ("6000h Variable", "expected a type, such as Unsigned16"),
@@ -151,6 +151,36 @@ fn errors_name_the_line_and_what_was_expected() {
         let problem = error_of(line);
         assert_eq!(problem.line, Some(3), "{}: {}", line, problem.text);
         assert!(problem.text.starts_with(wanted), "{}: {}", line, problem.text);
+    }
+}
+
+#[test]
+fn names_of_elements_and_nodes() {
+    let text = "rig 1\nnode 5 \"Drehbühne\"\n6200h Array \"Move times\"\n1 U32 ms\n2 U32 \"Revolve move\" ms\n\
+                1600h Array\n1 6200h/2 at 0 length 4 \"Move\"\nnode 240 \"Pult\"\n";
+    let rig = parse(text.as_bytes()).unwrap();
+    assert_eq!((rig.nodes[&5].as_str(), rig.nodes[&240].as_str()), ("Drehbühne", "Pult"));
+    let names = [(0, "Move times"), (1, "Move times"), (2, "Revolve move"), (3, "Move times")];
+    for (sub_index, name) in names {
+        assert_eq!(rig.name(0x6200, sub_index), name);
+    }
+    assert!(rig.objects[&0x6200].values[1].milliseconds);
+    assert_eq!(rig.name(0x1600, 1), "Move");
+    for (text, wanted) in [
+        ("rig 2\n6000h Variable U8", "expected version 1 of the rig form, found 2"),
+        ("rig\n6000h Variable U8", "expected the version of the rig form, as in rig 1"),
+        (
+            "6000h Variable U8\nrig 1",
+            "expected 'rig' and the form's version on the first line only",
+        ),
+        ("node 5 \"a\"\nnode 5 \"b\"", "expected one name for each node, found node 5 again"),
+        ("node 0 \"a\"", "expected a node from 1 to 240"),
+        ("node 5", "expected the node's name in double quotes, found the end of the line"),
+        ("node 5 \"a\" 6", "expected the end of the line, found '6'"),
+        ("6000h Array\n1 U8 \"a\" \"b\"", "expected one name, found a second"),
+    ] {
+        let problem = &parse(text.as_bytes()).unwrap_err()[0];
+        assert!(problem.text.starts_with(wanted), "{}: {}", text, problem.text);
     }
 }
 
