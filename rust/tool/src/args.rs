@@ -1,8 +1,11 @@
 //! The command line.
 
+use crate::clock::Clock;
+use crate::filter::Filter;
+use crate::given::{Given, Known};
 use crate::help;
 use crate::quoting;
-use crate::rig::{hex_bytes, numbers, MANAGING_NODE};
+use crate::rig::MANAGING_NODE;
 use crate::words::Style;
 use std::ffi::OsString;
 use std::path::PathBuf;
@@ -47,6 +50,11 @@ pub struct Replay {
     /// The console's own node: poll requests to others are not for it.
     pub node: Option<u8>,
     pub quiet: bool,
+    /// A line of JSON for each frame, and one for the table.
+    pub json: bool,
+    pub filter: Filter,
+    /// The clock on which the time of day is shown.
+    pub clock: Option<Clock>,
     pub style: Style,
 }
 
@@ -124,7 +132,10 @@ fn consume(arguments: Vec<OsString>) -> Result<Command, String> {
 }
 
 fn replay(arguments: Vec<OsString>) -> Result<Command, String> {
-    let known = Known { flags: &["--quiet", "--times", "--comma"], settings: &["--node"] };
+    let known = Known {
+        flags: &["--quiet", "--times", "--comma", "--changes", "--faults", "--json"],
+        settings: &["--node", "--from", "--object", "--between", "--clock"],
+    };
     let mut given = Given::split("replay", arguments, known)?;
     if given.help {
         return Ok(Command::Help(help::REPLAY));
@@ -132,153 +143,15 @@ fn replay(arguments: Vec<OsString>) -> Result<Command, String> {
     let rig = given.file("the rig file")?;
     let capture = given.file("the capture")?;
     given.no_more()?;
+    let clock = given.clock()?;
+    let filter = Filter {
+        objects: given.objects()?,
+        sender: given.node("--from", MANAGING_NODE)?,
+        changes: given.has("--changes"),
+        faults: given.has("--faults"),
+        between: given.between(clock)?,
+    };
     let node = given.node("--node", LAST_NODE)?;
-    let (quiet, style) = (given.has("--quiet"), given.style());
-    Ok(Command::Replay(Replay { rig, capture, node, quiet, style }))
-}
-
-/// A command's arguments, options apart from the others.
-struct Given {
-    command: &'static str,
-    help: bool,
-    flags: Vec<String>,
-    settings: Vec<(String, String)>,
-    words: Vec<OsString>,
-}
-
-/// The options that a command knows: those that stand alone, and those with a value behind them.
-struct Known<'a> {
-    flags: &'a [&'a str],
-    settings: &'a [&'a str],
-}
-
-impl Given {
-    fn split(
-        command: &'static str,
-        arguments: Vec<OsString>,
-        known: Known,
-    ) -> Result<Given, String> {
-        let (flags, settings, words) = (Vec::new(), Vec::new(), Vec::new());
-        let mut given = Given { command, help: false, flags, settings, words };
-        let mut arguments = arguments.into_iter();
-        while let Some(argument) = arguments.next() {
-            let text = argument.to_string_lossy().into_owned();
-            match text.as_str() {
-                "--" => given.words.extend(arguments.by_ref()),
-                "--help" | "-h" => given.help = true,
-                "-" => given.words.push(argument),
-                _ if text.starts_with('-') => given.option(&text, &known, &mut arguments)?,
-                _ => given.words.push(argument),
-            }
-        }
-        Ok(given)
-    }
-
-    fn option(
-        &mut self,
-        text: &str,
-        known: &Known,
-        rest: &mut impl Iterator<Item = OsString>,
-    ) -> Result<(), String> {
-        let (name, value) = match text.split_once('=') {
-            Some((name, value)) => (name, Some(value.to_string())),
-            None => (text, None),
-        };
-        if known.flags.contains(&text) {
-            self.flags.push(text.to_string());
-        } else if known.settings.contains(&name) {
-            let behind = || rest.next().map(|value| value.to_string_lossy().into_owned());
-            let value = value.or_else(behind);
-            let missing = || self.wrong(&format!("{name} needs a value behind it"));
-            let value = value.ok_or_else(missing)?;
-            self.settings.push((name.to_string(), value));
-        } else {
-            return Err(self.wrong(&format!("there is no option {}", quoting::word(text))));
-        }
-        Ok(())
-    }
-
-    fn wrong(&self, text: &str) -> String {
-        format!("{}.\n'loomfinch {} --help' says more.", text, self.command)
-    }
-
-    fn has(&self, flag: &str) -> bool {
-        self.flags.iter().any(|given| given == flag)
-    }
-
-    fn style(&self) -> Style {
-        Style { times: self.has("--times"), comma: self.has("--comma") }
-    }
-
-    fn file(&mut self, what: &str) -> Result<Named, String> {
-        if self.words.is_empty() {
-            return Err(self.wrong(&format!("{what} is missing")));
-        }
-        let word = self.words.remove(0);
-        let shown = quoting::printable(&word.to_string_lossy());
-        Ok(Named { path: PathBuf::from(word), shown })
-    }
-
-    fn no_more(&self) -> Result<(), String> {
-        match self.words.first() {
-            None => Ok(()),
-            Some(word) => {
-                let text =
-                    format!("{} is one argument too many", quoting::word(&word.to_string_lossy()));
-                Err(self.wrong(&text))
-            }
-        }
-    }
-
-    /// The value of a setting, where it was given; the last one stands.
-    fn setting(&self, name: &str) -> Option<&str> {
-        self.settings.iter().rev().find(|setting| setting.0 == name).map(|found| found.1.as_str())
-    }
-
-    /// A node from 1 to the last, where it was given.
-    fn node(&self, name: &str, last: u8) -> Result<Option<u8>, String> {
-        let value = match self.setting(name) {
-            Some(value) => value,
-            None => return Ok(None),
-        };
-        match numbers::unsigned(value).and_then(|number| u8::try_from(number).ok()) {
-            Some(number) if (1..=last).contains(&number) => Ok(Some(number)),
-            _ => {
-                let value = quoting::word(value);
-                let text = format!(
-                    "{name} needs a node from 1 to {last}, as 16, 10h or 0x10, not {value}"
-                );
-                Err(self.wrong(&text))
-            }
-        }
-    }
-
-    /// The mapping version, which must be given: 1.2, 12h, 0x12 or 18.
-    fn version(&self) -> Result<u8, String> {
-        let value = match self.setting("--version") {
-            Some(value) => value,
-            None => {
-                let text = "--version is missing: the payload's mapping version, as in --version 1.2 or 12h";
-                return Err(self.wrong(text));
-            }
-        };
-        let plain = || numbers::unsigned(value).and_then(|number| u8::try_from(number).ok());
-        numbers::version(value).or_else(plain).ok_or_else(|| {
-            let value = quoting::word(value);
-            self.wrong(&format!("--version needs a mapping version, as 1.2 or 12h, not {value}"))
-        })
-    }
-
-    fn payload(&self, word: &OsString) -> Result<Vec<u8>, String> {
-        let text = word.to_string_lossy();
-        let groups = text.split(|c: char| c.is_whitespace() || c == ':');
-        let bytes: Option<Vec<Vec<u8>>> = groups.map(hex_bytes).collect();
-        bytes.map(|bytes| bytes.concat()).ok_or_else(|| {
-            let text = format!(
-                "a payload is pairs of hexadecimal digits, as in C40910270000, not {}",
-                quoting::word(&text)
-            );
-            self.wrong(&text)
-        })
-    }
+    let (quiet, json, style) = (given.has("--quiet"), given.has("--json"), given.style());
+    Ok(Command::Replay(Replay { rig, capture, node, quiet, json, filter, clock, style }))
 }

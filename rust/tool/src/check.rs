@@ -161,7 +161,7 @@ fn channel_json(rig: &Rig, channel: &Channel, explain: bool) -> Json {
     let mut members = vec![
         ("channel", Json::number(channel.number)),
         ("sender", Json::or_null(sender(rig, channel).map(Json::number))),
-        ("elements", Json::Number(channel.elements.len() as u64)),
+        ("elements", Json::number(channel.elements.len() as u64)),
         ("pass", Json::Bool(channel.checked.is_pass())),
         ("fault", if channel.checked.is_pass() { Json::Null } else { fault }),
     ];
@@ -174,7 +174,7 @@ fn channel_json(rig: &Rig, channel: &Channel, explain: bool) -> Json {
 fn element_json(element: &Element) -> Json {
     let mapped = element.mapped.as_ref();
     let number =
-        |of: fn(&Mapped) -> u64| Json::or_null(mapped.map(|mapped| Json::Number(of(mapped))));
+        |of: fn(&Mapped) -> u64| Json::or_null(mapped.map(|mapped| Json::number(of(mapped))));
     Json::Object(vec![
         ("element", Json::number(element.number)),
         ("type", Json::text(element.element_type.name())),
@@ -197,14 +197,14 @@ fn target_json(target: Target) -> Json {
             vec![
                 kind("value"),
                 ("type", Json::text(value_type.name())),
-                ("size", Json::Number(size as u64)),
+                ("size", Json::number(size as u64)),
             ]
         }
         Target::String { value_type, room } => {
             vec![
                 kind("string"),
                 ("type", Json::text(value_type.name())),
-                ("room", Json::Number(room as u64)),
+                ("room", Json::number(room as u64)),
             ]
         }
     })

@@ -35,6 +35,7 @@ pub enum Consumed {
     WrongVersion {
         channel: u8,
         expected: u8,
+        elements: Vec<Element>,
         noted: Option<Change>,
     },
     Taken {
@@ -107,7 +108,7 @@ impl Console {
         if events.iter().any(|record| record.event == Event::MapVersion) {
             let expected = self.rig.record_u8(0x1400 + u16::from(channel), 2).unwrap_or(0);
             let noted = self.noted(WRONG_VERSIONS);
-            return Ok(Consumed::WrongVersion { channel, expected, noted });
+            return Ok(Consumed::WrongVersion { channel, expected, elements, noted });
         }
         let mut steps = self.steps(elements, &events, received.payload);
         let short = events.iter().any(|record| record.event == Event::PayloadShort(Cause::Frame));

@@ -25,7 +25,7 @@ pub fn run(
             words::version(version)
         )?;
         for line in &told.lines {
-            writeln!(out, "  {line}")?;
+            writeln!(out, "  {}", line.text)?;
         }
         if !told.troubles.is_empty() {
             status = Status::Faults;

@@ -51,6 +51,8 @@ pub struct Poll<'a> {
     /// The node that the frame is addressed to.
     pub destination: u8,
     pub sender: u8,
+    /// The NMT state that a response says its sender has.
+    pub state: Option<u8>,
     pub version: u8,
     pub ready: bool,
     pub payload: &'a [u8],
@@ -104,6 +106,7 @@ fn message(bytes: &[u8]) -> Frame<'_> {
             request,
             destination: bytes[1],
             sender: sender.unwrap_or(0),
+            state: Some(bytes[3]).filter(|_| !request),
             version: bytes[6],
             ready: bytes[4] & READY != 0,
             payload,
@@ -121,6 +124,26 @@ pub fn message_name(kind: u8) -> String {
         7 => "AMNI".to_string(),
         other => format!("POWERLINK message {other:02X}h"),
     }
+}
+
+/// The name of an NMT state (EPSG DS 301, 7.1).
+pub fn state_name(state: u8) -> String {
+    let name = match state {
+        0x00 => "Off",
+        0x19 => "Initialising",
+        0x29 => "Reset application",
+        0x39 => "Reset communication",
+        0x79 => "Reset configuration",
+        0x1C => "Not active",
+        0x1D => "Pre-operational 1",
+        0x5D => "Pre-operational 2",
+        0x6D => "Ready to operate",
+        0xFD => "Operational",
+        0x4D => "Stopped",
+        0x1E => "Basic Ethernet",
+        other => return format!("NMT state {other:02X}h"),
+    };
+    name.to_string()
 }
 
 #[cfg(test)]
@@ -143,6 +166,7 @@ mod tests {
             request: false,
             destination: 255,
             sender: 5,
+            state: Some(0xFD),
             version: 0x12,
             ready: true,
             payload: &[0xC4, 9],
@@ -159,6 +183,7 @@ mod tests {
             request: true,
             destination: 255,
             sender: 240,
+            state: None,
             version: 0x12,
             ready: false,
             payload: &[0xC4, 9],

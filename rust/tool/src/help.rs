@@ -98,6 +98,7 @@ Reads a network capture (pcap or pcapng, of an Ethernet or cooked by Linux),
 gives the payloads of its POWERLINK frames to the rig in their order, and says for each frame what it
 changed, what was refused and why. A table by sender follows: how many frames
 had each kind of trouble, and the first of each, a CUT before all others.
+All frames are consumed and counted, told or not.
 CAPTURE may be - for the standard input: each packet is told as it comes, and an
 interrupt (Ctrl-C) ends the capture and writes the table:
 
@@ -108,6 +109,16 @@ interrupt (Ctrl-C) ends the capture and writes the table:
                 Without it, PReqs are left out where they go to several nodes,
                 and where the capture comes through a pipe
   --quiet       write the table alone
+  --object 6000h/0
+                tell only what concerns this object; may be given again
+  --from NODE   tell only frames of this sender
+  --changes     tell only values that changed
+  --faults      tell only frames in which something went wrong
+  --clock +01:00
+                show the time of day, on a clock so far ahead of UTC
+  --between 20:14:00..20:15:00
+                tell only frames of this part of the day, on that clock
+  --json        write a line of JSON for each frame, and one for the table
   --times       show every Unsigned16 and Unsigned32 as a time in ms and s,
                 also where the rig file has no 'ms' beside it
   --comma       write decimals with a comma: 2,500 s

@@ -1,7 +1,7 @@
 //! What a payload changed, told line by line.
 
 use crate::console::{Change, Consumed, Outcome, Received, Step};
-use crate::explain::Mapped;
+use crate::explain::{Element, Mapped};
 use crate::faults::last_bytes;
 use crate::reasons;
 use crate::rig::{Rig, Value};
@@ -12,7 +12,10 @@ use loomfinch::{Cause, Target, ValueType};
 /// A payload's story, and what of it a table counts.
 #[derive(Default)]
 pub struct Told {
-    pub lines: Vec<String>,
+    pub lines: Vec<Line>,
+    pub changes: Vec<Changed>,
+    /// The places that the payload's channel maps.
+    pub mapped: Vec<(u16, u8)>,
     pub written: u64,
     /// Did a channel look at the payload?
     pub taken: bool,
@@ -20,20 +23,46 @@ pub struct Told {
     pub troubles: Vec<(Trouble, String)>,
 }
 
+/// A line of the story.
+pub struct Line {
+    /// The place that it is about, or none where it is about the payload as a whole.
+    pub place: Option<(u16, u8)>,
+    /// Did a value change?
+    pub changed: bool,
+    /// Was a value written that was there before?
+    pub same: bool,
+    pub text: String,
+}
+
+/// A value as it was and is, in words.
+pub struct Changed {
+    pub index: u16,
+    pub sub_index: u8,
+    pub before: String,
+    pub after: String,
+}
+
 impl Told {
-    /// The story of a payload that was refused as a whole.
-    pub fn refused(why: String) -> Told {
-        let mut told = Told { taken: true, ..Told::default() };
-        told.trouble(Trouble::Refused, why);
+    /// The story of a frame that could not be consumed.
+    pub fn damaged(why: String) -> Told {
+        let mut told = Told::default();
+        told.trouble(Trouble::Damaged, None, why);
         told
     }
 
-    fn line(&mut self, text: String) {
-        self.lines.push(text);
+    /// The story of a payload that was refused as a whole.
+    pub fn refused(why: String) -> Told {
+        let mut told = Told { taken: true, ..Told::default() };
+        told.trouble(Trouble::Refused, None, why);
+        told
     }
 
-    fn trouble(&mut self, kind: Trouble, text: String) {
-        self.lines.push(text.clone());
+    fn line(&mut self, place: Option<(u16, u8)>, text: String) {
+        self.lines.push(Line { place, changed: false, same: false, text });
+    }
+
+    fn trouble(&mut self, kind: Trouble, place: Option<(u16, u8)>, text: String) {
+        self.line(place, text.clone());
         self.troubles.push((kind, text));
     }
 }
@@ -43,18 +72,22 @@ pub fn tell(rig: &Rig, received: &Received, consumed: &Consumed, style: Style) -
     let told = Told { taken, ..Told::default() };
     let mut teller = Teller { rig, received, style, told };
     match consumed {
-        Consumed::NotReady => teller.told.line("not ready: nothing happens".to_string()),
+        Consumed::NotReady => teller.told.line(None, "not ready: nothing happens".to_string()),
         Consumed::NoChannel => {
             let node = words::node(rig, received.sender);
-            teller.told.line(format!("no channel of the rig takes {node}: nothing happens"));
+            teller.told.line(None, format!("no channel of the rig takes {node}: nothing happens"));
         }
-        Consumed::WrongVersion { channel, expected, noted } => {
+        Consumed::WrongVersion { channel, expected, elements, noted } => {
+            teller.told.mapped = elements.iter().filter_map(place_of).collect();
             teller.wrong_version(*channel, *expected);
             teller.noted(noted.as_ref());
         }
         Consumed::Taken { channel, steps, noted } => {
+            teller.told.mapped = steps.iter().filter_map(|step| place_of(&step.element)).collect();
             if steps.is_empty() {
-                teller.told.line(format!("channel {channel} has no mapping: nothing happens"));
+                teller
+                    .told
+                    .line(None, format!("channel {channel} has no mapping: nothing happens"));
             }
             for (k, step) in steps.iter().enumerate() {
                 teller.step(step, &steps[k + 1..]);
@@ -80,7 +113,7 @@ impl Teller<'_> {
             channel,
             words::versions_from(expected)
         );
-        self.told.trouble(Trouble::Version, why);
+        self.told.trouble(Trouble::Version, None, why);
     }
 
     fn step(&mut self, step: &Step, later: &[Step]) {
@@ -89,45 +122,53 @@ impl Teller<'_> {
             None => words::type_with_article(step.element.element_type),
         };
         let element = format!("element {} ({})", step.element.number, at);
+        let place = place_of(&step.element);
         match &step.outcome {
             Outcome::Written(change) => {
                 self.told.written += 1;
-                self.told.line(format!("{}: {}", at, self.changed(change, later)));
+                self.written(&at, change, later);
                 self.cut(&at, step, change);
             }
             Outcome::PassedOver => {
                 let why = reasons::passed_over(&step.element);
                 let text = format!("{element} is passed over: {why}");
-                self.told.trouble(Trouble::PassedOver, text);
+                self.told.trouble(Trouble::PassedOver, place, text);
             }
-            Outcome::HandedOn => self.told.line(format!("{element} is handed on to SDO")),
+            Outcome::HandedOn => self.told.line(place, format!("{element} is handed on to SDO")),
             Outcome::Refused(why) => {
                 let why = reasons::refused(*why, &step.element);
                 let text = format!("{element} is not written: {why}");
-                self.told.trouble(Trouble::Refused, text);
+                self.told.trouble(Trouble::Refused, place, text);
             }
             Outcome::Stopped(cause) => {
                 let why = reasons::stopped(*cause, &step.element, self.received);
-                self.told.trouble(stop(*cause), format!("stopped at {element}: {why}"));
+                self.told.trouble(stop(*cause), place, format!("stopped at {element}: {why}"));
             }
-            Outcome::NotReached => self.told.line(format!("{element} is not reached")),
+            Outcome::NotReached => self.told.line(place, format!("{element} is not reached")),
         }
     }
 
-    fn changed(&self, change: &Change, later: &[Step]) -> String {
-        let target = (change.index, change.sub_index);
+    fn written(&mut self, at: &str, change: &Change, later: &[Step]) {
+        let (index, sub_index) = (change.index, change.sub_index);
         let again = later.iter().find(|step| match &step.outcome {
-            Outcome::Written(other) => (other.index, other.sub_index) == target,
+            Outcome::Written(other) => (other.index, other.sub_index) == (index, sub_index),
             _ => false,
         });
         let again = again.map_or(String::new(), |step| {
             format!(" (element {} writes it again)", step.element.number)
         });
-        let after = self.shown(change.index, &change.after);
-        if change.before.bytes == change.after.bytes {
-            return format!("{after}, as before{again}");
+        let before = self.shown(index, &change.before);
+        let after = self.shown(index, &change.after);
+        let same = change.before.bytes == change.after.bytes;
+        let text = match same {
+            true => format!("{at}: {after}, as before{again}"),
+            false => format!("{at}: {before} -> {after}{again}"),
+        };
+        let place = Some((index, sub_index));
+        self.told.lines.push(Line { place, changed: !same, same, text });
+        if !same {
+            self.told.changes.push(Changed { index, sub_index, before, after });
         }
-        format!("{} -> {}{}", self.shown(change.index, &change.before), after, again)
     }
 
     /// A value; a mapping's element as the mapping that it says.
@@ -170,7 +211,7 @@ impl Teller<'_> {
             words::hex(lost),
             if lost.len() == 1 { "is" } else { "are" }
         );
-        self.told.line(format!("  CUT: {why}"));
+        self.told.line(Some((change.index, change.sub_index)), format!("  CUT: {why}"));
         self.told.troubles.push((Trouble::Cut, format!("{at}: {why}")));
     }
 
@@ -184,11 +225,22 @@ impl Teller<'_> {
         let bytes = change.before.bytes.iter().zip(&change.after.bytes);
         for (k, (before, after)) in bytes.enumerate().filter(|(_, pair)| pair.0 != pair.1) {
             let node = 8 * k + (before ^ after).trailing_zeros() as usize + 1;
-            self.told.line(format!(
+            let text = format!(
                 "{at}: the bit of node {node} is set (byte {k}: {before:02X} -> {after:02X})"
-            ));
+            );
+            let place = Some((change.index, change.sub_index));
+            self.told.lines.push(Line { place, changed: true, same: false, text });
         }
+        let (index, sub_index) = (change.index, change.sub_index);
+        let before = self.shown(index, &change.before);
+        let after = self.shown(index, &change.after);
+        self.told.changes.push(Changed { index, sub_index, before, after });
     }
+}
+
+/// The place that an element maps onto.
+fn place_of(element: &Element) -> Option<(u16, u8)> {
+    element.mapped.as_ref().map(|mapped| (mapped.entry.index, mapped.entry.sub_index))
 }
 
 /// The trouble of a payload that stopped.

@@ -38,12 +38,13 @@ impl Other {
     }
 }
 
+/// What a sender's frames came to.
 #[derive(Default)]
-struct Row {
-    frames: u64,
-    not_ready: u64,
-    written: u64,
-    troubles: Troubles,
+pub struct Row {
+    pub frames: u64,
+    pub not_ready: u64,
+    pub written: u64,
+    pub troubles: Troubles,
 }
 
 impl Table {
@@ -78,7 +79,7 @@ impl Table {
     }
 
     /// Why no channel looked at anything; none where one did.
-    fn nothing(&self, rig: &Rig) -> Option<&'static str> {
+    pub fn nothing(&self, rig: &Rig) -> Option<&'static str> {
         let link = |other: &Other| matches!(other, Other::OtherLink(_));
         let left_out = |other: &Other| matches!(other, Other::LeftOut(_));
         let known = |sender: &Option<u8>| sender.and_then(|one| rig.channel_of(one)).is_some();
@@ -99,8 +100,13 @@ impl Table {
         }
     }
 
-    pub fn is_empty(&self) -> bool {
-        self.senders.is_empty()
+    pub fn senders(&self) -> impl Iterator<Item = (&Option<u8>, &Row)> {
+        self.senders.iter()
+    }
+
+    /// The frames that were not given to the console: what they are, and how many.
+    pub fn others(&self) -> impl Iterator<Item = (String, u64)> + '_ {
+        self.others.iter().map(|(other, count)| (other.shown(), *count))
     }
 
     pub fn write(&self, rig: &Rig, out: &mut dyn Write) -> io::Result<()> {
@@ -108,8 +114,8 @@ impl Table {
             self.write_senders(rig, out)?;
         }
         if !self.others.is_empty() {
-            let kind = |(other, count): (&Other, &u64)| format!("{} {}", count, other.shown());
-            let kinds: Vec<String> = self.others.iter().map(kind).collect();
+            let kinds: Vec<String> =
+                self.others().map(|(kind, count)| format!("{count} {kind}")).collect();
             writeln!(out, "other frames: {}", kinds.join(", "))?;
         }
         match self.nothing(rig) {

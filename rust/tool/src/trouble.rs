@@ -77,6 +77,11 @@ impl Troubles {
         self.found.get(&kind).map_or(0, |found| found.frames)
     }
 
+    /// The first packet that had a kind of trouble, and what it was.
+    pub fn first(&self, kind: Trouble) -> Option<(u64, &str)> {
+        self.found.get(&kind).map(|found| (found.first.0, found.first.1.as_str()))
+    }
+
     /// A line for each kind that was found: how often, and the first of them.
     pub fn lines(&self) -> Vec<String> {
         let line = |(kind, found): (&Trouble, &Found)| {

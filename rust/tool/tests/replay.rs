@@ -19,25 +19,25 @@ fn the_rehearsal_is_made_by_its_script() {
 fn the_rehearsal_tells_its_story() {
     let run = run(&["replay", &rig("ramp.rig"), &rig("rehearsal.pcap")]);
     assert_eq!(run.status, 1);
-    let wanted = r#"No. 2  0.000400 s  PRes from node 5, version 1.2 (12h), 8 bytes
+    let wanted = r#"No. 2  0.000400 s  PRes from node 5, Operational, version 1.2 (12h), 8 bytes
     6000h/0 "Ramp time": 0 ms = 0.000 s -> 2500 ms = 2.500 s
     6200h/3 "Move times": 0 ms = 0.000 s, as before
-No. 3  0.010400 s  PRes from node 5, version 1.2 (12h), 8 bytes
+No. 3  0.010400 s  PRes from node 5, Operational, version 1.2 (12h), 8 bytes
     not ready: nothing happens
-No. 4  0.020400 s  PRes from node 5, version 1.2 (12h), 8 bytes
+No. 4  0.020400 s  PRes from node 5, Operational, version 1.2 (12h), 8 bytes
     6000h/0 "Ramp time": 2500 ms = 2.500 s -> 3000 ms = 3.000 s
     6200h/3 "Move times": 0 ms = 0.000 s, as before
-No. 5  0.020700 s  PRes from node 9, version 1.2 (12h), 8 bytes
+No. 5  0.020700 s  PRes from node 9, Operational, version 1.2 (12h), 8 bytes
     no channel of the rig takes node 9: nothing happens
-No. 6  0.030400 s  PRes from node 5, version 1.2 (12h), 8 bytes
+No. 6  0.030400 s  PRes from node 5, Operational, version 1.2 (12h), 8 bytes
     6000h/0 "Ramp time": 3000 ms = 3.000 s -> 24464 ms = 24.464 s
       CUT: element 1's field is 90 5F 01 00, 90000 ms = 90.000 s; the last 2 bytes, 01 00, are lost
     6200h/3 "Move times": 0 ms = 0.000 s -> 1 ms = 0.001 s
-No. 7  0.040400 s  PRes from node 5, version 1.2 (12h), 3 bytes
+No. 7  0.040400 s  PRes from node 5, Operational, version 1.2 (12h), 3 bytes
     stopped at element 1 (6000h/0 "Ramp time"): it needs 4 bytes of payload, and 3 came
     element 2 (6200h/3 "Move times") is not reached
     1C81h/0 "Short payloads": the bit of node 5 is set (byte 0: 00 -> 10)
-No. 8  0.050400 s  PRes from node 5, version 2.2 (22h), 8 bytes
+No. 8  0.050400 s  PRes from node 5, Operational, version 2.2 (22h), 8 bytes
     refused: the payload has version 2.2 (22h), channel 0 expects 1.0 to 1.F
     1C80h/0 "Wrong versions": the bit of node 5 is set (byte 0: 00 -> 10)
 No. 9  0.060400 s  PRes from node 5

@@ -211,11 +211,7 @@ fn mapping(cursor: &mut Cursor) -> Result<PdoMappingEntry, Problem> {
 fn target(cursor: &mut Cursor) -> Result<(u16, u8), Problem> {
     let token = cursor.next();
     let parsed = match &token {
-        Some(Token::Word(word)) => {
-            let (index, sub_index) = word.split_once('/').unwrap_or((word, "0"));
-            let sub_index = numbers::unsigned(sub_index).and_then(|n| u8::try_from(n).ok());
-            numbers::index(index).zip(sub_index)
-        }
+        Some(Token::Word(word)) => numbers::place(word),
         _ => None,
     };
     parsed.ok_or_else(|| cursor.expected("a target, as in 6000h/0", token.as_ref()))

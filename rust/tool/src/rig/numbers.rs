@@ -45,6 +45,13 @@ pub fn version(word: &str) -> Option<u8> {
     Some(digit(main)? << 4 | digit(sub)?)
 }
 
+/// A place: 6000h/0, or 6000h, which is the same.
+pub fn place(word: &str) -> Option<(u16, u8)> {
+    let (first, sub_index) = word.split_once('/').unwrap_or((word, "0"));
+    let sub_index = unsigned(sub_index).and_then(|number| u8::try_from(number).ok());
+    index(first).zip(sub_index)
+}
+
 /// An index: hexadecimal, and marked so.
 pub fn index(word: &str) -> Option<u16> {
     hex_digits(word).and_then(|hex| u16::from_str_radix(hex, 16).ok())
