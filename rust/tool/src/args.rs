@@ -19,6 +19,7 @@ pub enum Command {
     Check(Check),
     Consume(Consume),
     Replay(Replay),
+    Pair(Pair),
 }
 
 /// A file's path, and how messages name it.
@@ -58,13 +59,24 @@ pub struct Replay {
     pub style: Style,
 }
 
+pub struct Pair {
+    pub drive: Named,
+    pub console: Named,
+    /// The drive's node; none is the only sender of the console's rig.
+    pub node: Option<u8>,
+    pub style: Style,
+}
+
 /// The command that the arguments behind the program's name say.
 pub fn parse(arguments: Vec<OsString>) -> Result<Command, String> {
     let mut arguments = arguments.into_iter();
     let first = match arguments.next() {
         Some(first) => first,
         None => {
-            return Err(format!("a command is missing: check, consume or replay.\n{}", help::MORE))
+            return Err(format!(
+                "a command is missing: check, consume, replay or pair.\n{}",
+                help::MORE
+            ))
         }
     };
     let rest: Vec<OsString> = arguments.collect();
@@ -75,6 +87,7 @@ pub fn parse(arguments: Vec<OsString>) -> Result<Command, String> {
         Some("check") => check(rest),
         Some("consume") => consume(rest),
         Some("replay") => replay(rest),
+        Some("pair") => pair(rest),
         _ => Err(format!(
             "there is no command {}.\n{}",
             quoting::word(&first.to_string_lossy()),
@@ -89,6 +102,7 @@ fn help_on(command: Option<&OsString>) -> Result<Command, String> {
         Some("check") => Ok(Command::Help(help::CHECK)),
         Some("consume") => Ok(Command::Help(help::CONSUME)),
         Some("replay") => Ok(Command::Help(help::REPLAY)),
+        Some("pair") => Ok(Command::Help(help::PAIR)),
         Some(other) => {
             Err(format!("there is no command {}.\n{}", quoting::word(other), help::MORE))
         }
@@ -154,4 +168,17 @@ fn replay(arguments: Vec<OsString>) -> Result<Command, String> {
     let node = given.node("--node", LAST_NODE)?;
     let (quiet, json, style) = (given.has("--quiet"), given.has("--json"), given.style());
     Ok(Command::Replay(Replay { rig, capture, node, quiet, json, filter, clock, style }))
+}
+
+fn pair(arguments: Vec<OsString>) -> Result<Command, String> {
+    let known = Known { flags: &["--times", "--comma"], settings: &["--node"] };
+    let mut given = Given::split("pair", arguments, known)?;
+    if given.help {
+        return Ok(Command::Help(help::PAIR));
+    }
+    let drive = given.file("the drive's rig file")?;
+    let console = given.file("the console's rig file")?;
+    given.no_more()?;
+    let node = given.node("--node", MANAGING_NODE)?;
+    Ok(Command::Pair(Pair { drive, console, node, style: given.style() }))
 }

@@ -96,23 +96,10 @@ fn element_words(rig: &Rig, element: &Element, stop: Option<u8>) -> String {
             element.number,
             words::bytes(mapped.length()),
             named_place(rig, mapped.entry.index, mapped.entry.sub_index),
-            target_words(mapped.target),
+            words::target(mapped.target),
             faults::unreached(element, stop).unwrap_or_else(|| "whole".to_string())
         ),
         (None, None) => format!("element {} maps nothing", element.number),
-    }
-}
-
-fn target_words(target: Target) -> String {
-    match target {
-        Target::Fixed { value_type, size } => {
-            format!("{} of {}", words::type_with_article(value_type), words::bytes(size))
-        }
-        Target::String { value_type, room } => {
-            format!("{} with room for {}", words::type_with_article(value_type), words::bytes(room))
-        }
-        Target::Count => "a list's count".to_string(),
-        Target::NoObject | Target::NoSubIndex => "nothing".to_string(),
     }
 }
 

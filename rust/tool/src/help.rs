@@ -15,6 +15,8 @@ maps, and what given payloads change.
   loomfinch consume RIG --from NODE --version V HEX...
                                       what do these payloads change?
   loomfinch replay RIG CAPTURE        what did a network capture change?
+  loomfinch pair DRIVE.rig CONSOLE.rig
+                                      does the console take what a drive sends?
 
   loomfinch COMMAND --help            more on a command, with an example
   loomfinch --version                 the version of this program
@@ -142,4 +144,34 @@ Exit status: 0 nothing was refused, stopped, cut or passed over, 1 something
 was, 2 the command or a file could not be understood; a capture that is damaged
 is told up to the damage. 3 nothing was looked at: the capture is empty, or not
 of an Ethernet, or has no ready payload that a channel of the rig takes.
+";
+
+pub const PAIR: &str = "\
+loomfinch pair DRIVE.rig CONSOLE.rig [--node N] [--times] [--comma]
+
+Holds what a drive sends, the mapping 1A00h of its own rig file, against what
+the console takes from it, field by field: a field that the console keeps in
+part, at another byte, or not at all is a fault.
+
+  --node N      the drive's node; without it, the only node that the console's
+                rig takes
+  --times       show the numbers of examples as times, also where the rig files
+                have no 'ms'
+  --comma       write decimals with a comma: 2,500 s
+
+Example:
+
+  $ loomfinch pair rigs/drive.rig rigs/ramp.rig
+  node 5: 2 elements of its 1A00h against 2 of the console's 1600h
+  version: the drive sends 1.2 (12h), and the console takes 1.0 to 1.F
+  FAULT: the drive's element 1 sends 4 bytes (0 to 3) of 6000h/0 \"Ramp time\",
+  and the console's element 1 keeps 2 of them in 6000h/0 \"Ramp time\", an
+  Unsigned16 of 2 bytes: the last 2 bytes would be lost, so 90000 ms = 90.000 s
+  arrives as 24464 ms = 24.464 s
+  FAULT: the drive's element 2 sends 4 bytes (4 to 7) of 6040h/1 \"Time of the
+  move\", and the console's element 2 takes 4 bytes (2 to 5): they do not begin
+  at the same byte
+
+Exit status: 0 the console takes all that it takes whole, 1 there is a fault,
+2 the command or a rig file could not be understood.
 ";

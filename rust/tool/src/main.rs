@@ -13,6 +13,7 @@ mod drawing;
 mod explain;
 mod failure;
 mod faults;
+mod fields;
 mod filter;
 mod frame;
 mod given;
@@ -21,6 +22,7 @@ mod interrupt;
 mod json;
 mod memory;
 mod notes;
+mod pair;
 mod player;
 mod progress;
 mod quoting;
@@ -40,6 +42,7 @@ mod damage_tests;
 use args::{Command, Named};
 use console::Console;
 use failure::{Failure, Status};
+use rig::Rig;
 use std::fs::File;
 use std::io::{self, BufWriter, ErrorKind, Read, Write};
 use std::process::ExitCode;
@@ -84,12 +87,19 @@ fn run(command: &Command, out: &mut dyn Write) -> Result<Status, Failure> {
             return consume::run(options, &mut console(&options.rig)?, out)
         }
         Command::Replay(options) => return replay::run(options, &mut console(&options.rig)?, out),
+        Command::Pair(options) => {
+            return pair::run(options, rig(&options.drive)?, &mut console(&options.console)?, out)
+        }
     }
     Ok(Status::Clean)
 }
 
 /// The console that a rig file describes.
 fn console(file: &Named) -> Result<Console, Failure> {
+    Console::new(rig(file)?).map_err(|problem| Failure::problems(&file.shown, &[problem]))
+}
+
+fn rig(file: &Named) -> Result<Rig, Failure> {
     let failed = |error: io::Error| Failure::Message(format!("{}: {}", file.shown, error));
     let mut text = Vec::new();
     File::open(&file.path)
@@ -102,7 +112,5 @@ fn console(file: &Named) -> Result<Console, Failure> {
             format!("{}: expected a rig file of at most {} bytes", file.shown, MOST_RIG_BYTES);
         return Err(Failure::Message(text));
     }
-    rig::parse(&text)
-        .and_then(|rig| Console::new(rig).map_err(|problem| vec![problem]))
-        .map_err(|problems| Failure::problems(&file.shown, &problems))
+    rig::parse(&text).map_err(|problems| Failure::problems(&file.shown, &problems))
 }

@@ -2,7 +2,7 @@
 
 use crate::quoting;
 use crate::rig::{is_unsigned, little_endian, Kind, Rig, Value, MANAGING_NODE};
-use loomfinch::{PDOVersion, PdoMappingEntry, ValueType};
+use loomfinch::{PDOVersion, PdoMappingEntry, Target, ValueType};
 
 /// How values are shown.
 #[derive(Clone, Copy, Debug, Default)]
@@ -116,6 +116,28 @@ pub fn as_type(of: ValueType, bytes: &[u8], milliseconds: bool, style: Style) ->
         MacAddress => joined(bytes, ":", |byte| format!("{byte:02X}")),
         IpAddress => joined(bytes, ".", |byte| byte.to_string()),
         _ => number.to_string(),
+    }
+}
+
+/// A plain number, or a time where it is one.
+pub fn number(number: u64, milliseconds: bool, style: Style) -> String {
+    match milliseconds || style.times {
+        true => time(number, style),
+        false => number.to_string(),
+    }
+}
+
+/// What is at the place that an element maps to: `an Unsigned16 of 2 bytes`.
+pub fn target(target: Target) -> String {
+    match target {
+        Target::Fixed { value_type, size } => {
+            format!("{} of {}", type_with_article(value_type), bytes(size))
+        }
+        Target::String { value_type, room } => {
+            format!("{} with room for {}", type_with_article(value_type), bytes(room))
+        }
+        Target::Count => "a list's count".to_string(),
+        Target::NoObject | Target::NoSubIndex => "nothing".to_string(),
     }
 }
 
