@@ -27,7 +27,7 @@ pub fn run(options: &Check, console: &mut Console, out: &mut dyn Write) -> Resul
         .into_iter()
         .map(|(number, checked)| {
             let elements = console.elements(number);
-            let sentence = faults::sentence(&console.rig, number, checked, &elements);
+            let sentence = faults::sentence(console, number, checked, &elements);
             Channel { number, checked, elements, sentence }
         })
         .collect();

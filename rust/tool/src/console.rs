@@ -2,7 +2,6 @@
 //! what a payload changed can be told.
 
 use crate::explain::{self, Element};
-use crate::memory::Memory;
 use crate::rig::{Kind, Object, Place, Problem, Rig, Value};
 use loomfinch::{
     decode, Capacity, Cause, Checked, Dictionary, Event, EventRecord, NodeId, ObjectEntry,
@@ -13,7 +12,6 @@ use std::collections::HashMap;
 pub struct Console {
     pub rig: Rig,
     dictionary: Dictionary,
-    memory: Memory,
     /// The explained mappings of channels, for as long as they stay.
     explained: HashMap<u8, Vec<Element>>,
 }
@@ -83,8 +81,7 @@ impl Console {
             };
             dictionary.insert(*index, entry(object).map_err(refused)?).map_err(refused)?;
         }
-        let memory = Memory::of(&rig);
-        Ok(Console { rig, dictionary, memory, explained: HashMap::new() })
+        Ok(Console { rig, dictionary, explained: HashMap::new() })
     }
 
     /// What the library's check says of each channel that has a record.
@@ -95,18 +92,18 @@ impl Console {
     pub fn consume(&mut self, received: Received) -> Result<Consumed, Refusal> {
         let (node, version) = (NodeId(received.sender), PDOVersion(received.version));
         // A payload may change its own channel and mapping; what it is taken by is what stands before.
-        let channel = self.rig.channel_of(received.sender).filter(|_| received.ready);
+        let channel = self.channel_of(received.sender).filter(|_| received.ready);
         let taken_by = channel.map(|channel| (channel, self.elements(channel)));
         let answer =
             self.dictionary.consume_pdo_payload(node, received.payload, version, received.ready)?;
-        let events: Vec<EventRecord> = answer.collect();
+        let events: Vec<EventRecord> = answer.into_iter().collect();
         let (channel, elements) = match taken_by {
             _ if !received.ready => return Ok(Consumed::NotReady),
             None => return Ok(Consumed::NoChannel),
             Some(taken_by) => taken_by,
         };
         if events.iter().any(|record| record.event == Event::MapVersion) {
-            let expected = self.rig.record_u8(0x1400 + u16::from(channel), 2).unwrap_or(0);
+            let expected = self.expected_version(channel);
             let noted = self.noted(WRONG_VERSIONS);
             return Ok(Consumed::WrongVersion { channel, expected, elements, noted });
         }
@@ -115,6 +112,16 @@ impl Console {
         let noted = if short { self.noted(SHORT_PAYLOADS) } else { None };
         self.confirm(&mut steps, noted.as_ref());
         Ok(Consumed::Taken { channel, steps, noted })
+    }
+
+    /// The channel that takes a node's payloads.
+    pub fn channel_of(&self, node: u8) -> Option<u8> {
+        self.dictionary.channel_of(NodeId(node))
+    }
+
+    /// The mapping version that a channel expects.
+    pub fn expected_version(&self, channel: u8) -> u8 {
+        self.dictionary.expected_version(channel).0
     }
 
     /// The explained mapping of a channel.
@@ -190,7 +197,7 @@ impl Console {
         let object = self.rig.objects.get_mut(&index)?;
         let place = object.value_place(sub_index)?;
         let value = object.values.get_mut(place)?;
-        value.bytes = self.memory.read(self.dictionary.parts(), index, place, value.of)?;
+        value.bytes = self.dictionary.peek(index, sub_index).ok()?.serialize();
         Some(Change { index, sub_index, before, after: value.clone() })
     }
 

@@ -103,7 +103,7 @@ fn assert_explained(console: &mut Console) {
             Checked::NoList => assert!(elements.is_empty()),
             Checked::NoSender => {
                 let sender = console.rig.named_sender(channel);
-                assert_ne!(sender.and_then(|sender| console.rig.channel_of(sender)), Some(channel));
+                assert_ne!(sender.and_then(|sender| console.channel_of(sender)), Some(channel));
             }
         }
     }

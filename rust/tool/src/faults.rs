@@ -1,15 +1,17 @@
 //! The faults of the check in plain words.
 
+use crate::console::Console;
 use crate::explain::{first_stop, Element, Mapped};
 use crate::rig::{Place, Rig};
 use crate::words::{self, named_place, place};
 use loomfinch::{Checked, Fault, PdoMappingEntry, Target, ValueType, MOST_PAYLOAD_BYTES};
 
 /// Why a channel does not pass.
-pub fn sentence(rig: &Rig, channel: u8, checked: Checked, elements: &[Element]) -> String {
+pub fn sentence(console: &Console, channel: u8, checked: Checked, elements: &[Element]) -> String {
+    let rig = &console.rig;
     match checked {
         Checked::Pass => "pass".to_string(),
-        Checked::NoSender => no_sender(rig, channel),
+        Checked::NoSender => no_sender(console, channel),
         Checked::NoList => no_list(rig, channel),
         Checked::TooFar => too_far(elements),
         Checked::Element { element, fault } => {
@@ -21,9 +23,9 @@ pub fn sentence(rig: &Rig, channel: u8, checked: Checked, elements: &[Element]) 
     }
 }
 
-fn no_sender(rig: &Rig, channel: u8) -> String {
-    let index = 0x1400 + u16::from(channel);
-    let taken = |sender| rig.channel_of(sender).map(|earlier| (earlier, sender));
+fn no_sender(console: &Console, channel: u8) -> String {
+    let (rig, index) = (&console.rig, 0x1400 + u16::from(channel));
+    let taken = |sender| console.channel_of(sender).map(|earlier| (earlier, sender));
     if let Some((earlier, sender)) = rig.named_sender(channel).and_then(taken) {
         return format!(
             "no sender: channel {} takes {} before it",

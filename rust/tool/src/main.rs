@@ -20,7 +20,6 @@ mod given;
 mod help;
 mod interrupt;
 mod json;
-mod memory;
 mod notes;
 mod pair;
 mod player;

@@ -46,7 +46,7 @@ pub fn run(
     let drive =
         sent(drive).map_err(|problem| Failure::problems(&options.drive.shown, &[problem]))?;
     let named = words::node(&console.rig, node);
-    let channel = match console.rig.channel_of(node) {
+    let channel = match console.channel_of(node) {
         Some(channel) => channel,
         None => {
             writeln!(
@@ -65,7 +65,7 @@ pub fn run(
         taken.elements.len(),
         0x1600 + u16::from(channel)
     )?;
-    let mut findings = vec![version(&drive.rig, &taken.rig, channel)];
+    let mut findings = vec![version(&drive.rig, console.expected_version(channel))];
     findings.extend(fields::compare(&drive, &taken, options.style));
     for finding in &findings {
         writeln!(out, "{}", finding.shown())?;
@@ -130,9 +130,8 @@ fn sent(rig: Rig) -> Result<Side, Problem> {
 }
 
 /// Does the channel take the version that the drive sends?
-fn version(drive: &Rig, console: &Rig, channel: u8) -> Finding {
+fn version(drive: &Rig, expected: u8) -> Finding {
     let sent = drive.record_u8(SENT_RECORD, 2).unwrap_or(0);
-    let expected = console.record_u8(0x1400 + u16::from(channel), 2).unwrap_or(0);
     let (shown, takes) = (words::version(sent), words::versions_from(expected));
     let right = match expected {
         0 => sent == 0,

@@ -78,7 +78,7 @@ impl<'a> Player<'a> {
             }
             Frame::Llc => self.count(Other::Frame("LLC".to_string())),
             Frame::Runt => self.count(Other::Frame("too short for a frame".to_string())),
-            Frame::OtherLink(number) => self.count(Other::OtherLink(number)),
+            Frame::OtherLink(number) => self.count(Other::Link(number)),
         }
     }
 
@@ -179,14 +179,14 @@ impl<'a> Player<'a> {
         let notes: Vec<String> =
             self.requests.note(&self.asked).into_iter().chain(interrupted).collect();
         if self.options.json {
-            let json = replay_json::table(&self.table, &self.console.rig, &notes);
+            let json = replay_json::table(&self.table, self.console, &notes);
             writeln!(out, "{}", json.on_one_line())?;
             return Ok(self.table.status());
         }
         if self.told {
             writeln!(out)?;
         }
-        self.table.write(&self.console.rig, out)?;
+        self.table.write(self.console, out)?;
         for note in notes {
             writeln!(out, "note: {note}")?;
         }

@@ -1,5 +1,6 @@
 //! A replay as lines of JSON: one for each frame that is told, and the last for the table.
 
+use crate::console::Console;
 use crate::frame;
 use crate::json::Json;
 use crate::player::{Head, When};
@@ -54,21 +55,21 @@ fn trouble((kind, text): &(Trouble, String)) -> Json {
     Json::Object(vec![("kind", Json::text(kind.name())), ("text", Json::text(text.as_str()))])
 }
 
-pub fn table(table: &Table, rig: &Rig, notes: &[String]) -> Json {
-    let senders = table.senders().map(|(sender, row)| of_sender(rig, *sender, row)).collect();
+pub fn table(table: &Table, console: &Console, notes: &[String]) -> Json {
+    let senders = table.senders().map(|(sender, row)| of_sender(console, *sender, row)).collect();
     let other = |(kind, frames): (String, u64)| {
         Json::Object(vec![("kind", Json::Text(kind)), ("frames", Json::number(frames))])
     };
     Json::Object(vec![
         ("senders", Json::List(senders)),
         ("others", Json::List(table.others().map(other).collect())),
-        ("nothing", Json::or_null(table.nothing(rig).map(Json::text))),
+        ("nothing", Json::or_null(table.nothing(console).map(Json::text))),
         ("notes", Json::List(notes.iter().map(|note| Json::text(note.as_str())).collect())),
     ])
 }
 
-fn of_sender(rig: &Rig, sender: Option<u8>, row: &Row) -> Json {
-    let channel = sender.and_then(|sender| rig.channel_of(sender));
+fn of_sender(console: &Console, sender: Option<u8>, row: &Row) -> Json {
+    let channel = sender.and_then(|sender| console.channel_of(sender));
     let kind = |kind: Trouble| {
         let (packet, text) = row.troubles.first(kind)?;
         Some(Json::Object(vec![

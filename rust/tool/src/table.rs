@@ -1,9 +1,9 @@
 //! The table at the end of a replay: what each sender's frames came to.
 
+use crate::console::Console;
 use crate::failure::Status;
 use crate::quoting;
 use crate::report::Told;
-use crate::rig::Rig;
 use crate::trouble::{Trouble, Troubles};
 use std::collections::BTreeMap;
 use std::io::{self, Write};
@@ -24,7 +24,7 @@ pub enum Other {
     /// It carries no process data.
     Frame(String),
     /// It was captured on something else than an Ethernet.
-    OtherLink(u16),
+    Link(u16),
     /// It carries process data that is not for the rig.
     LeftOut(String),
 }
@@ -33,7 +33,7 @@ impl Other {
     fn shown(&self) -> String {
         match self {
             Other::Frame(kind) | Other::LeftOut(kind) => kind.clone(),
-            Other::OtherLink(number) => format!("not Ethernet (link type {number})"),
+            Other::Link(number) => format!("not Ethernet (link type {number})"),
         }
     }
 }
@@ -79,10 +79,10 @@ impl Table {
     }
 
     /// Why no channel looked at anything; none where one did.
-    pub fn nothing(&self, rig: &Rig) -> Option<&'static str> {
-        let link = |other: &Other| matches!(other, Other::OtherLink(_));
+    pub fn nothing(&self, console: &Console) -> Option<&'static str> {
+        let link = |other: &Other| matches!(other, Other::Link(_));
         let left_out = |other: &Other| matches!(other, Other::LeftOut(_));
-        let known = |sender: &Option<u8>| sender.and_then(|one| rig.channel_of(one)).is_some();
+        let known = |sender: &Option<u8>| sender.and_then(|one| console.channel_of(one)).is_some();
         if self.looked_at > 0 {
             None
         } else if self.senders.is_empty() && self.others.is_empty() {
@@ -109,23 +109,23 @@ impl Table {
         self.others.iter().map(|(other, count)| (other.shown(), *count))
     }
 
-    pub fn write(&self, rig: &Rig, out: &mut dyn Write) -> io::Result<()> {
+    pub fn write(&self, console: &Console, out: &mut dyn Write) -> io::Result<()> {
         if !self.senders.is_empty() {
-            self.write_senders(rig, out)?;
+            self.write_senders(console, out)?;
         }
         if !self.others.is_empty() {
             let kinds: Vec<String> =
                 self.others().map(|(kind, count)| format!("{count} {kind}")).collect();
             writeln!(out, "other frames: {}", kinds.join(", "))?;
         }
-        match self.nothing(rig) {
+        match self.nothing(console) {
             Some(why) => writeln!(out, "nothing was looked at: {why}"),
             None => Ok(()),
         }
     }
 
     /// A column for each kind of trouble that any sender had, and below each sender the first of each kind.
-    fn write_senders(&self, rig: &Rig, out: &mut dyn Write) -> io::Result<()> {
+    fn write_senders(&self, console: &Console, out: &mut dyn Write) -> io::Result<()> {
         let had = |kind: &Trouble| self.senders.values().any(|row| row.troubles.frames(*kind) > 0);
         let kinds: Vec<Trouble> = Trouble::ALL.into_iter().filter(had).collect();
         let names: String = kinds.iter().map(|kind| format!("  {}", kind.name())).collect();
@@ -135,7 +135,7 @@ impl Table {
             let count =
                 |kind: &Trouble| format!("  {:>1$}", row.troubles.frames(*kind), kind.name().len());
             let counts: String = kinds.iter().map(count).collect();
-            let name = sender.and_then(|sender| rig.nodes.get(&sender));
+            let name = sender.and_then(|sender| console.rig.nodes.get(&sender));
             let name = name.map_or(String::new(), |name| format!("  {}", quoting::text(name)));
             writeln!(
                 out,
@@ -145,7 +145,7 @@ impl Table {
             for line in row.troubles.lines() {
                 writeln!(out, "        {line}")?;
             }
-            if sender.map_or(false, |sender| rig.channel_of(sender).is_none()) {
+            if sender.map_or(false, |sender| console.channel_of(sender).is_none()) {
                 writeln!(out, "        no channel takes this sender")?;
             }
         }

@@ -2,9 +2,11 @@
 
 mod checking;
 mod consuming;
+mod listing;
 mod reading;
 mod writing;
 
+pub use listing::ObjectInfo;
 pub use writing::Written;
 
 use crate::answer::done;
@@ -39,6 +41,8 @@ pub struct Dictionary {
     store: Vec<u8>,
     /// Room for the events of a call, kept so that consuming need not make it anew.
     events: Vec<u64>,
+    /// Is the memory no dictionary? No call makes one of it, or spoils one.
+    malformed: bool,
 }
 
 impl Dictionary {
@@ -61,7 +65,8 @@ impl Dictionary {
     /// assert_eq!(Dictionary::from_parts(parts).check(0), Err(Refusal::Malformed));
     /// ```
     pub fn from_parts(parts: Parts) -> Self {
-        Dictionary { parts, store: Vec::new(), events: Vec::new() }
+        let malformed = sys::read(&parts, 0, 0, &mut [0; 3]) == Refusal::Malformed.number().into();
+        Dictionary { parts, store: Vec::new(), events: Vec::new(), malformed }
     }
 
     /// The dictionary's memory.

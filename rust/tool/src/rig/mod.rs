@@ -166,11 +166,6 @@ impl Rig {
             node => Some(node),
         }
     }
-
-    /// The first channel whose record names the sender.
-    pub fn channel_of(&self, sender: u8) -> Option<u8> {
-        (0..=255).find(|channel| sender != 0 && self.named_sender(*channel) == Some(sender))
-    }
 }
 
 /// The managing node, from which every PReq comes.

@@ -32,7 +32,7 @@ fn the_set_up_of_the_cases() {
     );
     assert_eq!(rig.objects[&0x6200].values.len(), 3);
     assert_eq!(rig.objects[&0x1C81].values[0].room, 32);
-    assert_eq!((rig.channel_of(5), rig.channel_of(6), rig.channel_of(0)), (Some(0), None, None));
+    assert_eq!((rig.named_sender(0), rig.named_sender(1)), (Some(5), None));
 }
 
 #[test]
