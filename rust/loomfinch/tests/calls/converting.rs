@@ -49,7 +49,10 @@ fn every_type_goes_there_and_back() {
 #[test]
 fn signed_numbers_are_read() -> Result<(), Refusal> {
     let rig = dictionary([
-        (0x6000, array([ObjectValue::from(-1_i8), (-2_i16).into(), (-3_i32).into(), (-4_i64).into()])),
+        (
+            0x6000,
+            array([ObjectValue::from(-1_i8), (-2_i16).into(), (-3_i32).into(), (-4_i64).into()]),
+        ),
         (0x6001, variable(1_u8.into())),
     ])?;
     assert_eq!((rig.read_i8(0x6000, 1)?, rig.read_i16(0x6000, 2)?), (-1, -2));

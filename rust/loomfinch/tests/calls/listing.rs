@@ -2,8 +2,8 @@
 
 use crate::rig::{array, channel, dictionary, maps, record, rig, text, variable};
 use loomfinch::{
-    AccessType, Capacity, Dictionary, Kind, NodeId, ObjectEntry, ObjectInfo, ObjectValue, PDOVersion,
-    Refusal,
+    AccessType, Capacity, Dictionary, Kind, NodeId, ObjectEntry, ObjectInfo, ObjectValue,
+    PDOVersion, Refusal,
 };
 
 #[test]
@@ -15,7 +15,8 @@ fn objects_rise_by_index() -> Result<(), Refusal> {
         (0x6000, speed),
         (0x1400, record([])),
     ])?;
-    let object = |index, kind, access, name, elements| ObjectInfo { index, kind, access, name, elements };
+    let object =
+        |index, kind, access, name, elements| ObjectInfo { index, kind, access, name, elements };
     let wanted = [
         object(0x1400, Kind::Record, None, "", 0),
         object(0x6000, Kind::Variable, access, "Speed", 1),
