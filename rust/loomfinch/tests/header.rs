@@ -24,7 +24,8 @@ fn constants_have_the_crate_s_numbers() {
     let header = file("loomfinch.h");
     let has = |name: &str, number: u8| {
         let wanted = format!("LOOMFINCH_{name} = {number}");
-        let ends = |at: usize| !header[at + wanted.len()..].starts_with(|c: char| c.is_ascii_digit());
+        let ends =
+            |at: usize| !header[at + wanted.len()..].starts_with(|c: char| c.is_ascii_digit());
         assert!(header.match_indices(&wanted).any(|(at, _)| ends(at)), "{wanted}");
     };
     for number in 0..=20 {
@@ -36,7 +37,8 @@ fn constants_have_the_crate_s_numbers() {
     for number in 33..=38 {
         has(&constant(Fault::from_number(number).unwrap().name()), number);
     }
-    for (checked, number) in [(Checked::NoSender, 31), (Checked::NoList, 32), (Checked::TooFar, 39)] {
+    for (checked, number) in [(Checked::NoSender, 31), (Checked::NoList, 32), (Checked::TooFar, 39)]
+    {
         has(&constant(checked.name()), number);
     }
     let access = [

@@ -162,7 +162,8 @@ part, at another byte, or not at all is a fault.
 Example:
 
   $ loomfinch pair rigs/drive.rig rigs/ramp.rig
-  node 5: 2 elements of its 1A00h against 2 of the console's 1600h
+  node 5 \"Revolve\": 2 elements of its 1A00h against 2 of the console's
+  1600h
   version: the drive sends 1.2 (12h), and the console takes 1.0 to 1.F
   FAULT: the drive's element 1 sends 4 bytes (0 to 3) of 6000h/0 \"Ramp time\",
   and the console's element 1 keeps 2 of them in 6000h/0 \"Ramp time\", an

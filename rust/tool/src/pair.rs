@@ -45,7 +45,8 @@ pub fn run(
     };
     let drive =
         sent(drive).map_err(|problem| Failure::problems(&options.drive.shown, &[problem]))?;
-    let named = words::node(&console.rig, node);
+    let names = if console.rig.nodes.contains_key(&node) { &console.rig } else { &drive.rig };
+    let named = words::node(names, node);
     let channel = match console.channel_of(node) {
         Some(channel) => channel,
         None => {

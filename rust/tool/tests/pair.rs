@@ -24,7 +24,7 @@ fn the_cause_of_an_early_revolve() {
 #[test]
 fn the_mended_console_takes_all() {
     let found = pair("whole.rig", CONSOLE, &[]);
-    let wanted = r#"node 5: 2 elements of its 1A00h against 2 of the console's 1600h
+    let wanted = r#"node 5 "Revolve": 2 elements of its 1A00h against 2 of the console's 1600h
 version: the drive sends 1.2 (12h), and the console takes 1.0 to 1.F
 the drive's element 1 sends 4 bytes (0 to 3) of 6000h/0 "Ramp time", and the console's element 1 writes them whole to 6000h/0, an Unsigned32 of 4 bytes
 the drive's element 2 sends 4 bytes (4 to 7) of 6040h/1 "Time of the move", and the console's element 2 writes them whole to 6001h/0, an Unsigned32 of 4 bytes
@@ -44,7 +44,7 @@ fn each_way_in_which_two_sides_part() {
         ("at 4 length 4", "at 8 length 4", "FAULT: the console's element 2 takes 4 bytes (8 to 11) onto 6001h/0, and the drive's elements fill 8 bytes: a payload of that length stops there"),
         ("2 6001h at 4 length 4\n", "", "note: the drive's element 2 sends 4 bytes (4 to 7) of 6040h/1 \"Time of the move\", and no element of the console takes them"),
         ("6001h Variable U32", "6001h Variable I32", "note: the drive's element 2 sends 4 bytes (4 to 7) of 6040h/1 \"Time of the move\", and the console's element 2 writes them whole to 6001h/0, an Integer32 of 4 bytes: the drive has an Unsigned32 there"),
-        ("1 U8 = 5", "1 U8 = 6", "FAULT: no channel of the console takes node 5: nothing that it sends arrives"),
+        ("1 U8 = 5", "1 U8 = 6", "FAULT: no channel of the console takes node 5 \"Revolve\": nothing that it sends arrives"),
     ]
     .into_iter()
     .enumerate()
