@@ -48,7 +48,7 @@ fn of_sent(drive: &Side, console: &Side, sent: Field, style: Style) -> Finding {
         other.start < field.end && field.start < other.end
     };
     match (same, console.fields().find(overlaps)) {
-        (Some(taken), _) => of_both(drive, console, sent, taken, &what, style),
+        (Some(taken), _) => Pairing { drive, console, sent, taken, what }.finding(style),
         (None, Some(taken)) => Finding::Fault(format!(
             "{what}, and the console's element {} takes {}: they do not begin at the same byte",
             taken.0.number,
@@ -58,55 +58,81 @@ fn of_sent(drive: &Side, console: &Side, sent: Field, style: Style) -> Finding {
     }
 }
 
-/// What becomes of a field that both sides begin at one byte.
-fn of_both(
-    drive: &Side,
-    console: &Side,
-    sent: Field,
-    taken: Field,
-    what: &str,
-    style: Style,
-) -> Finding {
-    let (from, to) = (range(sent.1).len(), range(taken.1).len());
-    let at = format!("{}, {}", place(console, taken.1), words::target(taken.1.target));
-    let number = taken.0.number;
-    let room = match taken.1.target {
-        Target::Fixed { size, .. } => size,
-        Target::String { room, .. } => room,
-        _ => to,
-    };
-    let kept = to.min(room);
-    if to > from {
-        return Finding::Fault(format!(
-            "{what}, and the console's element {number} takes {} onto {at}: the last {} not the drive's",
-            words::bytes(to),
-            if to - from == 1 { "byte is".to_string() } else { format!("{} are", words::bytes(to - from)) }
-        ));
-    }
-    if kept < from && matches!(taken.1.target, Target::Fixed { .. }) && to >= room {
-        let lost = last_bytes(from - kept);
-        let arrives =
-            example(from, kept, is_time(drive, sent.1) || is_time(console, taken.1), style);
-        let arrives = arrives.filter(|_| is_number(source_type(drive, sent.1)));
-        return Finding::Fault(format!(
-            "{what}, and the console's element {number} keeps {} of them in {at}: {lost} would be lost{}",
-            kept,
-            arrives.map_or(String::new(), |arrives| format!(", so {arrives}"))
-        ));
-    }
-    if let Some(why) = own_fault(console, taken.0) {
-        return Finding::Fault(format!("{what}, and of the console, {why}"));
-    }
-    if to < from {
-        let lost = last_bytes(from - to);
-        return Finding::Fault(format!("{what}, and the console's element {number} takes {to} of them onto {at}: {lost} would be lost"));
-    }
-    let whole = format!("{what}, and the console's element {number} writes them whole to {at}");
-    match (source_type(drive, sent.1), target_type(taken.1)) {
-        (Some(one), Some(other)) if one != other => {
-            Finding::Note(format!("{whole}: the drive has {} there", words::type_with_article(one)))
+/// A field that both sides begin at one byte.
+struct Pairing<'a> {
+    drive: &'a Side,
+    console: &'a Side,
+    sent: Field<'a>,
+    taken: Field<'a>,
+    /// What the drive sends, in words.
+    what: String,
+}
+
+impl Pairing<'_> {
+    /// What becomes of it.
+    fn finding(&self, style: Style) -> Finding {
+        let (from, to) = (range(self.sent.1).len(), range(self.taken.1).len());
+        if to > from {
+            let more = to - from;
+            let others =
+                if more == 1 { "byte is".to_string() } else { format!("{more} bytes are") };
+            let takes = format!("takes {} onto {}", words::bytes(to), self.at());
+            return self.fault(&format!("{takes}: the last {others} not the drive's"));
         }
-        _ => Finding::Whole(whole),
+        if let Some(kept) = self.kept().filter(|kept| *kept < from) {
+            let lost = last_bytes(from - kept);
+            let so = self.example(kept, style).map_or(String::new(), |so| format!(", so {so}"));
+            let keeps = format!("keeps {kept} of them in {}", self.at());
+            return self.fault(&format!("{keeps}: {lost} would be lost{so}"));
+        }
+        if let Some(why) = own_fault(self.console, self.taken.0) {
+            return Finding::Fault(format!("{}, and of the console, {why}", self.what));
+        }
+        if to < from {
+            let (lost, at) = (last_bytes(from - to), self.at());
+            return self.fault(&format!("takes {to} of them onto {at}: {lost} would be lost"));
+        }
+        self.whole()
+    }
+
+    fn whole(&self) -> Finding {
+        let (number, at) = (self.taken.0.number, self.at());
+        let whole =
+            format!("{}, and the console's element {number} writes them whole to {at}", self.what);
+        match (source_type(self.drive, self.sent.1), target_type(self.taken.1)) {
+            (Some(one), Some(other)) if one != other => {
+                let of = words::type_with_article(one);
+                Finding::Note(format!("{whole}: the drive has {of} there"))
+            }
+            _ => Finding::Whole(whole),
+        }
+    }
+
+    fn fault(&self, does: &str) -> Finding {
+        let number = self.taken.0.number;
+        Finding::Fault(format!("{}, and the console's element {number} {does}", self.what))
+    }
+
+    /// The console's place, and what is there.
+    fn at(&self) -> String {
+        format!("{}, {}", place(self.console, self.taken.1), words::target(self.taken.1.target))
+    }
+
+    /// How many of the bytes a value of fixed size keeps, where it gets enough of them.
+    fn kept(&self) -> Option<usize> {
+        match self.taken.1.target {
+            Target::Fixed { size, .. } => {
+                Some(size).filter(|size| *size <= range(self.taken.1).len())
+            }
+            _ => None,
+        }
+    }
+
+    /// A number that arrives as another, where the drive sends one.
+    fn example(&self, kept: usize, style: Style) -> Option<String> {
+        let time = is_time(self.drive, self.sent.1) || is_time(self.console, self.taken.1);
+        let example = example(range(self.sent.1).len(), kept, time, style);
+        example.filter(|_| source_type(self.drive, self.sent.1).map_or(false, is_unsigned))
     }
 }
 
@@ -166,10 +192,6 @@ fn source_type(side: &Side, mapped: &Mapped) -> Option<ValueType> {
         Place::Value(_, value) => Some(value.of),
         _ => None,
     }
-}
-
-fn is_number(of: Option<ValueType>) -> bool {
-    of.map_or(false, is_unsigned)
 }
 
 fn is_time(side: &Side, mapped: &Mapped) -> bool {

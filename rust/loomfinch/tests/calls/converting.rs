@@ -9,8 +9,8 @@ use loomfinch::{
 /// A value that came from a Rust type goes back to it, and to no other.
 macro_rules! there_and_back {
     ($($value:expr => $of:ty, $type:ident, $shown:expr;)*) => {$({
-        let value: $of = $value;
-        let object = ObjectValue::from(value.clone());
+        let (value, given): ($of, $of) = ($value, $value);
+        let object = ObjectValue::from(given);
         assert_eq!(object.value_type(), ValueType::$type);
         assert_eq!(object.to_string(), $shown);
         assert_eq!(<$of>::try_from(object), Ok(value));
@@ -86,6 +86,8 @@ fn payloads_of_a_cycle_have_bytes_of_their_own() -> Result<(), Refusal> {
     assert_eq!(rig.read_u32(0x6200, 3)?, 1);
     assert_eq!((events.len(), events.is_empty()), (1, false));
     assert_eq!(format!("{events:?}"), "[payload 1, element 2: PayloadShort: Frame]");
-    assert_eq!(events.iter().count(), (&events).into_iter().count());
+    for record in &events {
+        assert_eq!((record.payload, record.element), (1, Some(2)));
+    }
     Ok(())
 }
