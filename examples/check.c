@@ -1,19 +1,19 @@
-/* Lays a rig with the calls of loomfinch.h, checks its channel and consumes a payload: once with a move time of two bytes
+/* Lays a rig with the calls of loomfinch_dictionary.h, checks its channel and consumes a payload: once with a move time of two bytes
  * mapped onto two, and once with four bytes mapped onto two. examples/build builds it. */
-#include "loomfinch.h"
+#include "loomfinch_dictionary.h"
 
 #include <stdio.h>
 
-enum { OBJECTS = 8, VALUES = 16, BYTES = 64, UNSIGNED8 = 5, UNSIGNED16 = 6, UNSIGNED32 = 7, UNSIGNED64 = 8 };
-enum { VARIABLE = 0, ARRAY = 1, RECORD = 2, NO_ACCESS = 7 };
+enum { OBJECTS = 8, VALUES = 16, BYTES = 64 };
 
 static uint64_t objects[LOOMFINCH_OBJECTS_WORDS(OBJECTS)];
 static uint64_t slots[LOOMFINCH_SLOTS_WORDS(VALUES)];
 static uint64_t words[LOOMFINCH_WORDS_WORDS(VALUES)];
 static uint8_t bytes[BYTES];
 
+static struct loomfinch_dictionary rig = LOOMFINCH_DICTIONARY_OF(objects, slots, words, bytes);
+
 #define LENGTH(slice) (sizeof(slice) / sizeof *(slice))
-#define DICTIONARY objects, LENGTH(objects), slots, LENGTH(slots), words, LENGTH(words), bytes, LENGTH(bytes)
 
 /* Inserts an object of up to three numbers of one type; 0 where it is in. */
 static uint64_t insert(uint16_t index, uint64_t kind, uint64_t type, const uint64_t *numbers, size_t count) {
@@ -31,8 +31,8 @@ static uint64_t insert(uint16_t index, uint64_t kind, uint64_t type, const uint6
         values[3 * k + 2] = written;
         length += written;
     }
-    return loomfinch_insert(DICTIONARY, index, kind, NO_ACCESS, 0, (const uint8_t *)"", 0, values, 3 * count, encodings,
-                            length);
+    return loomfinch_dictionary_insert(&rig, index, kind, LOOMFINCH_ACCESS_NONE, 0, (const uint8_t *)"", 0, values, 3 * count,
+                                       encodings, length);
 }
 
 /* Channel 0 takes the payloads of node 5: a time at 6000h, in a field of so many bits, and a position at 6200h/3. */
@@ -40,11 +40,11 @@ static int lay_rig(uint16_t time_bits) {
     const uint64_t sender[] = {5, 0x10};
     const uint64_t mapping[] = {loomfinch_to_u64(0x6000, 0, 0, time_bits), loomfinch_to_u64(0x6200, 3, 16, 32)};
     const uint64_t nothing[] = {0, 0, 0};
-    return loomfinch_new(objects, LENGTH(objects)) == LOOMFINCH_DONE &&
-           insert(0x1400, RECORD, UNSIGNED8, sender, 2) == LOOMFINCH_DONE &&
-           insert(0x1600, ARRAY, UNSIGNED64, mapping, 2) == LOOMFINCH_DONE &&
-           insert(0x6000, VARIABLE, UNSIGNED16, nothing, 1) == LOOMFINCH_DONE &&
-           insert(0x6200, ARRAY, UNSIGNED32, nothing, 3) == LOOMFINCH_DONE;
+    return loomfinch_dictionary_new(&rig) == LOOMFINCH_DONE &&
+           insert(0x1400, LOOMFINCH_RECORD, LOOMFINCH_UNSIGNED8, sender, 2) == LOOMFINCH_DONE &&
+           insert(0x1600, LOOMFINCH_ARRAY, LOOMFINCH_UNSIGNED64, mapping, 2) == LOOMFINCH_DONE &&
+           insert(0x6000, LOOMFINCH_VARIABLE, LOOMFINCH_UNSIGNED16, nothing, 1) == LOOMFINCH_DONE &&
+           insert(0x6200, LOOMFINCH_ARRAY, LOOMFINCH_UNSIGNED32, nothing, 3) == LOOMFINCH_DONE;
 }
 
 static int show(uint16_t time_bits, const uint8_t *payload, size_t length) {
@@ -52,18 +52,16 @@ static int show(uint16_t time_bits, const uint8_t *payload, size_t length) {
     if (!lay_rig(time_bits)) {
         return 0;
     }
-    uint64_t answer = loomfinch_check(DICTIONARY, 0, &element);
-    if (loomfinch_consume_pdo_payload(DICTIONARY, payload, length, 5, 0x12, 1, events, LENGTH(events), &count) ||
-        loomfinch_read_u16(DICTIONARY, 0x6000, 0, &time) || loomfinch_read_u32(DICTIONARY, 0x6200, 3, &position)) {
+    uint64_t answer = loomfinch_dictionary_check(&rig, 0, &element);
+    if (loomfinch_dictionary_consume_pdo_payload(&rig, payload, length, 5, 0x12, 1, events, LENGTH(events), &count) ||
+        loomfinch_dictionary_read_u16(&rig, 0x6000, 0, &time) || loomfinch_dictionary_read_u32(&rig, 0x6200, 3, &position)) {
         return 0;
     }
     printf("a time field of %d bits\n", time_bits);
     if (answer == LOOMFINCH_DONE) {
         printf("  the check passes\n");
-    } else if (answer == LOOMFINCH_WRONG_LENGTH) {
-        printf("  the check says: wrong length at element %d\n", (int)element);
     } else {
-        printf("  the check answers %d\n", (int)answer);
+        printf("  the check says: %s at element %d\n", loomfinch_answer_name(answer), (int)element);
     }
     printf("  the payload gives %d events, the time %d and the position %d\n", (int)count, (int)time, (int)position);
     return 1;

@@ -1,7 +1,15 @@
 /* The calls of libloomfinch.a (./library), for x86-64.
  *
- * A slice is a pointer and then a length in elements; the pointer is never null, also where the length is 0. What is lent to
- * one call does not overlap. A call answers a number of docs/RULES.md, 0 for done; a refusal changes nothing that was lent.
+ * Answers    A call answers a number of docs/RULES.md, 0 for done; a refusal changes nothing that was lent.
+ * Null       A slice is a pointer and then a length in elements; the pointer is never null, also where the length is 0. Neither is
+ *            a pointer to a single number.
+ * Aliasing   What is lent to one call does not overlap: no two slices, and no slice with a single number.
+ * Alignment  That of the element's type: 8 bytes for uint64_t, none for uint8_t.
+ * Threads    The library has no memory of its own. Calls may run side by side where what one of them writes is lent to no other;
+ *            calls that write nothing of a dictionary may share it.
+ * Stack      No call needs more than 16 KB, as measured on the largest dictionary; none recurses by what it is given.
+ * System     The x86-64 System V calling convention, so Linux, the BSDs and the like; memcpy and memset are the only symbols that
+ *            must be there. No call allocates, waits, or asks the system for anything.
  */
 #ifndef LOOMFINCH_H
 #define LOOMFINCH_H
@@ -12,6 +20,12 @@
 #ifdef __cplusplus
 extern "C" {
 #endif
+
+/* The version of this header and of the library that it belongs to. */
+#define LOOMFINCH_VERSION_MAJOR 0
+#define LOOMFINCH_VERSION_MINOR 1
+#define LOOMFINCH_VERSION_PATCH 0
+#define LOOMFINCH_VERSION "0.1.0"
 
 enum {
     LOOMFINCH_DONE = 0,
@@ -34,6 +48,44 @@ enum {
     LOOMFINCH_FULL = 17,
     LOOMFINCH_STORE_FULL = 18,
     LOOMFINCH_RESTORE_REQUESTED = 19 /* no refusal */
+};
+
+/* The types of values, by their numbers; VisibleString to Domain are strings, which need room. */
+enum {
+    LOOMFINCH_BOOLEAN = 0,
+    LOOMFINCH_INTEGER8 = 1,
+    LOOMFINCH_INTEGER16 = 2,
+    LOOMFINCH_INTEGER32 = 3,
+    LOOMFINCH_INTEGER64 = 4,
+    LOOMFINCH_UNSIGNED8 = 5,
+    LOOMFINCH_UNSIGNED16 = 6,
+    LOOMFINCH_UNSIGNED32 = 7,
+    LOOMFINCH_UNSIGNED64 = 8,
+    LOOMFINCH_REAL32 = 9,
+    LOOMFINCH_REAL64 = 10,
+    LOOMFINCH_VISIBLE_STRING = 11,
+    LOOMFINCH_OCTET_STRING = 12,
+    LOOMFINCH_UNICODE_STRING = 13,
+    LOOMFINCH_DOMAIN = 14,
+    LOOMFINCH_TIME_OF_DAY = 15,
+    LOOMFINCH_TIME_DIFFERENCE = 16,
+    LOOMFINCH_NET_TIME = 17,
+    LOOMFINCH_RELATIVE_TIME = 18,
+    LOOMFINCH_MAC_ADDRESS = 19,
+    LOOMFINCH_IP_ADDRESS = 20
+};
+
+/* The kinds of objects, and who may write one. */
+enum { LOOMFINCH_VARIABLE = 0, LOOMFINCH_ARRAY = 1, LOOMFINCH_RECORD = 2 };
+enum {
+    LOOMFINCH_ACCESS_READ_ONLY = 0,
+    LOOMFINCH_ACCESS_WRITE_ONLY = 1,
+    LOOMFINCH_ACCESS_WRITE_ONLY_STORE = 2,
+    LOOMFINCH_ACCESS_READ_WRITE = 3,
+    LOOMFINCH_ACCESS_READ_WRITE_STORE = 4,
+    LOOMFINCH_ACCESS_CONSTANT = 5,
+    LOOMFINCH_ACCESS_CONDITIONAL = 6,
+    LOOMFINCH_ACCESS_NONE = 7
 };
 
 /* How many numbers a call needs room for. */
@@ -84,14 +136,14 @@ uint64_t loomfinch_to_u64(uint16_t index, uint8_t sub_index, uint16_t offset_bit
  * (a number for each value: a fixed type's bits or a string's length) and bytes (names, rooms and defaults). Only these calls
  * write them. They may be longer than needed; what lies behind the used part stays and is not looked at. Every call below but
  * loomfinch_new judges the four first and answers 1 where they are no dictionary.
- * An index is 0..FFFFh and a sub-index 0..255. A list's sub-index 0 is the count of its elements. */
+ * An index is 0..FFFFh and a sub-index 0..255. A list's sub-index 0 is the count of its elements.
+ * loomfinch_dictionary.h has the four as one struct, and the calls over it. */
 
 /* Makes an empty dictionary: lays the header, 12 words; the words behind it stay, and the other slices need no preparation.
  * Answers 17 for fewer than 12 words. */
 uint64_t loomfinch_new(uint64_t *objects, size_t objects_len);
 
-/* Inserts an object. Kind: 0 Variable, 1 Array, 2 Record. Access: 0 ReadOnly, 1 WriteOnly, 2 WriteOnlyStore, 3 ReadWrite,
- * 4 ReadWriteStore, 5 Constant, 6 Conditional, 7 none. The values are a Variable's one value or a list's elements, then the
+/* Inserts an object of a kind and an access, as named above. The values are a Variable's one value or a list's elements, then the
  * default where has_default is 1. Each takes three numbers of vals: its type 0..20, the size of its room (a default's: just its
  * length for types 11..14, else 0), and the byte count of its encoding; the encodings lie back to back.
  * Answers 1; 2 where a rule for objects is broken, has_default is above 1 or has no value, vals_len is no multiple of 3, or the
@@ -159,7 +211,7 @@ uint64_t loomfinch_write(const uint64_t *objects, size_t objects_len, const uint
 
 /* May the first `count` elements of the mapping at an index be used? Answers 1; then 0 for a count of 0 or another index than a
  * mapping's; 3 where there is no Array; 10 where one of them is missing or no Unsigned64; 11 where one of them ends behind the
- * Unsigned16 at 1F98h/1 (1A00h..1AFFh) or 1F98h/2 (1600h..16FFh), or behind 1,490 bytes where there is none. */
+ * Unsigned16 at 1F98h/1 (1A00h..1AFFh) or 1F98h/2 (1600h..16FFh), or behind 1490 bytes where there is none. */
 uint64_t loomfinch_validate_pdo_mapping(const uint64_t *objects, size_t objects_len, const uint64_t *slots, size_t slots_len,
                                         const uint64_t *words, size_t words_len, const uint8_t *bytes, size_t bytes_len,
                                         uint16_t index, uint8_t count);
@@ -187,19 +239,19 @@ enum {
     LOOMFINCH_COUNT_REFUSED = 8, /* the target is a list's count */
     LOOMFINCH_VALUE_REFUSED = 9  /* a string longer than its room */
 };
-#define LOOMFINCH_EVENT_KIND(e) ((e) & 0xF)
-#define LOOMFINCH_EVENT_ELEMENT(e) ((e) >> 4 & 0xFF)
-#define LOOMFINCH_EVENT_INDEX(e) ((e) >> 12 & 0xFFFF)
-#define LOOMFINCH_EVENT_START(e) ((e) >> 28 & 0x1FFF)
-#define LOOMFINCH_EVENT_LENGTH(e) ((e) >> 41 & 0x1FFF)
-#define LOOMFINCH_EVENT_PAYLOAD(e) ((e) >> 54)
+#define LOOMFINCH_EVENT_KIND(e) ((uint64_t)(e) & 0xF)
+#define LOOMFINCH_EVENT_ELEMENT(e) ((uint64_t)(e) >> 4 & 0xFF)
+#define LOOMFINCH_EVENT_INDEX(e) ((uint64_t)(e) >> 12 & 0xFFFF)
+#define LOOMFINCH_EVENT_START(e) ((uint64_t)(e) >> 28 & 0x1FFF)
+#define LOOMFINCH_EVENT_LENGTH(e) ((uint64_t)(e) >> 41 & 0x1FFF)
+#define LOOMFINCH_EVENT_PAYLOAD(e) ((uint64_t)(e) >> 54)
 
 /* The most events of one payload, and the most payloads and bytes of one that a call takes. */
 enum { LOOMFINCH_MOST_EVENTS = 254, LOOMFINCH_MOST_PAYLOADS = 1024, LOOMFINCH_MOST_PAYLOAD_BYTES = 1490 };
 
 /* Consumes a received payload: the first of the channels 0..255 whose record 1400h+i names the sender, its version, and then the
  * mapping words of 1600h+i, each field decoded and put at its target without an access test (docs/RULES.md 11). Ready: 0 is not
- * ready, and nothing happens; any other number is ready. Answers 1; 15 for fewer than 254 events; 14 for a payload over 1,490 bytes;
+ * ready, and nothing happens; any other number is ready. Answers 1; 15 for fewer than 254 events; 14 for a payload over 1490 bytes;
  * in this order.
  * Done: *count is the number of events, which lie from events[0] on, and those behind stay. A run that stops half-way is Done too:
  * the fields before the stop are put, and the last event says why it stopped. */
@@ -210,7 +262,7 @@ uint64_t loomfinch_consume_pdo_payload(const uint64_t *objects, size_t objects_l
 
 /* Consumes the payloads of a cycle, one after another; the dictionary is judged once. Each payload takes five numbers of `payloads`:
  * where it starts in `delivered`, its length, sender, version and ready. Answers 1; 2 where payloads_len is no multiple of 5 or above
- * 5 * 1,024, a payload does not lie within what was delivered, or a sender or version is above 255; 14 for a payload over 1,490 bytes;
+ * 5 * 1024, a payload does not lie within what was delivered, or a sender or version is above 255; 14 for a payload over 1490 bytes;
  * in this order, and before any payload is consumed.
  * Done: each payload was consumed as loomfinch_consume_pdo_payload would, on the dictionary that those before it left, up to the
  * first one, ready or not, that had fewer than 254 free events. *consumed is how many were, and *count the number of their events. */
@@ -235,7 +287,7 @@ enum {
     LOOMFINCH_NO_TARGET = 36,    /* its target is missing */
     LOOMFINCH_COUNT_TARGET = 37, /* its target is a list's count */
     LOOMFINCH_WRONG_LENGTH = 38, /* not the size of the target's type; of a string: over its room, or odd for a UnicodeString */
-    LOOMFINCH_TOO_FAR = 39       /* the elements reach past 1,490 bytes */
+    LOOMFINCH_TOO_FAR = 39       /* the elements reach past 1490 bytes */
 };
 
 /* Checks a channel, and changes nothing in the dictionary. Passes exactly when the channel maps at least one field, some payload can
@@ -265,6 +317,24 @@ enum { LOOMFINCH_NO_OBJECT = 0, LOOMFINCH_NO_SUB_OBJECT = 1, LOOMFINCH_A_COUNT =
 uint64_t loomfinch_explain(const uint64_t *objects, size_t objects_len, const uint64_t *slots, size_t slots_len,
                            const uint64_t *words, size_t words_len, const uint8_t *bytes, size_t bytes_len, uint8_t channel,
                            uint8_t element, uint64_t *numbers, size_t numbers_len);
+
+/* The name that docs/RULES.md gives an answer, of a refusal, a fault of the check or neither; "?" for any other number. */
+static inline const char *loomfinch_answer_name(uint64_t answer) {
+    static const char *const refusals[] = {
+        "Done",          "Malformed",      "BadValue",       "ObjectNotFound", "SubObjectNotFound",
+        "TypeMismatch",  "ReadOnly",       "BadSignature",   "NoStorage",      "CountNotWritable",
+        "MissingEntries", "PdoMapOverrun", "BufferTooShort", "TooLong",        "PayloadTooLong",
+        "NoEventRoom",   "Occupied",       "Full",           "StoreFull",      "RestoreRequested"};
+    static const char *const faults[] = {"NoSender", "NoList",   "NotMapping",  "Misaligned", "HandOff",
+                                         "NoTarget", "CountTarget", "WrongLength", "TooFar"};
+    if (answer <= LOOMFINCH_RESTORE_REQUESTED) {
+        return refusals[answer];
+    }
+    if (answer >= LOOMFINCH_NO_SENDER && answer <= LOOMFINCH_TOO_FAR) {
+        return faults[answer - LOOMFINCH_NO_SENDER];
+    }
+    return "?";
+}
 
 #ifdef __cplusplus
 }

@@ -39,7 +39,7 @@ pub enum Checked {
         /// What is wrong with it.
         fault: Fault,
     },
-    /// The elements reach past 1,490 bytes.
+    /// The elements reach past 1490 bytes.
     TooFar,
 }
 

@@ -5,7 +5,8 @@ use crate::refusal::Refusal;
 use crate::sys;
 use crate::value::{ObjectValue, ValueType};
 
-/// Decodes the value of a type that the data begins with. Bytes behind a value of a fixed size are ignored.
+/// Decodes the value of a type that the data begins with. Bytes behind a value of a fixed size are ignored, as consuming
+/// ignores them; [`decode_exact`] refuses them.
 ///
 /// Refuses with [`TypeMismatch`](Refusal::TypeMismatch) text that is not UTF-8 and units of 16 bits that are an odd number
 /// of bytes, and with [`BufferTooShort`](Refusal::BufferTooShort) fewer bytes than the type has.
@@ -20,6 +21,25 @@ pub fn decode(value_type: ValueType, data: &[u8]) -> Result<ObjectValue, Refusal
     let mut numbers = [0; 7];
     done(sys::decode(value_type.number().into(), data, &mut numbers))?;
     Ok(ObjectValue::from_word(value_type, numbers[0], data))
+}
+
+/// Decodes the value of a type that the data is, to its last byte.
+///
+/// Refuses as [`decode`] does, and with [`TypeMismatch`](Refusal::TypeMismatch) bytes behind the value.
+///
+/// ```
+/// use loomfinch::{decode, decode_exact, ObjectValue, Refusal, ValueType};
+///
+/// let ninety_seconds = 90_000_u32.to_le_bytes();
+/// assert_eq!(decode(ValueType::Unsigned16, &ninety_seconds), Ok(ObjectValue::Unsigned16(24_464)));
+/// assert_eq!(decode_exact(ValueType::Unsigned16, &ninety_seconds), Err(Refusal::TypeMismatch));
+/// ```
+pub fn decode_exact(value_type: ValueType, data: &[u8]) -> Result<ObjectValue, Refusal> {
+    let value = decode(value_type, data)?;
+    match value_type.size() {
+        Some(size) if size < data.len() => Err(Refusal::TypeMismatch),
+        _ => Ok(value),
+    }
 }
 
 /// Lays the encoding of a value at the output's start and answers its length; bytes behind it stay.

@@ -23,13 +23,26 @@ impl Object {
         }
     }
 
-    pub(crate) fn kind(&self) -> u64 {
+    /// Whether it is a Variable, an Array or a Record.
+    pub fn kind(&self) -> Kind {
         match self {
-            Object::Variable(_) => 0,
-            Object::Array(_) => 1,
-            Object::Record(_) => 2,
+            Object::Variable(_) => Kind::Variable,
+            Object::Array(_) => Kind::Array,
+            Object::Record(_) => Kind::Record,
         }
     }
+}
+
+/// The kind of an object.
+#[derive(Debug, Clone, Copy, PartialEq, Eq, Hash)]
+#[repr(u8)]
+pub enum Kind {
+    /// One value, at sub-index 0.
+    Variable,
+    /// Elements at the sub-indices from 1 on; sub-index 0 is their count.
+    Array,
+    /// Elements at the sub-indices from 1 on; sub-index 0 is their count.
+    Record,
 }
 
 /// Who may write an object, and whether a save keeps it.
@@ -55,6 +68,20 @@ pub enum AccessType {
 impl AccessType {
     pub(crate) fn number(access: Option<Self>) -> u64 {
         access.map_or(7, |access| access as u64)
+    }
+
+    /// The access of a number in docs/RULES.md, or none.
+    pub(crate) fn from_number(number: u64) -> Option<Self> {
+        const ALL: [AccessType; 7] = [
+            AccessType::ReadOnly,
+            AccessType::WriteOnly,
+            AccessType::WriteOnlyStore,
+            AccessType::ReadWrite,
+            AccessType::ReadWriteStore,
+            AccessType::Constant,
+            AccessType::Conditional,
+        ];
+        usize::try_from(number).ok().and_then(|number| ALL.get(number)).copied()
     }
 }
 
@@ -107,7 +134,7 @@ pub struct Description {
 impl Description {
     pub fn of(entry: &ObjectEntry<'_>) -> Self {
         let mut description = Description {
-            kind: entry.object.kind(),
+            kind: entry.object.kind() as u64,
             access: AccessType::number(entry.access),
             has_default: entry.default_value.is_some().into(),
             values: Vec::new(),

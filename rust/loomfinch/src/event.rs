@@ -132,32 +132,72 @@ impl fmt::Display for EventRecord {
     }
 }
 
-/// The events of a payload or of a cycle, in order.
-#[derive(Debug, Clone)]
+/// The events of a payload or of a cycle, in order: a list that is iterated by reference or taken apart.
+#[derive(Clone, PartialEq, Eq)]
 #[must_use = "a payload that stops half-way says so by its events alone"]
 pub struct Events {
-    numbers: std::vec::IntoIter<u64>,
+    records: Vec<EventRecord>,
 }
 
 impl Events {
-    pub(crate) fn of(numbers: Vec<u64>) -> Self {
-        Events { numbers: numbers.into_iter() }
+    pub(crate) fn of(numbers: &[u64]) -> Self {
+        Events { records: numbers.iter().copied().map(EventRecord::from_number).collect() }
+    }
+
+    /// How many there are.
+    pub fn len(&self) -> usize {
+        self.records.len()
+    }
+
+    /// Whether nothing happened that is told.
+    pub fn is_empty(&self) -> bool {
+        self.records.is_empty()
+    }
+
+    /// The events, in order.
+    pub fn iter(&self) -> std::slice::Iter<'_, EventRecord> {
+        self.records.iter()
+    }
+
+    /// The events as a slice.
+    pub fn as_slice(&self) -> &[EventRecord] {
+        &self.records
     }
 }
 
-impl Iterator for Events {
+/// A list of what [`EventRecord`] displays.
+impl fmt::Debug for Events {
+    fn fmt(&self, f: &mut fmt::Formatter<'_>) -> fmt::Result {
+        f.debug_list().entries(self.records.iter().map(Shown)).finish()
+    }
+}
+
+/// A record that is debugged as it displays.
+struct Shown<'a>(&'a EventRecord);
+
+impl fmt::Debug for Shown<'_> {
+    fn fmt(&self, f: &mut fmt::Formatter<'_>) -> fmt::Result {
+        fmt::Display::fmt(self.0, f)
+    }
+}
+
+impl IntoIterator for Events {
     type Item = EventRecord;
+    type IntoIter = std::vec::IntoIter<EventRecord>;
 
-    fn next(&mut self) -> Option<EventRecord> {
-        self.numbers.next().map(EventRecord::from_number)
-    }
-
-    fn size_hint(&self) -> (usize, Option<usize>) {
-        self.numbers.size_hint()
+    fn into_iter(self) -> Self::IntoIter {
+        self.records.into_iter()
     }
 }
 
-impl ExactSizeIterator for Events {}
+impl<'a> IntoIterator for &'a Events {
+    type Item = &'a EventRecord;
+    type IntoIter = std::slice::Iter<'a, EventRecord>;
+
+    fn into_iter(self) -> Self::IntoIter {
+        self.iter()
+    }
+}
 
 /// A payload of a cycle, which lies somewhere in the bytes that the cycle delivered.
 #[derive(Debug, Clone, Copy, PartialEq, Eq, Hash)]
@@ -181,4 +221,17 @@ impl Payload {
         let (sender, version) = (self.source_node_id.0, self.received_version.0);
         [start, len, sender.into(), version.into(), self.is_ready.into()]
     }
+}
+
+/// A payload of a cycle with its own bytes.
+#[derive(Debug, Clone, Copy, PartialEq, Eq, Hash)]
+pub struct ReceivedPayload<'a> {
+    /// Its bytes.
+    pub payload: &'a [u8],
+    /// The node that sent it.
+    pub source_node_id: NodeId,
+    /// The mapping version that came with it.
+    pub received_version: PDOVersion,
+    /// Whether its data is valid, as the frame's RD flag says.
+    pub is_ready: bool,
 }

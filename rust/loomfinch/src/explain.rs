@@ -68,7 +68,7 @@ impl Dictionary {
     /// let explanation = dictionary.explain(0, 1)?;
     /// assert_eq!(
     ///     explanation.to_string(),
-    ///     "element 1 maps 4 bytes onto 6000h/0, an Unsigned16 of 2 bytes"
+    ///     "element 1 maps 4 bytes onto 6000h/0, an Unsigned16 of 2 bytes: WrongLength"
     /// );
     /// # Ok::<(), loomfinch::Refusal>(())
     /// ```
@@ -116,7 +116,10 @@ impl fmt::Display for Explanation {
         write!(f, "element {} ", self.element)?;
         let (entry, target) = match self.mapped {
             Some(mapped) => mapped,
-            None => return write!(f, "is {} and no mapping word", with_article(self.element_type)),
+            None => {
+                write!(f, "is {} and no mapping word", with_article(self.element_type))?;
+                return self.named_fault(f);
+            }
         };
         match entry.field() {
             Some(field) => write!(f, "maps {}", counted(field.len(), "byte"))?,
@@ -127,9 +130,16 @@ impl fmt::Display for Explanation {
         }
         write!(f, " onto {:04X}h/{}, ", entry.index, entry.sub_index)?;
         match self.fault {
-            Some(Fault::HandOff) => f.write_str("which is handed to SDO"),
-            _ => target.fmt(f),
+            Some(Fault::HandOff) => f.write_str("which is handed to SDO")?,
+            _ => target.fmt(f)?,
         }
+        self.named_fault(f)
+    }
+}
+
+impl Explanation {
+    fn named_fault(&self, f: &mut fmt::Formatter<'_>) -> fmt::Result {
+        self.fault.map_or(Ok(()), |fault| write!(f, ": {fault}"))
     }
 }
 

@@ -58,10 +58,12 @@
 mod answer;
 mod check;
 mod codec;
+mod convert;
 mod dictionary;
 mod entry;
 mod event;
 mod explain;
+mod layout;
 mod mapping;
 mod parts;
 mod refusal;
@@ -77,10 +79,10 @@ mod sys;
 use emulated as sys;
 
 pub use check::{Checked, Fault};
-pub use codec::{decode, encode};
-pub use dictionary::{Dictionary, Written};
-pub use entry::{AccessType, Object, ObjectEntry};
-pub use event::{Cause, Event, EventRecord, Events, Payload, Unwritten};
+pub use codec::{decode, decode_exact, encode};
+pub use dictionary::{Dictionary, ObjectInfo, Written};
+pub use entry::{AccessType, Kind, Object, ObjectEntry};
+pub use event::{Cause, Event, EventRecord, Events, Payload, ReceivedPayload, Unwritten};
 pub use explain::{Explanation, Target};
 pub use mapping::PdoMappingEntry;
 pub use parts::{Capacity, Parts};

@@ -16,6 +16,13 @@ impl Capacity {
     pub const MOST: Capacity = Capacity { objects: 1024, values: 6144, bytes: 32_768 };
 }
 
+/// The most.
+impl Default for Capacity {
+    fn default() -> Self {
+        Capacity::MOST
+    }
+}
+
 /// The four pieces of memory that are a dictionary, laid out as docs/RULES.md says.
 #[derive(Debug, Clone, PartialEq, Eq)]
 pub struct Parts {
@@ -30,10 +37,10 @@ pub struct Parts {
 }
 
 /// How many words the header and each row of an object take.
-const ROW: usize = 12;
+pub(crate) const ROW: usize = 12;
 
 /// How many words a value's slot takes.
-const SLOT: usize = 3;
+pub(crate) const SLOT: usize = 3;
 
 impl Parts {
     /// Memory for so much, without a header.

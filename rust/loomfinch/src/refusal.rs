@@ -41,7 +41,7 @@ pub enum Refusal {
     BufferTooShort,
     /// A string is longer than the room of its place.
     TooLong,
-    /// A payload has more than 1,490 bytes.
+    /// A payload has more than 1490 bytes.
     PayloadTooLong,
     /// The event list has fewer than 254 places.
     NoEventRoom,
@@ -107,7 +107,7 @@ impl Refusal {
             Refusal::PdoMapOverrun => "the mapping reaches past the limit for payloads",
             Refusal::BufferTooShort => "the data or the output is too short",
             Refusal::TooLong => "a string is longer than its room",
-            Refusal::PayloadTooLong => "the payload has more than 1,490 bytes",
+            Refusal::PayloadTooLong => "the payload has more than 1490 bytes",
             Refusal::NoEventRoom => "the event list has fewer than 254 places",
             Refusal::Occupied => "the index is taken",
             Refusal::Full => "the dictionary has no room for the object",

@@ -12,13 +12,14 @@ impl fmt::Display for NodeId {
     }
 }
 
-/// The version of a mapping: the high half is the main version, the low half the sub version; 0 is none. It displays as `1.2`.
+/// The version of a mapping: the high half is the main version, the low half the sub version; 0 is none. It displays as
+/// `1.2`, each half as a hexadecimal digit.
 #[derive(Debug, Clone, Copy, PartialEq, Eq, PartialOrd, Ord, Hash)]
 pub struct PDOVersion(pub u8);
 
 impl fmt::Display for PDOVersion {
     fn fmt(&self, f: &mut fmt::Formatter<'_>) -> fmt::Result {
-        write!(f, "{}.{}", self.0 >> 4, self.0 & 15)
+        write!(f, "{:X}.{:X}", self.0 >> 4, self.0 & 15)
     }
 }
 

@@ -1,10 +1,17 @@
 //! The command line.
 
+use crate::clock::Clock;
+use crate::filter::Filter;
+use crate::given::{Given, Known};
 use crate::help;
-use crate::rig::{hex_bytes, numbers};
+use crate::quoting;
+use crate::rig::MANAGING_NODE;
 use crate::words::Style;
 use std::ffi::OsString;
 use std::path::PathBuf;
+
+/// The last number that a node may have; 255 is all of them.
+const LAST_NODE: u8 = 254;
 
 pub enum Command {
     Help(&'static str),
@@ -12,6 +19,7 @@ pub enum Command {
     Check(Check),
     Consume(Consume),
     Replay(Replay),
+    Pair(Pair),
 }
 
 /// A file's path, and how messages name it.
@@ -24,6 +32,8 @@ pub struct Check {
     pub rig: Named,
     pub json: bool,
     pub explain: bool,
+    /// Notes count as faults.
+    pub strict: bool,
 }
 
 pub struct Consume {
@@ -41,6 +51,19 @@ pub struct Replay {
     /// The console's own node: poll requests to others are not for it.
     pub node: Option<u8>,
     pub quiet: bool,
+    /// A line of JSON for each frame, and one for the table.
+    pub json: bool,
+    pub filter: Filter,
+    /// The clock on which the time of day is shown.
+    pub clock: Option<Clock>,
+    pub style: Style,
+}
+
+pub struct Pair {
+    pub drive: Named,
+    pub console: Named,
+    /// The drive's node; none is the only sender of the console's rig.
+    pub node: Option<u8>,
     pub style: Style,
 }
 
@@ -50,7 +73,10 @@ pub fn parse(arguments: Vec<OsString>) -> Result<Command, String> {
     let first = match arguments.next() {
         Some(first) => first,
         None => {
-            return Err(format!("a command is missing: check, consume or replay.\n{}", help::MORE))
+            return Err(format!(
+                "a command is missing: check, consume, replay or pair.\n{}",
+                help::MORE
+            ))
         }
     };
     let rest: Vec<OsString> = arguments.collect();
@@ -61,9 +87,10 @@ pub fn parse(arguments: Vec<OsString>) -> Result<Command, String> {
         Some("check") => check(rest),
         Some("consume") => consume(rest),
         Some("replay") => replay(rest),
+        Some("pair") => pair(rest),
         _ => Err(format!(
-            "there is no command '{}'.\n{}",
-            first.to_string_lossy().escape_debug(),
+            "there is no command {}.\n{}",
+            quoting::word(&first.to_string_lossy()),
             help::MORE
         )),
     }
@@ -75,21 +102,26 @@ fn help_on(command: Option<&OsString>) -> Result<Command, String> {
         Some("check") => Ok(Command::Help(help::CHECK)),
         Some("consume") => Ok(Command::Help(help::CONSUME)),
         Some("replay") => Ok(Command::Help(help::REPLAY)),
+        Some("pair") => Ok(Command::Help(help::PAIR)),
         Some(other) => {
-            Err(format!("there is no command '{}'.\n{}", other.escape_debug(), help::MORE))
+            Err(format!("there is no command {}.\n{}", quoting::word(other), help::MORE))
         }
     }
 }
 
 fn check(arguments: Vec<OsString>) -> Result<Command, String> {
-    let known = Known { flags: &["--json", "--explain"], settings: &[] };
+    // The check shows no decimals, and takes the mark that every command takes.
+    let flags = &["--json", "--explain", "--strict", "--comma"];
+    let known = Known { flags, settings: &[] };
     let mut given = Given::split("check", arguments, known)?;
     if given.help {
         return Ok(Command::Help(help::CHECK));
     }
     let rig = given.file("the rig file")?;
     given.no_more()?;
-    Ok(Command::Check(Check { rig, json: given.has("--json"), explain: given.has("--explain") }))
+    let (json, explain, strict) =
+        (given.has("--json"), given.has("--explain"), given.has("--strict"));
+    Ok(Command::Check(Check { rig, json, explain, strict }))
 }
 
 fn consume(arguments: Vec<OsString>) -> Result<Command, String> {
@@ -100,13 +132,10 @@ fn consume(arguments: Vec<OsString>) -> Result<Command, String> {
         return Ok(Command::Help(help::CONSUME));
     }
     let rig = given.file("the rig file")?;
-    let sender = given.byte("--from", 1)?;
+    let sender = given.node("--from", MANAGING_NODE)?;
     let sender = sender
         .ok_or_else(|| given.wrong("--from is missing: the node that sends, as in --from 5"))?;
-    let version = given.byte("--version", 0)?;
-    let version = version.ok_or_else(|| {
-        given.wrong("--version is missing: the payload's mapping version, as in --version 12h")
-    })?;
+    let version = given.version()?;
     if given.words.is_empty() {
         return Err(given.wrong("a payload is missing, as in C40910270000"));
     }
@@ -117,7 +146,10 @@ fn consume(arguments: Vec<OsString>) -> Result<Command, String> {
 }
 
 fn replay(arguments: Vec<OsString>) -> Result<Command, String> {
-    let known = Known { flags: &["--quiet", "--times", "--comma"], settings: &["--node"] };
+    let known = Known {
+        flags: &["--quiet", "--times", "--comma", "--changes", "--faults", "--json"],
+        settings: &["--node", "--from", "--object", "--between", "--clock"],
+    };
     let mut given = Given::split("replay", arguments, known)?;
     if given.help {
         return Ok(Command::Help(help::REPLAY));
@@ -125,140 +157,28 @@ fn replay(arguments: Vec<OsString>) -> Result<Command, String> {
     let rig = given.file("the rig file")?;
     let capture = given.file("the capture")?;
     given.no_more()?;
-    let node = given.byte("--node", 1)?;
-    let (quiet, style) = (given.has("--quiet"), given.style());
-    Ok(Command::Replay(Replay { rig, capture, node, quiet, style }))
+    let clock = given.clock()?;
+    let filter = Filter {
+        objects: given.objects()?,
+        sender: given.node("--from", MANAGING_NODE)?,
+        changes: given.has("--changes"),
+        faults: given.has("--faults"),
+        between: given.between(clock)?,
+    };
+    let node = given.node("--node", LAST_NODE)?;
+    let (quiet, json, style) = (given.has("--quiet"), given.has("--json"), given.style());
+    Ok(Command::Replay(Replay { rig, capture, node, quiet, json, filter, clock, style }))
 }
 
-/// A name without the control characters that a terminal would obey.
-fn printable(name: &str) -> String {
-    let shown = |c: char| if c.is_control() { c.escape_debug().to_string() } else { c.to_string() };
-    name.chars().map(shown).collect()
-}
-
-/// A command's arguments, options apart from the others.
-struct Given {
-    command: &'static str,
-    help: bool,
-    flags: Vec<String>,
-    settings: Vec<(String, String)>,
-    words: Vec<OsString>,
-}
-
-/// The options that a command knows: those that stand alone, and those with a value behind them.
-struct Known<'a> {
-    flags: &'a [&'a str],
-    settings: &'a [&'a str],
-}
-
-impl Given {
-    fn split(
-        command: &'static str,
-        arguments: Vec<OsString>,
-        known: Known,
-    ) -> Result<Given, String> {
-        let (flags, settings, words) = (Vec::new(), Vec::new(), Vec::new());
-        let mut given = Given { command, help: false, flags, settings, words };
-        let mut arguments = arguments.into_iter();
-        while let Some(argument) = arguments.next() {
-            let text = argument.to_string_lossy().into_owned();
-            match text.as_str() {
-                "--" => given.words.extend(arguments.by_ref()),
-                "--help" | "-h" => given.help = true,
-                "-" => given.words.push(argument),
-                _ if text.starts_with('-') => given.option(&text, &known, &mut arguments)?,
-                _ => given.words.push(argument),
-            }
-        }
-        Ok(given)
+fn pair(arguments: Vec<OsString>) -> Result<Command, String> {
+    let known = Known { flags: &["--times", "--comma"], settings: &["--node"] };
+    let mut given = Given::split("pair", arguments, known)?;
+    if given.help {
+        return Ok(Command::Help(help::PAIR));
     }
-
-    fn option(
-        &mut self,
-        text: &str,
-        known: &Known,
-        rest: &mut impl Iterator<Item = OsString>,
-    ) -> Result<(), String> {
-        let (name, value) = match text.split_once('=') {
-            Some((name, value)) => (name, Some(value.to_string())),
-            None => (text, None),
-        };
-        if known.flags.contains(&text) {
-            self.flags.push(text.to_string());
-        } else if known.settings.contains(&name) {
-            let behind = || rest.next().map(|value| value.to_string_lossy().into_owned());
-            let value = value.or_else(behind);
-            let missing = || self.wrong(&format!("{name} needs a value behind it"));
-            let value = value.ok_or_else(missing)?;
-            self.settings.push((name.to_string(), value));
-        } else {
-            return Err(self.wrong(&format!("there is no option '{}'", text.escape_debug())));
-        }
-        Ok(())
-    }
-
-    fn wrong(&self, text: &str) -> String {
-        format!("{}.\n'loomfinch {} --help' says more.", text, self.command)
-    }
-
-    fn has(&self, flag: &str) -> bool {
-        self.flags.iter().any(|given| given == flag)
-    }
-
-    fn style(&self) -> Style {
-        Style { times: self.has("--times"), comma: self.has("--comma") }
-    }
-
-    fn file(&mut self, what: &str) -> Result<Named, String> {
-        if self.words.is_empty() {
-            return Err(self.wrong(&format!("{what} is missing")));
-        }
-        let word = self.words.remove(0);
-        let shown = printable(&word.to_string_lossy());
-        Ok(Named { path: PathBuf::from(word), shown })
-    }
-
-    fn no_more(&self) -> Result<(), String> {
-        match self.words.first() {
-            None => Ok(()),
-            Some(word) => {
-                let text =
-                    format!("'{}' is one argument too many", word.to_string_lossy().escape_debug());
-                Err(self.wrong(&text))
-            }
-        }
-    }
-
-    /// The value of a setting, where it was given; the last one stands.
-    fn byte(&self, name: &str, least: u8) -> Result<Option<u8>, String> {
-        let value = match self.settings.iter().rev().find(|setting| setting.0 == name) {
-            Some((_, value)) => value,
-            None => return Ok(None),
-        };
-        match numbers::unsigned(value).and_then(|number| u8::try_from(number).ok()) {
-            Some(number) if number >= least => Ok(Some(number)),
-            _ => {
-                let text = format!(
-                    "{} needs a number from {} to 255, as 16, 10h or 0x10, not '{}'",
-                    name,
-                    least,
-                    value.escape_debug()
-                );
-                Err(self.wrong(&text))
-            }
-        }
-    }
-
-    fn payload(&self, word: &OsString) -> Result<Vec<u8>, String> {
-        let text = word.to_string_lossy();
-        let groups = text.split(|c: char| c.is_whitespace() || c == ':');
-        let bytes: Option<Vec<Vec<u8>>> = groups.map(hex_bytes).collect();
-        bytes.map(|bytes| bytes.concat()).ok_or_else(|| {
-            let text = format!(
-                "a payload is pairs of hexadecimal digits, as in C40910270000, not '{}'",
-                text.escape_debug()
-            );
-            self.wrong(&text)
-        })
-    }
+    let drive = given.file("the drive's rig file")?;
+    let console = given.file("the console's rig file")?;
+    given.no_more()?;
+    let node = given.node("--node", MANAGING_NODE)?;
+    Ok(Command::Pair(Pair { drive, console, node, style: given.style() }))
 }

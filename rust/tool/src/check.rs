@@ -3,11 +3,11 @@
 use crate::args::Check;
 use crate::console::Console;
 use crate::drawing;
-use crate::explain::{Element, Mapped};
+use crate::explain::{first_stop, Element, Mapped};
 use crate::failure::{Failure, Status};
 use crate::faults;
 use crate::json::Json;
-use crate::notes;
+use crate::notes::{self, Note, Receiving};
 use crate::rig::Rig;
 use crate::words::{self, named_place};
 use loomfinch::{Checked, Target};
@@ -27,17 +27,22 @@ pub fn run(options: &Check, console: &mut Console, out: &mut dyn Write) -> Resul
         .into_iter()
         .map(|(number, checked)| {
             let elements = console.elements(number);
-            let sentence = faults::sentence(&console.rig, number, checked, &elements);
+            let sentence = faults::sentence(console, number, checked, &elements);
             Channel { number, checked, elements, sentence }
         })
         .collect();
+    let notes = all_notes(&console.rig, &channels);
     if options.json {
         let file = options.rig.path.to_string_lossy();
-        writeln!(out, "{}", json(&file, &console.rig, &channels, options.explain))?;
+        writeln!(out, "{}", json(&file, &console.rig, &channels, &notes, options.explain))?;
     } else {
         text(&console.rig, &channels, options.explain, out)?;
+        for note in &notes {
+            writeln!(out, "note: {}", note.text)?;
+        }
     }
-    let clean = channels.iter().all(|channel| channel.checked.is_pass());
+    let passed = channels.iter().all(|channel| channel.checked.is_pass());
+    let clean = passed && (notes.is_empty() || !options.strict);
     Ok(if clean { Status::Clean } else { Status::Faults })
 }
 
@@ -65,15 +70,12 @@ fn text(
             explanation(rig, channel, out)?;
         }
     }
-    for note in all_notes(rig, channels) {
-        writeln!(out, "note: {note}")?;
-    }
     Ok(())
 }
 
 fn explanation(rig: &Rig, channel: &Channel, out: &mut dyn Write) -> Result<(), Failure> {
     let drawing = drawing::draw(rig, &channel.elements);
-    let stop = channel.elements.iter().find(|element| element.stops()).map(|one| one.number);
+    let stop = first_stop(&channel.elements);
     let words: Vec<String> =
         channel.elements.iter().map(|element| element_words(rig, element, stop)).collect();
     if !drawing.is_empty() {
@@ -88,34 +90,16 @@ fn explanation(rig: &Rig, channel: &Channel, out: &mut dyn Write) -> Result<(), 
 /// What becomes of an element; `stop` is the one at which every payload stops.
 fn element_words(rig: &Rig, element: &Element, stop: Option<u8>) -> String {
     match (element.fault, &element.mapped) {
-        (Some(fault), _) => faults::of_element(rig, element, fault),
+        (Some(fault), _) => faults::of_element(rig, element, fault, stop),
         (None, Some(mapped)) => format!(
             "element {} maps {} onto {}, {}: {}",
             element.number,
             words::bytes(mapped.length()),
             named_place(rig, mapped.entry.index, mapped.entry.sub_index),
-            target_words(mapped.target),
-            match stop {
-                Some(stop) if stop < element.number =>
-                    format!("never reached, since every payload stops at element {stop}"),
-                Some(stop) if stop == element.number => "every payload stops there".to_string(),
-                _ => "whole".to_string(),
-            }
+            words::target(mapped.target),
+            faults::unreached(element, stop).unwrap_or_else(|| "whole".to_string())
         ),
         (None, None) => format!("element {} maps nothing", element.number),
-    }
-}
-
-fn target_words(target: Target) -> String {
-    match target {
-        Target::Fixed { value_type, size } => {
-            format!("{} of {}", words::type_with_article(value_type), words::bytes(size))
-        }
-        Target::String { value_type, room } => {
-            format!("{} with room for {}", words::type_with_article(value_type), words::bytes(room))
-        }
-        Target::Count => "a list's count".to_string(),
-        Target::NoObject | Target::NoSubIndex => "nothing".to_string(),
     }
 }
 
@@ -125,40 +109,46 @@ fn sender(rig: &Rig, channel: &Channel) -> Option<u8> {
 }
 
 fn sender_words(rig: &Rig, channel: &Channel) -> String {
-    sender(rig, channel).map_or("no node".to_string(), words::node)
+    sender(rig, channel).map_or("no node".to_string(), |sender| words::node(rig, sender))
 }
 
-/// What is no fault, of the channels and of the rig.
-fn all_notes(rig: &Rig, channels: &[Channel]) -> Vec<String> {
+/// What is no fault, of each channel, of several channels and of the rig.
+fn all_notes(rig: &Rig, channels: &[Channel]) -> Vec<Note> {
     let of_channel = |channel: &Channel| notes::of_channel(rig, channel.number, &channel.elements);
-    channels.iter().flat_map(of_channel).chain(notes::of_rig(rig)).collect()
+    let receiving: Vec<Receiving> = channels
+        .iter()
+        .filter_map(|channel| {
+            let sender = sender(rig, channel)?;
+            Some(Receiving { channel: channel.number, sender, elements: &channel.elements })
+        })
+        .collect();
+    let several = notes::of_channels(rig, &receiving);
+    channels.iter().flat_map(of_channel).chain(several).chain(notes::of_rig(rig)).collect()
 }
 
-fn json(file: &str, rig: &Rig, channels: &[Channel], explain: bool) -> Json {
+fn json(file: &str, rig: &Rig, channels: &[Channel], notes: &[Note], explain: bool) -> Json {
+    let channel = |channel: &Channel| channel_json(rig, channel, explain);
     Json::Object(vec![
         ("rig", Json::text(file)),
         ("pass", Json::Bool(channels.iter().all(|channel| channel.checked.is_pass()))),
-        (
-            "channels",
-            Json::List(
-                channels.iter().map(|channel| channel_json(rig, channel, explain)).collect(),
-            ),
-        ),
-        ("notes", Json::List(all_notes(rig, channels).into_iter().map(Json::Text).collect())),
+        ("channels", Json::List(channels.iter().map(channel).collect())),
+        ("notes", Json::List(notes.iter().map(|note| Json::text(note.text.as_str())).collect())),
+        ("noted", Json::List(notes.iter().map(Note::json).collect())),
     ])
 }
 
 fn channel_json(rig: &Rig, channel: &Channel, explain: bool) -> Json {
+    let named = faults::named_element(channel.checked, &channel.elements);
     let fault = Json::Object(vec![
         ("name", Json::text(channel.checked.name())),
         ("number", Json::number(channel.checked.number())),
-        ("element", Json::or_null(channel.checked.element().map(Json::number))),
+        ("element", Json::or_null(named.map(Json::number))),
         ("text", Json::text(channel.sentence.as_str())),
     ]);
     let mut members = vec![
         ("channel", Json::number(channel.number)),
         ("sender", Json::or_null(sender(rig, channel).map(Json::number))),
-        ("elements", Json::Number(channel.elements.len() as u64)),
+        ("elements", Json::number(channel.elements.len() as u64)),
         ("pass", Json::Bool(channel.checked.is_pass())),
         ("fault", if channel.checked.is_pass() { Json::Null } else { fault }),
     ];
@@ -171,7 +161,7 @@ fn channel_json(rig: &Rig, channel: &Channel, explain: bool) -> Json {
 fn element_json(element: &Element) -> Json {
     let mapped = element.mapped.as_ref();
     let number =
-        |of: fn(&Mapped) -> u64| Json::or_null(mapped.map(|mapped| Json::Number(of(mapped))));
+        |of: fn(&Mapped) -> u64| Json::or_null(mapped.map(|mapped| Json::number(of(mapped))));
     Json::Object(vec![
         ("element", Json::number(element.number)),
         ("type", Json::text(element.element_type.name())),
@@ -194,14 +184,14 @@ fn target_json(target: Target) -> Json {
             vec![
                 kind("value"),
                 ("type", Json::text(value_type.name())),
-                ("size", Json::Number(size as u64)),
+                ("size", Json::number(size as u64)),
             ]
         }
         Target::String { value_type, room } => {
             vec![
                 kind("string"),
                 ("type", Json::text(value_type.name())),
-                ("room", Json::Number(room as u64)),
+                ("room", Json::number(room as u64)),
             ]
         }
     })

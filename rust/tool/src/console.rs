@@ -2,7 +2,6 @@
 //! what a payload changed can be told.
 
 use crate::explain::{self, Element};
-use crate::memory::Memory;
 use crate::rig::{Kind, Object, Place, Problem, Rig, Value};
 use loomfinch::{
     decode, Capacity, Cause, Checked, Dictionary, Event, EventRecord, NodeId, ObjectEntry,
@@ -13,7 +12,6 @@ use std::collections::HashMap;
 pub struct Console {
     pub rig: Rig,
     dictionary: Dictionary,
-    memory: Memory,
     /// The explained mappings of channels, for as long as they stay.
     explained: HashMap<u8, Vec<Element>>,
 }
@@ -35,6 +33,7 @@ pub enum Consumed {
     WrongVersion {
         channel: u8,
         expected: u8,
+        elements: Vec<Element>,
         noted: Option<Change>,
     },
     Taken {
@@ -78,12 +77,11 @@ impl Console {
         let mut dictionary = Dictionary::new(capacity(&rig));
         for (index, object) in &rig.objects {
             let refused = |refusal: Refusal| {
-                Problem::at(object.line, format!("the library refuses this object: {refusal}"))
+                Problem::of_line(object.line, format!("the library refuses this object: {refusal}"))
             };
             dictionary.insert(*index, entry(object).map_err(refused)?).map_err(refused)?;
         }
-        let memory = Memory::of(&rig);
-        Ok(Console { rig, dictionary, memory, explained: HashMap::new() })
+        Ok(Console { rig, dictionary, explained: HashMap::new() })
     }
 
     /// What the library's check says of each channel that has a record.
@@ -94,25 +92,36 @@ impl Console {
     pub fn consume(&mut self, received: Received) -> Result<Consumed, Refusal> {
         let (node, version) = (NodeId(received.sender), PDOVersion(received.version));
         // A payload may change its own channel and mapping; what it is taken by is what stands before.
-        let channel = self.rig.channel_of(received.sender).filter(|_| received.ready);
+        let channel = self.channel_of(received.sender).filter(|_| received.ready);
         let taken_by = channel.map(|channel| (channel, self.elements(channel)));
         let answer =
             self.dictionary.consume_pdo_payload(node, received.payload, version, received.ready)?;
-        let events: Vec<EventRecord> = answer.collect();
+        let events: Vec<EventRecord> = answer.into_iter().collect();
         let (channel, elements) = match taken_by {
             _ if !received.ready => return Ok(Consumed::NotReady),
             None => return Ok(Consumed::NoChannel),
             Some(taken_by) => taken_by,
         };
         if events.iter().any(|record| record.event == Event::MapVersion) {
-            let expected = self.rig.record_u8(0x1400 + u16::from(channel), 2).unwrap_or(0);
+            let expected = self.expected_version(channel);
             let noted = self.noted(WRONG_VERSIONS);
-            return Ok(Consumed::WrongVersion { channel, expected, noted });
+            return Ok(Consumed::WrongVersion { channel, expected, elements, noted });
         }
-        let steps = self.steps(elements, &events);
+        let mut steps = self.steps(elements, &events, received.payload);
         let short = events.iter().any(|record| record.event == Event::PayloadShort(Cause::Frame));
         let noted = if short { self.noted(SHORT_PAYLOADS) } else { None };
+        self.confirm(&mut steps, noted.as_ref());
         Ok(Consumed::Taken { channel, steps, noted })
+    }
+
+    /// The channel that takes a node's payloads.
+    pub fn channel_of(&self, node: u8) -> Option<u8> {
+        self.dictionary.channel_of(NodeId(node))
+    }
+
+    /// The mapping version that a channel expects.
+    pub fn expected_version(&self, channel: u8) -> u8 {
+        self.dictionary.expected_version(channel).0
     }
 
     /// The explained mapping of a channel.
@@ -122,21 +131,25 @@ impl Console {
         explained.or_insert_with(|| explain::mapping(dictionary, channel)).clone()
     }
 
-    /// Each element with its outcome. The old values are taken before the first is read again, since two elements may
-    /// have one target.
-    fn steps(&mut self, elements: Vec<Element>, events: &[EventRecord]) -> Vec<Step> {
-        let before: Vec<Option<Value>> =
-            elements.iter().map(|element| self.stored_at(element)).collect();
+    /// Each element with its outcome, on the values that the elements before it left.
+    fn steps(
+        &mut self,
+        elements: Vec<Element>,
+        events: &[EventRecord],
+        payload: &[u8],
+    ) -> Vec<Step> {
         let mut stopped = false;
         let mut steps = Vec::new();
-        for (element, old) in elements.into_iter().zip(before) {
+        for element in elements {
             let event = events.iter().find(|record| record.element == Some(element.number));
             let outcome = match event.map(|record| record.event) {
                 _ if stopped => Outcome::NotReached,
                 Some(Event::PayloadShort(cause)) => Outcome::Stopped(cause),
                 Some(Event::Server { .. }) | Some(Event::Client { .. }) => Outcome::HandedOn,
                 Some(Event::WriteRefused(why)) => Outcome::Refused(why),
-                Some(Event::MapVersion) | None => self.quiet_outcome(&element, old),
+                Some(Event::MapVersion) | None => {
+                    self.put(&element, payload).map_or(Outcome::PassedOver, Outcome::Written)
+                }
             };
             stopped = stopped || matches!(outcome, Outcome::Stopped(_));
             steps.push(Step { element, outcome });
@@ -144,21 +157,39 @@ impl Console {
         steps
     }
 
-    /// The value that an element's field would be written to.
-    fn stored_at(&self, element: &Element) -> Option<Value> {
+    /// Puts a field that was reached and gave no event into the rig's copy; none where it has no place there.
+    fn put(&mut self, element: &Element, payload: &[u8]) -> Option<Change> {
         let mapped = element.mapped.as_ref()?;
-        match self.rig.place(mapped.entry.index, mapped.entry.sub_index) {
-            Place::Value(_, value) if mapped.field.is_some() => Some(value.clone()),
-            _ => None,
+        let field = payload.get(mapped.field.clone()?)?;
+        let (index, sub_index) = (mapped.entry.index, mapped.entry.sub_index);
+        let value = self.rig.value_mut(index, sub_index)?;
+        let before = value.clone();
+        value.bytes = field[..value.of.size().unwrap_or(field.len()).min(field.len())].to_vec();
+        let after = value.clone();
+        if (0x1600..=0x16FF).contains(&index) {
+            self.explained.remove(&(index as u8));
         }
+        Some(Change { index, sub_index, before, after })
     }
 
-    /// The outcome of an element that was reached and gave no event.
-    fn quiet_outcome(&mut self, element: &Element, old: Option<Value>) -> Outcome {
-        let entry = element.mapped.as_ref().map(|mapped| mapped.entry).zip(old);
-        let change =
-            entry.and_then(|(entry, old)| self.read_again(entry.index, entry.sub_index, old));
-        change.map_or(Outcome::PassedOver, Outcome::Written)
+    /// Reads each value that was written from the dictionary: what the last step left is what the library holds, but for
+    /// an error object in which it then set a bit.
+    fn confirm(&mut self, steps: &mut [Step], noted: Option<&Change>) {
+        let mut done: Vec<(u16, u8)> = noted.map(|change| (change.index, 0)).into_iter().collect();
+        for step in steps.iter_mut().rev() {
+            let change = match &mut step.outcome {
+                Outcome::Written(change) => change,
+                _ => continue,
+            };
+            let place = (change.index, change.sub_index);
+            if !done.contains(&place) {
+                done.push(place);
+                let before = change.after.clone();
+                if let Some(read) = self.read_again(place.0, place.1, before) {
+                    change.after = read.after;
+                }
+            }
+        }
     }
 
     /// Reads a value from the dictionary, and brings the rig's copy up to date.
@@ -166,10 +197,7 @@ impl Console {
         let object = self.rig.objects.get_mut(&index)?;
         let place = object.value_place(sub_index)?;
         let value = object.values.get_mut(place)?;
-        value.bytes = self.memory.read(self.dictionary.parts(), index, place, value.of)?;
-        if (0x1600..=0x16FF).contains(&index) {
-            self.explained.remove(&(index as u8));
-        }
+        value.bytes = self.dictionary.peek(index, sub_index).ok()?.serialize();
         Some(Change { index, sub_index, before, after: value.clone() })
     }
 

@@ -21,13 +21,13 @@ pub fn run(
             "payload {}: {} from {}, version {}",
             k + 1,
             words::bytes(payload.len()),
-            words::node(sender),
+            words::node(&console.rig, sender),
             words::version(version)
         )?;
         for line in &told.lines {
-            writeln!(out, "  {line}")?;
+            writeln!(out, "  {}", line.text)?;
         }
-        if told.fault.is_some() {
+        if !told.troubles.is_empty() {
             status = Status::Faults;
         }
     }

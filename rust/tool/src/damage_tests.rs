@@ -55,15 +55,20 @@ impl Chance {
 /// Checks and uses a rig if it is one; else its error has words, and a line of the file if any.
 fn use_rig(text: &[u8]) -> bool {
     let lines = text.iter().filter(|byte| **byte == b'\n').count() + 1;
-    let mut console = match rig::parse(text).and_then(Console::new) {
+    let console =
+        rig::parse(text).and_then(|rig| Console::new(rig).map_err(|problem| vec![problem]));
+    let mut console = match console {
         Ok(console) => console,
-        Err(problem) => {
-            assert!(!problem.text.is_empty());
-            assert!(
-                problem.line.map_or(true, |line| (1..=lines).contains(&line)),
-                "{}",
-                problem.text
-            );
+        Err(problems) => {
+            for problem in &problems {
+                assert!(!problem.text.is_empty());
+                assert!(
+                    problem.line.map_or(true, |line| (1..=lines).contains(&line)),
+                    "{}",
+                    problem.text
+                );
+            }
+            assert!(!problems.is_empty());
             return false;
         }
     };
@@ -71,7 +76,7 @@ fn use_rig(text: &[u8]) -> bool {
     let mut out = Vec::new();
     for json in [false, true] {
         let rig = crate::args::Named { path: "x".into(), shown: "x".to_string() };
-        let options = crate::args::Check { rig, json, explain: true };
+        let options = crate::args::Check { rig, json, explain: true, strict: false };
         assert!(check::run(&options, &mut console, &mut out).is_ok());
     }
     assert!(!out.is_empty());
@@ -98,7 +103,7 @@ fn assert_explained(console: &mut Console) {
             Checked::NoList => assert!(elements.is_empty()),
             Checked::NoSender => {
                 let sender = console.rig.named_sender(channel);
-                assert_ne!(sender.and_then(|sender| console.rig.channel_of(sender)), Some(channel));
+                assert_ne!(sender.and_then(|sender| console.channel_of(sender)), Some(channel));
             }
         }
     }
@@ -145,7 +150,7 @@ fn use_capture(console: &mut Console, bytes: &[u8]) -> usize {
             Ok(Some(packet)) => {
                 packets += 1;
                 assert!(packets <= bytes.len() && packet.bytes.len() <= bytes.len());
-                if let Frame::Poll(poll) = frame::dissect(&packet.bytes) {
+                if let Frame::Poll(poll) = frame::dissect(packet.link, &packet.bytes) {
                     let (sender, version, ready, payload) =
                         (poll.sender, poll.version, poll.ready, poll.payload);
                     give(console, Received { sender, version, ready, payload }, Style::default());
@@ -243,8 +248,7 @@ fn assert_written(console: &mut Console, payload: &[u8]) -> usize {
         }
     }
     for ((index, _), (field, change)) in &written {
-        // A short payload sets a bit in 1C81h after it was written.
-        assert!(*index == 0x1C81 || change.after.bytes == *field, "{index:04X}h");
+        assert_eq!(change.after.bytes, *field, "{index:04X}h");
     }
     written.len()
 }
@@ -256,7 +260,7 @@ fn what_is_told_was_written() {
     for _ in 0..400 {
         let text = random_rig(&mut chance);
         let rig = rig::parse(text.as_bytes())
-            .unwrap_or_else(|problem| panic!("{}\n{}", problem.text, text));
+            .unwrap_or_else(|problems| panic!("{}\n{}", problems[0].text, text));
         let mut console = Console::new(rig).unwrap_or_else(|problem| panic!("{}", problem.text));
         assert_explained(&mut console);
         for _ in 0..3 {

@@ -34,8 +34,30 @@ impl Element {
             }
             Target::NoObject | Target::NoSubIndex => false,
         };
-        mapped.end > MOST_PAYLOAD_BYTES || (unreadable && self.fault != Some(Fault::HandOff))
+        self.ends_behind_payloads() || (unreadable && self.fault != Some(Fault::HandOff))
     }
+
+    /// Does its field end behind the longest payload?
+    pub fn ends_behind_payloads(&self) -> bool {
+        let whole = self.mapped.as_ref().filter(|mapped| mapped.field.is_some());
+        whole.map_or(false, |mapped| mapped.end > MOST_PAYLOAD_BYTES)
+    }
+
+    /// Where its field is written, whole or cut, by a payload that reaches it.
+    pub fn written_to(&self) -> Option<(u16, u8)> {
+        let mapped = self.mapped.as_ref()?;
+        let cut = match (self.fault, mapped.target) {
+            (Some(Fault::WrongLength), Target::Fixed { size, .. }) => mapped.length() > size,
+            _ => false,
+        };
+        let place = (mapped.entry.index, mapped.entry.sub_index);
+        Some(place).filter(|_| self.fault.is_none() || cut)
+    }
+}
+
+/// The first element at which every payload stops, or none.
+pub fn first_stop(elements: &[Element]) -> Option<u8> {
+    elements.iter().find(|element| element.stops()).map(|element| element.number)
 }
 
 /// What a mapping word says. The field and its end are kept, since asking for them calls the library each time.

@@ -1,31 +1,37 @@
 //! The faults of the check in plain words.
 
-use crate::explain::{Element, Mapped};
+use crate::console::Console;
+use crate::explain::{first_stop, Element, Mapped};
 use crate::rig::{Place, Rig};
 use crate::words::{self, named_place, place};
 use loomfinch::{Checked, Fault, PdoMappingEntry, Target, ValueType, MOST_PAYLOAD_BYTES};
 
 /// Why a channel does not pass.
-pub fn sentence(rig: &Rig, channel: u8, checked: Checked, elements: &[Element]) -> String {
+pub fn sentence(console: &Console, channel: u8, checked: Checked, elements: &[Element]) -> String {
+    let rig = &console.rig;
     match checked {
         Checked::Pass => "pass".to_string(),
-        Checked::NoSender => no_sender(rig, channel),
+        Checked::NoSender => no_sender(console, channel),
         Checked::NoList => no_list(rig, channel),
         Checked::TooFar => too_far(elements),
         Checked::Element { element, fault } => {
             let named = elements.iter().find(|known| known.number == element);
             named.map_or(format!("element {element}: {fault}"), |known| {
-                of_element(rig, known, fault)
+                of_element(rig, known, fault, first_stop(elements))
             })
         }
     }
 }
 
-fn no_sender(rig: &Rig, channel: u8) -> String {
-    let index = 0x1400 + u16::from(channel);
-    let taken = |sender| rig.channel_of(sender).map(|earlier| (earlier, sender));
+fn no_sender(console: &Console, channel: u8) -> String {
+    let (rig, index) = (&console.rig, 0x1400 + u16::from(channel));
+    let taken = |sender| console.channel_of(sender).map(|earlier| (earlier, sender));
     if let Some((earlier, sender)) = rig.named_sender(channel).and_then(taken) {
-        return format!("no sender: channel {} takes {} before it", earlier, words::node(sender));
+        return format!(
+            "no sender: channel {} takes {} before it",
+            earlier,
+            words::node(rig, sender)
+        );
     }
     let found = match rig.place(index, 1) {
         Place::Value(_, value) => {
@@ -49,49 +55,82 @@ fn no_list(rig: &Rig, channel: u8) -> String {
 }
 
 fn too_far(elements: &[Element]) -> String {
-    let ends = elements
-        .iter()
-        .filter_map(|known| known.mapped.as_ref().map(|mapped| (mapped.end, known.number)));
-    let (end, element) = ends.max_by_key(|found| found.0).unwrap_or((0, 0));
+    let first = elements.iter().find(|element| element.ends_behind_payloads());
+    first.map_or("the mapping reaches too far".to_string(), |element| {
+        format!("element {} {}", element.number, needs_more(element))
+    })
+}
+
+fn needs_more(element: &Element) -> String {
+    let end = element.mapped.as_ref().map_or(0, |mapped| mapped.end);
     format!(
-        "element {element} needs a payload of {end} bytes, and none has more than {MOST_PAYLOAD_BYTES}: every payload stops there"
+        "needs a payload of {end} bytes, and none has more than {MOST_PAYLOAD_BYTES}: every payload stops there"
     )
 }
 
-/// What is wrong with an element, as a sentence.
-pub fn of_element(rig: &Rig, element: &Element, fault: Fault) -> String {
-    match &element.mapped {
-        Some(mapped) => format!("element {} {}", element.number, of_mapping(rig, mapped, fault)),
-        None => format!(
-            "element {} is {}, not an Unsigned64, and maps nothing",
-            element.number,
-            words::type_with_article(element.element_type)
-        ),
+/// The element that a fault names: TooFar names the first that ends behind every payload.
+pub fn named_element(checked: Checked, elements: &[Element]) -> Option<u8> {
+    let far = || elements.iter().find(|element| element.ends_behind_payloads());
+    match checked {
+        Checked::TooFar => far().map(|element| element.number),
+        checked => checked.element(),
     }
 }
 
-fn of_mapping(rig: &Rig, mapped: &Mapped, fault: Fault) -> String {
+/// What is wrong with an element, as a sentence; `stop` is the first element at which every payload stops.
+pub fn of_element(rig: &Rig, element: &Element, fault: Fault, stop: Option<u8>) -> String {
+    let (what, then) = match &element.mapped {
+        Some(mapped) => of_mapping(rig, mapped, fault),
+        None => {
+            let of = words::type_with_article(element.element_type);
+            (format!("is {of}, not an Unsigned64, and maps nothing"), String::new())
+        }
+    };
+    let then = unreached(element, stop).map_or(then, |why| format!(": {why}"));
+    format!("element {} {}{}", element.number, what, then)
+}
+
+/// Why an element's own fault or order does not matter: every payload stops before it, or ends before it does.
+pub fn unreached(element: &Element, stop: Option<u8>) -> Option<String> {
+    match stop {
+        Some(stop) if stop < element.number => {
+            Some(format!("never reached, since every payload stops at element {stop}"))
+        }
+        Some(stop) if stop == element.number && element.ends_behind_payloads() => {
+            Some(format!("it {}", needs_more(element)))
+        }
+        _ => None,
+    }
+}
+
+/// What a mapping says, and what becomes of its field.
+fn of_mapping(rig: &Rig, mapped: &Mapped, fault: Fault) -> (String, String) {
     let entry = &mapped.entry;
     let at = named_place(rig, entry.index, entry.sub_index);
-    match fault {
-        Fault::NotMapping => "maps nothing".to_string(),
-        Fault::Misaligned => format!(
-            "maps {} from bit {} on onto {}: only whole bytes are written, so it is passed over",
-            words::counted(usize::from(entry.length_bits), "bit"),
-            entry.offset_bits,
-            at
+    let (what, then) = match fault {
+        Fault::NotMapping => ("maps nothing".to_string(), ""),
+        Fault::Misaligned => (
+            format!(
+                "maps {} from bit {} on onto {}",
+                words::counted(usize::from(entry.length_bits), "bit"),
+                entry.offset_bits,
+                at
+            ),
+            ": only whole bytes are written, so it is passed over",
         ),
         Fault::HandOff => {
-            format!("maps onto {at}, which belongs to SDO: it is handed on and not written")
+            (format!("maps onto {at}, which belongs to SDO"), ": it is handed on and not written")
         }
         Fault::NoTarget => {
-            format!("maps onto {}, and {}: it is passed over", at, missing(rig, entry))
+            (format!("maps onto {}, and {}", at, missing(rig, entry)), ": it is passed over")
         }
-        Fault::CountTarget => {
-            format!("maps onto {at}, the count of the list's elements, which no payload changes")
-        }
-        Fault::WrongLength => wrong_length(&at, mapped),
-    }
+        Fault::CountTarget => (
+            format!("maps onto {at}, the count of the list's elements"),
+            ", which no payload changes",
+        ),
+        Fault::WrongLength => return wrong_length(&at, mapped),
+    };
+    (what, then.to_string())
 }
 
 fn missing(rig: &Rig, entry: &PdoMappingEntry) -> String {
@@ -104,34 +143,29 @@ fn missing(rig: &Rig, entry: &PdoMappingEntry) -> String {
     }
 }
 
-fn wrong_length(at: &str, mapped: &Mapped) -> String {
+fn wrong_length(at: &str, mapped: &Mapped) -> (String, String) {
     let length = mapped.length();
     let maps = format!("maps {} onto {}", words::bytes(length), at);
     match mapped.target {
         Target::Fixed { value_type, size } => {
-            let onto =
-                format!("{} of {}", words::type_with_article(value_type), words::bytes(size));
-            if length > size {
-                format!("{}, {}: {} would be lost", maps, onto, last_bytes(length - size))
+            let of = words::type_with_article(value_type);
+            let then = if length > size {
+                format!(": {} would be lost", last_bytes(length - size))
             } else {
-                format!(
-                    "{}, {}: {} missing, so every payload stops there",
-                    maps,
-                    onto,
-                    are(size - length)
-                )
-            }
+                format!(": {} missing, so every payload stops there", are(size - length))
+            };
+            (format!("{}, {} of {}", maps, of, words::bytes(size)), then)
         }
-        Target::String { value_type, room } if length > room => format!(
-            "{}, {} with room for {}: nothing would be written",
-            maps,
-            words::type_with_article(value_type),
-            words::bytes(room)
+        Target::String { value_type, room } if length > room => {
+            let of = words::type_with_article(value_type);
+            let what = format!("{}, {} with room for {}", maps, of, words::bytes(room));
+            (what, ": nothing would be written".to_string())
+        }
+        Target::String { value_type: ValueType::UnicodeString, .. } => (
+            format!("{maps}, a UnicodeString of 2 bytes a character"),
+            ": every payload stops there".to_string(),
         ),
-        Target::String { value_type: ValueType::UnicodeString, .. } => {
-            format!("{maps}, a UnicodeString of 2 bytes a character: every payload stops there")
-        }
-        _ => maps,
+        _ => (maps, String::new()),
     }
 }
 

@@ -5,7 +5,7 @@ use std::fmt;
 pub enum Json {
     Null,
     Bool(bool),
-    Number(u64),
+    Number(i128),
     Text(String),
     List(Vec<Json>),
     /// Members keep their order.
@@ -17,13 +17,30 @@ impl Json {
         Json::Text(text.into())
     }
 
-    pub fn number(number: impl Into<u64>) -> Json {
+    pub fn number(number: impl Into<i128>) -> Json {
         Json::Number(number.into())
     }
 
     /// Null where there is nothing.
     pub fn or_null(json: Option<Json>) -> Json {
         json.unwrap_or(Json::Null)
+    }
+
+    /// All on one line.
+    pub fn on_one_line(&self) -> String {
+        let joined = |parts: Vec<String>| parts.join(", ");
+        match self {
+            Json::List(items) => {
+                format!("[{}]", joined(items.iter().map(Json::on_one_line).collect()))
+            }
+            Json::Object(members) => {
+                let member = |(name, value): &(&str, Json)| {
+                    format!("{}: {}", Json::text(*name), value.on_one_line())
+                };
+                format!("{{{}}}", joined(members.iter().map(member).collect()))
+            }
+            other => other.to_string(),
+        }
     }
 
     fn lines(&self, f: &mut fmt::Formatter, indent: usize) -> fmt::Result {
@@ -95,6 +112,15 @@ mod tests {
     fn strings_are_escaped() {
         let text = Json::text("a \"b\" \\ \n \u{1} é");
         assert_eq!(text.to_string(), "\"a \\\"b\\\" \\\\ \\n \\u0001 é\"");
+    }
+
+    #[test]
+    fn one_line_is_enough() {
+        let json = Json::Object(vec![
+            ("z", Json::List(vec![Json::Number(-1), Json::Null])),
+            ("a", Json::text("\n")),
+        ]);
+        assert_eq!(json.on_one_line(), "{\"z\": [-1, null], \"a\": \"\\n\"}");
     }
 
     #[test]

@@ -1,27 +1,38 @@
 //! `loomfinch`: checks a rig's POWERLINK mappings, and shows what received payloads change in it.
 
-#![forbid(unsafe_code)]
+// interrupt.rs alone declares two functions of C.
+#![deny(unsafe_code)]
 
 mod args;
 mod capture;
 mod check;
+mod clock;
 mod console;
 mod consume;
 mod drawing;
 mod explain;
 mod failure;
 mod faults;
+mod fields;
+mod filter;
 mod frame;
+mod given;
 mod help;
+mod interrupt;
 mod json;
-mod memory;
 mod notes;
+mod pair;
+mod player;
 mod progress;
+mod quoting;
 mod reasons;
 mod replay;
+mod replay_json;
 mod report;
+mod requests;
 mod rig;
 mod table;
+mod trouble;
 mod words;
 
 #[cfg(test)]
@@ -30,6 +41,7 @@ mod damage_tests;
 use args::{Command, Named};
 use console::Console;
 use failure::{Failure, Status};
+use rig::Rig;
 use std::fs::File;
 use std::io::{self, BufWriter, ErrorKind, Read, Write};
 use std::process::ExitCode;
@@ -46,16 +58,22 @@ fn main() -> ExitCode {
     match done.and_then(|status| flushed.map(|()| status).map_err(Failure::Output)) {
         Ok(Status::Clean) => ExitCode::SUCCESS,
         Ok(Status::Faults) => ExitCode::from(1),
+        Ok(Status::Nothing) => ExitCode::from(3),
         // Whoever read the output has read enough; what was not said may have been a fault.
         Err(Failure::Output(error)) if error.kind() == ErrorKind::BrokenPipe => ExitCode::from(2),
-        Err(Failure::Output(error)) => complain(&format!("the output cannot be written: {error}")),
-        Err(Failure::Message(text)) => complain(&text),
+        Err(Failure::Output(error)) => {
+            complain(&[format!("the output cannot be written: {error}")])
+        }
+        Err(Failure::Message(text)) => complain(&[text]),
+        Err(Failure::Problems(texts)) => complain(&texts),
     }
 }
 
-fn complain(text: &str) -> ExitCode {
-    // There is no one left to tell if this fails.
-    let _ = writeln!(io::stderr(), "loomfinch: {text}");
+fn complain(texts: &[String]) -> ExitCode {
+    for text in texts {
+        // There is no one left to tell if this fails.
+        let _ = writeln!(io::stderr(), "loomfinch: {text}");
+    }
     ExitCode::from(2)
 }
 
@@ -68,12 +86,19 @@ fn run(command: &Command, out: &mut dyn Write) -> Result<Status, Failure> {
             return consume::run(options, &mut console(&options.rig)?, out)
         }
         Command::Replay(options) => return replay::run(options, &mut console(&options.rig)?, out),
+        Command::Pair(options) => {
+            return pair::run(options, rig(&options.drive)?, &mut console(&options.console)?, out)
+        }
     }
     Ok(Status::Clean)
 }
 
 /// The console that a rig file describes.
 fn console(file: &Named) -> Result<Console, Failure> {
+    Console::new(rig(file)?).map_err(|problem| Failure::problems(&file.shown, &[problem]))
+}
+
+fn rig(file: &Named) -> Result<Rig, Failure> {
     let failed = |error: io::Error| Failure::Message(format!("{}: {}", file.shown, error));
     let mut text = Vec::new();
     File::open(&file.path)
@@ -86,7 +111,5 @@ fn console(file: &Named) -> Result<Console, Failure> {
             format!("{}: expected a rig file of at most {} bytes", file.shown, MOST_RIG_BYTES);
         return Err(Failure::Message(text));
     }
-    rig::parse(&text)
-        .and_then(Console::new)
-        .map_err(|problem| Failure::Message(problem.shown(&file.shown)))
+    rig::parse(&text).map_err(|problems| Failure::problems(&file.shown, &problems))
 }

@@ -1,16 +1,14 @@
 //! The command `replay`: what a network capture changes.
 
 use crate::args::Replay;
-use crate::capture::{Capture, Damage, Packet};
-use crate::console::{Console, Received};
-use crate::consume::give;
+use crate::capture::{Capture, Damage};
+use crate::console::Console;
 use crate::failure::{Failure, Status};
-use crate::frame::{self, Frame, Poll};
+use crate::interrupt::{self, UntilInterrupt};
+use crate::player::Player;
 use crate::progress::Progress;
-use crate::table::Table;
-use crate::words;
-use std::collections::BTreeSet;
-use std::fs::File;
+use crate::requests::Requests;
+use std::fs::{File, Metadata};
 use std::io::{self, BufReader, Read, Write};
 
 pub fn run(
@@ -18,171 +16,72 @@ pub fn run(
     console: &mut Console,
     out: &mut dyn Write,
 ) -> Result<Status, Failure> {
-    let (reader, size) = open(options)?;
+    interrupt::watch();
+    let input = open(options)?;
+    let requests = requests(options, input.live)?;
     let damaged = |damage: Damage| {
         Failure::Message(format!(
             "{}: byte {}: {}",
             options.capture.shown, damage.offset, damage.text
         ))
     };
-    let mut capture = Capture::open(reader).map_err(damaged)?;
-    let mut player =
-        Player { options, console, table: Table::default(), first: None, asked: BTreeSet::new() };
-    let mut progress = Progress::new(size, options.quiet);
+    let mut capture = Capture::open(input.reader).map_err(damaged)?;
+    let mut player = Player::new(options, console, requests);
+    let mut progress = Progress::new(input.size, options.quiet);
     let ended = loop {
         match capture.next_packet() {
             Ok(Some(packet)) => player.packet(&packet, out)?,
+            // An interrupt ends the input wherever it is.
+            Ok(None) | Err(_) if interrupt::came() => break Ok(()),
             Ok(None) => break Ok(()),
             Err(damage) => break Err(damage),
+        }
+        if input.live {
+            out.flush()?;
         }
         progress.at(capture.offset());
     };
     progress.finish();
-    player.finish(out)?;
-    let status = if player.table.has_faults() { Status::Faults } else { Status::Clean };
+    let interrupted = Some(capture.packets()).filter(|_| interrupt::came());
+    let status = player.finish(interrupted, out)?;
     ended.map(|()| status).map_err(damaged)
 }
 
-/// The capture's bytes, and how many there are where that is known.
-fn open(options: &Replay) -> Result<(Box<dyn Read>, u64), Failure> {
+/// A capture to read.
+struct Input {
+    reader: Box<dyn Read>,
+    /// How many bytes it has, or 0 where that is not known.
+    size: u64,
+    /// May more come while it is read? It can then be read once only.
+    live: bool,
+}
+
+fn open(options: &Replay) -> Result<Input, Failure> {
     if options.capture.shown == "-" {
-        return Ok((Box::new(BufReader::new(io::stdin())), 0));
+        let reader = Box::new(UntilInterrupt(BufReader::new(io::stdin())));
+        return Ok(Input { reader, size: 0, live: true });
     }
-    let failed =
-        |error: io::Error| Failure::Message(format!("{}: {}", options.capture.shown, error));
-    let file = File::open(&options.capture.path).map_err(failed)?;
-    let size = file.metadata().map_err(failed)?.len();
-    Ok((Box::new(BufReader::with_capacity(1 << 16, file)), size))
+    let (file, metadata) = file(options)?;
+    let reader = Box::new(UntilInterrupt(BufReader::with_capacity(1 << 16, file)));
+    Ok(Input { reader, size: metadata.len(), live: !metadata.is_file() })
 }
 
-struct Player<'a> {
-    options: &'a Replay,
-    console: &'a mut Console,
-    table: Table,
-    /// When the first packet was captured.
-    first: Option<i128>,
-    /// The nodes that poll requests were addressed to.
-    asked: BTreeSet<u8>,
+fn file(options: &Replay) -> Result<(File, Metadata), Failure> {
+    let opened = File::open(&options.capture.path).and_then(|file| {
+        let metadata = file.metadata()?;
+        Ok((file, metadata))
+    });
+    opened.map_err(|error| Failure::Message(format!("{}: {}", options.capture.shown, error)))
 }
 
-impl Player<'_> {
-    fn packet(&mut self, packet: &Packet, out: &mut dyn Write) -> io::Result<()> {
-        self.first = self.first.or(packet.time);
-        if !packet.ethernet {
-            self.table.other("not Ethernet".to_string());
-            return Ok(());
-        }
-        match frame::dissect(&packet.bytes) {
-            Frame::Poll(poll) => self.poll(packet, &poll, out),
-            Frame::Cut { request, sender, said, there } => {
-                let why = cut(packet, said, there);
-                self.table.damaged(sender, packet.number, &why);
-                let from = sender.map_or("an unknown node".to_string(), words::node);
-                let head = format!("{} from {}", poll_name(request), from);
-                self.tell(packet, &head, &[why], out)
-            }
-            Frame::Message(kind) => self.count(frame::message_name(kind)),
-            Frame::Foreign(ether_type) => self.count(format!("EtherType {ether_type:04X}h")),
-            Frame::Runt => self.count("too short for a frame".to_string()),
+/// The poll requests that are for the rig; a capture that is a file is read for it.
+fn requests(options: &Replay, live: bool) -> Result<Requests, Failure> {
+    match options.node {
+        Some(node) => Ok(Requests::To(node)),
+        None if live => Ok(Requests::ReadOnce),
+        None => {
+            let reader = BufReader::with_capacity(1 << 16, file(options)?.0);
+            Ok(Requests::of_capture(Box::new(UntilInterrupt(reader))))
         }
     }
-
-    fn count(&mut self, kind: String) -> io::Result<()> {
-        self.table.other(kind);
-        Ok(())
-    }
-
-    fn poll(&mut self, packet: &Packet, poll: &Poll, out: &mut dyn Write) -> io::Result<()> {
-        if poll.request {
-            self.asked.insert(poll.destination);
-            if self.options.node.map_or(false, |node| node != poll.destination) {
-                return self.count("PReq to other nodes".to_string());
-            }
-        }
-        let Poll { sender, version, ready, payload, .. } = *poll;
-        let told =
-            give(self.console, Received { sender, version, ready, payload }, self.options.style);
-        self.table.told(sender, packet.number, ready, &told);
-        let head = format!(
-            "{} from {}, version {}, {}",
-            poll_name(poll.request),
-            words::node(sender),
-            words::version(version),
-            words::bytes(payload.len())
-        );
-        self.tell(packet, &head, &told.lines, out)
-    }
-
-    fn tell(
-        &self,
-        packet: &Packet,
-        head: &str,
-        lines: &[String],
-        out: &mut dyn Write,
-    ) -> io::Result<()> {
-        if self.options.quiet {
-            return Ok(());
-        }
-        writeln!(out, "No. {}{}  {}", packet.number, self.time(packet), head)?;
-        lines.iter().try_for_each(|line| writeln!(out, "    {line}"))
-    }
-
-    /// Seconds since the first packet.
-    fn time(&self, packet: &Packet) -> String {
-        let mark = if self.options.style.comma { ',' } else { '.' };
-        match (packet.time, self.first) {
-            (Some(time), Some(first)) => {
-                let sign = if time < first { "-" } else { "" };
-                let micros = (time - first).abs() / 1000;
-                format!("  {}{}{}{:06} s", sign, micros / 1_000_000, mark, micros % 1_000_000)
-            }
-            _ => String::new(),
-        }
-    }
-
-    fn finish(&self, out: &mut dyn Write) -> io::Result<()> {
-        if !self.options.quiet && !self.table.is_empty() {
-            writeln!(out)?;
-        }
-        self.table.write(&self.console.rig, out)?;
-        if self.options.node.is_none() && self.asked.len() > 1 {
-            let nodes: Vec<String> = self.asked.iter().map(u8::to_string).collect();
-            writeln!(
-                out,
-                "note: PReq frames went to nodes {}; --node N takes those to N alone",
-                nodes.join(", ")
-            )?;
-        }
-        Ok(())
-    }
-}
-
-fn poll_name(request: bool) -> &'static str {
-    if request {
-        "PReq"
-    } else {
-        "PRes"
-    }
-}
-
-fn cut(packet: &Packet, said: Option<usize>, there: usize) -> String {
-    let why = match said {
-        Some(said) => {
-            format!(
-                "not consumed: its size field says {} of payload, and the frame has {}",
-                words::bytes(said),
-                there
-            )
-        }
-        None => format!("not consumed: the frame ends after {} of its head", words::bytes(there)),
-    };
-    if packet.bytes.len() < packet.length {
-        return format!(
-            "{} (the capture kept {} of its {} bytes)",
-            why,
-            packet.bytes.len(),
-            packet.length
-        );
-    }
-    why
 }

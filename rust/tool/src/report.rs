@@ -1,56 +1,93 @@
 //! What a payload changed, told line by line.
 
 use crate::console::{Change, Consumed, Outcome, Received, Step};
-use crate::explain::Mapped;
+use crate::explain::{Element, Mapped};
 use crate::faults::last_bytes;
 use crate::reasons;
 use crate::rig::{Rig, Value};
+use crate::trouble::Trouble;
 use crate::words::{self, named_place, Style};
-use loomfinch::{Target, ValueType};
+use loomfinch::{Cause, Target, ValueType};
 
 /// A payload's story, and what of it a table counts.
 #[derive(Default)]
 pub struct Told {
-    pub lines: Vec<String>,
+    pub lines: Vec<Line>,
+    pub changes: Vec<Changed>,
+    /// The places that the payload's channel maps.
+    pub mapped: Vec<(u16, u8)>,
     pub written: u64,
-    pub stops: u64,
-    /// The first thing that went wrong.
-    pub fault: Option<String>,
+    /// Did a channel look at the payload?
+    pub taken: bool,
+    /// What went wrong, in order.
+    pub troubles: Vec<(Trouble, String)>,
+}
+
+/// A line of the story.
+pub struct Line {
+    /// The place that it is about, or none where it is about the payload as a whole.
+    pub place: Option<(u16, u8)>,
+    /// Did a value change?
+    pub changed: bool,
+    /// Was a value written that was there before?
+    pub same: bool,
+    pub text: String,
+}
+
+/// A value as it was and is, in words.
+pub struct Changed {
+    pub index: u16,
+    pub sub_index: u8,
+    pub before: String,
+    pub after: String,
 }
 
 impl Told {
-    /// The story of a payload that was refused as a whole.
-    pub fn refused(why: String) -> Told {
+    /// The story of a frame that could not be consumed.
+    pub fn damaged(why: String) -> Told {
         let mut told = Told::default();
-        told.fault(why);
+        told.trouble(Trouble::Damaged, None, why);
         told
     }
 
-    fn line(&mut self, text: String) {
-        self.lines.push(text);
+    /// The story of a payload that was refused as a whole.
+    pub fn refused(why: String) -> Told {
+        let mut told = Told { taken: true, ..Told::default() };
+        told.trouble(Trouble::Refused, None, why);
+        told
     }
 
-    fn fault(&mut self, text: String) {
-        self.fault.get_or_insert_with(|| text.clone());
-        self.lines.push(text);
+    fn line(&mut self, place: Option<(u16, u8)>, text: String) {
+        self.lines.push(Line { place, changed: false, same: false, text });
+    }
+
+    fn trouble(&mut self, kind: Trouble, place: Option<(u16, u8)>, text: String) {
+        self.line(place, text.clone());
+        self.troubles.push((kind, text));
     }
 }
 
 pub fn tell(rig: &Rig, received: &Received, consumed: &Consumed, style: Style) -> Told {
-    let mut teller = Teller { rig, received, style, told: Told::default() };
+    let taken = matches!(consumed, Consumed::WrongVersion { .. } | Consumed::Taken { .. });
+    let told = Told { taken, ..Told::default() };
+    let mut teller = Teller { rig, received, style, told };
     match consumed {
-        Consumed::NotReady => teller.told.line("not ready: nothing happens".to_string()),
+        Consumed::NotReady => teller.told.line(None, "not ready: nothing happens".to_string()),
         Consumed::NoChannel => {
-            let node = words::node(received.sender);
-            teller.told.line(format!("no channel of the rig takes {node}: nothing happens"));
+            let node = words::node(rig, received.sender);
+            teller.told.line(None, format!("no channel of the rig takes {node}: nothing happens"));
         }
-        Consumed::WrongVersion { channel, expected, noted } => {
+        Consumed::WrongVersion { channel, expected, elements, noted } => {
+            teller.told.mapped = elements.iter().filter_map(place_of).collect();
             teller.wrong_version(*channel, *expected);
             teller.noted(noted.as_ref());
         }
         Consumed::Taken { channel, steps, noted } => {
+            teller.told.mapped = steps.iter().filter_map(|step| place_of(&step.element)).collect();
             if steps.is_empty() {
-                teller.told.line(format!("channel {channel} has no mapping: nothing happens"));
+                teller
+                    .told
+                    .line(None, format!("channel {channel} has no mapping: nothing happens"));
             }
             for (k, step) in steps.iter().enumerate() {
                 teller.step(step, &steps[k + 1..]);
@@ -70,13 +107,13 @@ struct Teller<'a> {
 
 impl Teller<'_> {
     fn wrong_version(&mut self, channel: u8, expected: u8) {
-        self.told.stops += 1;
-        self.told.fault(format!(
+        let why = format!(
             "refused: the payload has version {}, channel {} expects {}",
             words::version(self.received.version),
             channel,
-            words::version(expected)
-        ));
+            words::versions_from(expected)
+        );
+        self.told.trouble(Trouble::Version, None, why);
     }
 
     fn step(&mut self, step: &Step, later: &[Step]) {
@@ -85,44 +122,53 @@ impl Teller<'_> {
             None => words::type_with_article(step.element.element_type),
         };
         let element = format!("element {} ({})", step.element.number, at);
+        let place = place_of(&step.element);
         match &step.outcome {
             Outcome::Written(change) => {
                 self.told.written += 1;
-                self.told.line(format!("{}: {}", at, self.changed(change, later)));
-                self.cut(step, change);
+                self.written(&at, change, later);
+                self.cut(&at, step, change);
             }
             Outcome::PassedOver => {
                 let why = reasons::passed_over(&step.element);
-                self.told.fault(format!("{element} is passed over: {why}"));
+                let text = format!("{element} is passed over: {why}");
+                self.told.trouble(Trouble::PassedOver, place, text);
             }
-            Outcome::HandedOn => self.told.line(format!("{element} is handed on to SDO")),
+            Outcome::HandedOn => self.told.line(place, format!("{element} is handed on to SDO")),
             Outcome::Refused(why) => {
                 let why = reasons::refused(*why, &step.element);
-                self.told.fault(format!("{element} is not written: {why}"));
+                let text = format!("{element} is not written: {why}");
+                self.told.trouble(Trouble::Refused, place, text);
             }
             Outcome::Stopped(cause) => {
-                self.told.stops += 1;
                 let why = reasons::stopped(*cause, &step.element, self.received);
-                self.told.fault(format!("stopped at {element}: {why}"));
+                self.told.trouble(stop(*cause), place, format!("stopped at {element}: {why}"));
             }
-            Outcome::NotReached => self.told.line(format!("{element} is not reached")),
+            Outcome::NotReached => self.told.line(place, format!("{element} is not reached")),
         }
     }
 
-    fn changed(&self, change: &Change, later: &[Step]) -> String {
-        let target = (change.index, change.sub_index);
+    fn written(&mut self, at: &str, change: &Change, later: &[Step]) {
+        let (index, sub_index) = (change.index, change.sub_index);
         let again = later.iter().find(|step| match &step.outcome {
-            Outcome::Written(other) => (other.index, other.sub_index) == target,
+            Outcome::Written(other) => (other.index, other.sub_index) == (index, sub_index),
             _ => false,
         });
-        if let Some(step) = again {
-            return format!("written, and again by element {}", step.element.number);
+        let again = again.map_or(String::new(), |step| {
+            format!(" (element {} writes it again)", step.element.number)
+        });
+        let before = self.shown(index, &change.before);
+        let after = self.shown(index, &change.after);
+        let same = change.before.bytes == change.after.bytes;
+        let text = match same {
+            true => format!("{at}: {after}, as before{again}"),
+            false => format!("{at}: {before} -> {after}{again}"),
+        };
+        let place = Some((index, sub_index));
+        self.told.lines.push(Line { place, changed: !same, same, text });
+        if !same {
+            self.told.changes.push(Changed { index, sub_index, before, after });
         }
-        let after = self.shown(change.index, &change.after);
-        if change.before.bytes == change.after.bytes {
-            return format!("{after}, as before");
-        }
-        format!("{} -> {}", self.shown(change.index, &change.before), after)
     }
 
     /// A value; a mapping's element as the mapping that it says.
@@ -135,7 +181,7 @@ impl Teller<'_> {
     }
 
     /// Tells of a field of which only the first bytes are kept.
-    fn cut(&mut self, step: &Step, change: &Change) {
+    fn cut(&mut self, at: &str, step: &Step, change: &Change) {
         let (range, of, size) = match &step.element.mapped {
             Some(Mapped {
                 field: Some(range), target: Target::Fixed { value_type, size }, ..
@@ -156,15 +202,17 @@ impl Teller<'_> {
             }
             false => String::new(),
         };
-        self.told.fault(format!(
-            "  CUT: element {}'s field is {}{}; {}, {}, {} lost",
+        let why = format!(
+            "element {}'s field is {}{}; {}, {}, {} lost",
             step.element.number,
             words::hex(field),
             meant,
             last_bytes(lost.len()),
             words::hex(lost),
             if lost.len() == 1 { "is" } else { "are" }
-        ));
+        );
+        self.told.line(Some((change.index, change.sub_index)), format!("  CUT: {why}"));
+        self.told.troubles.push((Trouble::Cut, format!("{at}: {why}")));
     }
 
     /// Tells which nodes an error object has noted newly.
@@ -177,10 +225,29 @@ impl Teller<'_> {
         let bytes = change.before.bytes.iter().zip(&change.after.bytes);
         for (k, (before, after)) in bytes.enumerate().filter(|(_, pair)| pair.0 != pair.1) {
             let node = 8 * k + (before ^ after).trailing_zeros() as usize + 1;
-            self.told.line(format!(
+            let text = format!(
                 "{at}: the bit of node {node} is set (byte {k}: {before:02X} -> {after:02X})"
-            ));
+            );
+            let place = Some((change.index, change.sub_index));
+            self.told.lines.push(Line { place, changed: true, same: false, text });
         }
+        let (index, sub_index) = (change.index, change.sub_index);
+        let before = self.shown(index, &change.before);
+        let after = self.shown(index, &change.after);
+        self.told.changes.push(Changed { index, sub_index, before, after });
+    }
+}
+
+/// The place that an element maps onto.
+fn place_of(element: &Element) -> Option<(u16, u8)> {
+    element.mapped.as_ref().map(|mapped| (mapped.entry.index, mapped.entry.sub_index))
+}
+
+/// The trouble of a payload that stopped.
+fn stop(cause: Cause) -> Trouble {
+    match cause {
+        Cause::Frame | Cause::Value => Trouble::Short,
+        Cause::Text | Cause::Odd => Trouble::NoText,
     }
 }
 

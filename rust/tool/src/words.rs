@@ -1,7 +1,8 @@
 //! Plain words: numbers, places, types and values as a person reads them.
 
-use crate::rig::{is_unsigned, little_endian, Kind, Rig, Value};
-use loomfinch::{PdoMappingEntry, ValueType};
+use crate::quoting;
+use crate::rig::{is_unsigned, little_endian, Kind, Rig, Value, MANAGING_NODE};
+use loomfinch::{PDOVersion, PdoMappingEntry, Target, ValueType};
 
 /// How values are shown.
 #[derive(Clone, Copy, Debug, Default)]
@@ -10,6 +11,22 @@ pub struct Style {
     pub times: bool,
     /// Write the decimal mark as a comma.
     pub comma: bool,
+}
+
+impl Style {
+    /// The decimal mark.
+    pub fn mark(self) -> char {
+        if self.comma {
+            ','
+        } else {
+            '.'
+        }
+    }
+
+    /// A number that is written with a point, with the decimal mark.
+    fn decimal(self, number: &str) -> String {
+        number.replace('.', &self.mark().to_string())
+    }
 }
 
 pub fn bytes(count: usize) -> String {
@@ -38,21 +55,36 @@ pub fn place(index: u16, sub_index: u8) -> String {
 
 /// `6000h/0 "Ramp time"`.
 pub fn named_place(rig: &Rig, index: u16, sub_index: u8) -> String {
-    match rig.name(index) {
+    match rig.name(index, sub_index) {
         "" => place(index, sub_index),
-        name => format!("{} \"{}\"", place(index, sub_index), name.escape_debug()),
+        name => format!("{} {}", place(index, sub_index), quoting::text(name)),
     }
 }
 
-pub fn node(node: u8) -> String {
-    match node {
-        240 => "the managing node (240)".to_string(),
+/// `node 5 "Revolve"`.
+pub fn node(rig: &Rig, node: u8) -> String {
+    let number = match node {
+        MANAGING_NODE => "the managing node (240)".to_string(),
         node => format!("node {node}"),
-    }
+    };
+    rig.nodes
+        .get(&node)
+        .map_or(number.clone(), |name| format!("{} {}", number, quoting::text(name)))
 }
 
+/// A mapping version: `1.2 (12h)`.
 pub fn version(version: u8) -> String {
-    format!("{version:02X}h")
+    format!("{} ({:02X}h)", PDOVersion(version), version)
+}
+
+/// The versions that a channel takes which expects one: `1.0 to 1.F`.
+pub fn versions_from(expected: u8) -> String {
+    let last = PDOVersion(expected | 0x0F);
+    match expected {
+        0 => version(0),
+        expected if expected & 0x0F == 0x0F => version(expected),
+        expected => format!("{} to {}", PDOVersion(expected), last),
+    }
 }
 
 pub fn hex(bytes: &[u8]) -> String {
@@ -73,10 +105,10 @@ pub fn as_type(of: ValueType, bytes: &[u8], milliseconds: bool, style: Style) ->
     match of {
         _ if is_unsigned(of) && (milliseconds || timed) => time(number, style),
         Integer8 | Integer16 | Integer32 | Integer64 => signed(number, bytes.len()).to_string(),
-        Real32 => f32::from_bits(number as u32).to_string(),
-        Real64 => f64::from_bits(number).to_string(),
-        VisibleString => format!("\"{}\"", String::from_utf8_lossy(bytes).escape_debug()),
-        UnicodeString => format!("\"{}\"", String::from_utf16_lossy(&units(bytes)).escape_debug()),
+        Real32 => style.decimal(&f32::from_bits(number as u32).to_string()),
+        Real64 => style.decimal(&f64::from_bits(number).to_string()),
+        VisibleString => quoting::text(&String::from_utf8_lossy(bytes)),
+        UnicodeString => quoting::text(&String::from_utf16_lossy(&units(bytes))),
         OctetString | Domain => format!("[{}]", hex(bytes)),
         TimeOfDay | TimeDifference => format!("{} ms {} days", number as u32, number >> 32),
         NetTime => format!("{} s {} ns", number as u32, number >> 32),
@@ -84,6 +116,28 @@ pub fn as_type(of: ValueType, bytes: &[u8], milliseconds: bool, style: Style) ->
         MacAddress => joined(bytes, ":", |byte| format!("{byte:02X}")),
         IpAddress => joined(bytes, ".", |byte| byte.to_string()),
         _ => number.to_string(),
+    }
+}
+
+/// A plain number, or a time where it is one.
+pub fn number(number: u64, milliseconds: bool, style: Style) -> String {
+    match milliseconds || style.times {
+        true => time(number, style),
+        false => number.to_string(),
+    }
+}
+
+/// What is at the place that an element maps to: `an Unsigned16 of 2 bytes`.
+pub fn target(target: Target) -> String {
+    match target {
+        Target::Fixed { value_type, size } => {
+            format!("{} of {}", type_with_article(value_type), bytes(size))
+        }
+        Target::String { value_type, room } => {
+            format!("{} with room for {}", type_with_article(value_type), bytes(room))
+        }
+        Target::Count => "a list's count".to_string(),
+        Target::NoObject | Target::NoSubIndex => "nothing".to_string(),
     }
 }
 
@@ -101,8 +155,8 @@ pub fn mapping(word: u64) -> String {
 
 /// `2500 ms = 2.500 s`.
 fn time(milliseconds: u64, style: Style) -> String {
-    let mark = if style.comma { ',' } else { '.' };
-    format!("{} ms = {}{}{:03} s", milliseconds, milliseconds / 1000, mark, milliseconds % 1000)
+    let (seconds, rest) = (milliseconds / 1000, milliseconds % 1000);
+    format!("{} ms = {}{}{:03} s", milliseconds, seconds, style.mark(), rest)
 }
 
 /// The number that so many bytes of two's complement say.
@@ -129,6 +183,26 @@ mod tests {
         assert_eq!(time(2500, Style::default()), "2500 ms = 2.500 s");
         assert_eq!(time(90_000, comma), "90000 ms = 90,000 s");
         assert_eq!(time(7, Style::default()), "7 ms = 0.007 s");
+    }
+
+    #[test]
+    fn a_version_has_one_spelling() {
+        assert_eq!((version(0x12).as_str(), version(0).as_str()), ("1.2 (12h)", "0.0 (00h)"));
+        for (expected, wanted) in
+            [(0, "0.0 (00h)"), (0x10, "1.0 to 1.F"), (0x2A, "2.A to 2.F"), (0x3F, "3.F (3Fh)")]
+        {
+            assert_eq!(versions_from(expected), wanted);
+        }
+    }
+
+    #[test]
+    fn reals_have_the_decimal_mark_too() {
+        let comma = Style { comma: true, ..Style::default() };
+        let half = (-2.5f64).to_le_bytes();
+        assert_eq!(as_type(ValueType::Real64, &half, false, Style::default()), "-2.5");
+        assert_eq!(as_type(ValueType::Real64, &half, false, comma), "-2,5");
+        assert_eq!(as_type(ValueType::Real32, &1.25f32.to_le_bytes(), false, comma), "1,25");
+        assert_eq!(as_type(ValueType::IpAddress, &[1, 2, 3, 4], false, comma), "1.2.3.4");
     }
 
     #[test]

@@ -24,7 +24,7 @@ fn the_mended_ramp_passes() {
 fn every_fault_has_its_sentence() {
     let run = run(&["check", &rig("faults.rig")]);
     assert_eq!(run.status, 1);
-    let lines: Vec<&str> = run.out.lines().collect();
+    let lines: Vec<&str> = run.out.lines().filter(|line| !line.starts_with("note: ")).collect();
     let wanted = [
         "channel 0, from node 1, 2 elements: pass",
         "channel 1, from no node, 1 element: FAULT: no sender: channel 0 takes node 1 before it",
@@ -92,11 +92,23 @@ fn the_json_of_the_ramp() {
       }
     }
   ],
-  "notes": []
+  "notes": [],
+  "noted": []
 }
 "#;
     assert!(run.out.ends_with(wanted), "{}", run.out);
     assert_eq!(run.status, 1);
+}
+
+#[test]
+fn names_are_shown_as_they_are_written() {
+    let text = "1400h Record\n1 U8 = 5\n1600h Array\n1 6000h at 0 length 4\n6000h Variable U16 \"Durée d'accélération\"\n";
+    let run = run(&["check", &file("apostrophe.rig", text.as_bytes())]);
+    assert!(
+        run.out.contains("onto 6000h/0 \"Durée d'accélération\", an Unsigned16"),
+        "{}",
+        run.out
+    );
 }
 
 #[test]
@@ -156,8 +168,58 @@ fn what_no_payload_reaches_is_drawn_so() {
     assert!(short.out.contains(wanted), "{}", short.out);
     let text = "1400h Record\n1 U8 = 5\n1600h Array\n1 6000h at 1490 length 1\n6000h Variable U8\n";
     let far = run(&["check", "--explain", &file("far.rig", text.as_bytes())]);
-    assert!(far.out.contains("an Unsigned8 of 1 byte: every payload stops there\n"), "{}", far.out);
+    assert!(
+        far.out.contains(
+            "an Unsigned8 of 1 byte: it needs a payload of 1491 bytes, and none has more than 1490: every payload stops \
+             there\n"
+        ),
+        "{}",
+        far.out
+    );
     assert!(far.out.contains("x lost\n"), "{}", far.out);
+}
+
+#[test]
+fn too_far_names_the_first_element_that_is() {
+    let text = "1400h Record\n1 U8 = 5\n1600h Array\n1 6000h at 0 length 1\n2 6001h at 1490 length 1\n\
+                3 6002h at 1492 length 2\n6000h Variable U8\n6001h Variable U8\n6002h Variable U16\n";
+    let path = file("farther.rig", text.as_bytes());
+    let explained = run(&["check", "--explain", &path]).out;
+    let wanted =
+        "element 2 needs a payload of 1491 bytes, and none has more than 1490: every payload stops there";
+    assert!(explained.contains(&format!("FAULT: {wanted}\n")), "{explained}");
+    let later = "element 3 maps 2 bytes onto 6002h/0, an Unsigned16 of 2 bytes: never reached, since every payload stops at \
+                 element 2\n";
+    assert!(explained.contains(later), "{explained}");
+    let json = run(&["check", "--json", &path]).out;
+    let wanted = format!("\"name\": \"TooFar\",\n        \"number\": 39,\n        \"element\": 2,\n        \"text\": \"{wanted}\"");
+    assert!(json.contains(&wanted), "{json}");
+}
+
+#[test]
+fn what_is_never_reached_is_told_so() {
+    let text = "1400h Record\n1 U8 = 5\n1600h Array\n1 6000h at 0 length 1\n2 6000h at 1489 length 2\n\
+                3 6001h at 0 length 1\n4 6003h at 0 length 1\n5 6002h at 0 length 3\n6 6004h at 0 length 1\n\
+                7 6000h at 0 bits length 3 bits\n8 6000h at 0 length 1\n6000h Variable U8\n6001h Variable U16\n\
+                6002h Variable VisibleString room 2\n";
+    let run = run(&["check", "--explain", &file("unreached.rig", text.as_bytes())]);
+    let behind = "never reached, since every payload stops at element 2";
+    for wanted in [
+        "element 2 maps 2 bytes onto 6000h/0, an Unsigned8 of 1 byte: it needs a payload of 1491 bytes, and none has \
+         more than 1490: every payload stops there",
+        &format!("element 3 maps 1 byte onto 6001h/0, an Unsigned16 of 2 bytes: {behind}"),
+        &format!("element 4 maps onto 6003h/0, and there is no object 6003h: {behind}"),
+        &format!("element 5 maps 3 bytes onto 6002h/0, a VisibleString with room for 2 bytes: {behind}"),
+        &format!("element 7 maps 3 bits from bit 0 on onto 6000h/0: {behind}"),
+        &format!("element 8 maps 1 byte onto 6000h/0, an Unsigned8 of 1 byte: {behind}"),
+    ] {
+        assert!(run.out.contains(&format!("\n    {wanted}\n")), "{wanted}\n{}", run.out);
+    }
+    for false_words in
+        ["the later one stands", "passed over", "nothing would be written", "lost\n    e"]
+    {
+        assert!(!run.out.contains(false_words), "{false_words}\n{}", run.out);
+    }
 }
 
 #[test]
@@ -183,6 +245,50 @@ note: channel 1: element 1 maps onto 1401h/1, a record of the channel itself: a 
     assert_eq!((run.status, run.out.as_str()), (0, wanted));
 }
 
+/// Two drives write one move time, the second also what a payload should not.
+const TWO_CHANNELS: &str = "1400h Record\n1 U8 = 5\n1600h Array\n1 6000h at 0 length 2\n1401h Record\n1 U8 = 7\n1601h Array\n\
+                            1 6001h at 0 length 1\n2 6000h at 1 length 2\n3 1010h/1 at 3 length 1\n4 6002h at 4 length 1\n\
+                            1402h Record\n1 U8 = 7\n1602h Array\n1 6000h at 0 length 2\n1010h Array\n1 U8\n\
+                            6000h Variable U16 \"Move\"\n6001h Variable U8 ro\n6002h Variable U8 const\n";
+
+#[test]
+fn what_two_channels_write_is_noted() {
+    let path = file("two.rig", TWO_CHANNELS.replace("1402h", "1502h").as_bytes());
+    let found = run(&["check", &path]);
+    let wanted = r#"channel 0, from node 5, 1 element: pass
+channel 1, from node 7, 4 elements: pass
+note: channel 1: element 1 maps onto 6001h/0, which is ReadOnly: payloads change it all the same
+note: channel 1: element 3 maps onto 1010h/1, which takes a plain value from a payload: nothing is saved
+note: channel 1: element 4 maps onto 6002h/0, which is Constant: payloads change it all the same
+note: channels 0 and 1 both map onto 6000h/0 "Move" (elements 1 and 2): of node 5 and node 7 the last to arrive stands
+note: nothing uses the mapping 1602h: there is no 1402h that names its sender
+"#;
+    assert_eq!((found.status, found.out.as_str()), (0, wanted));
+    assert_eq!(run(&["check", "--strict", &path]).status, 1);
+    assert_eq!(run(&["check", "--strict", &rig("mended.rig")]).status, 0);
+    let json = run(&["check", "--json", &path]).out;
+    let wanted = r#"    {
+      "kind": "TwoChannels",
+      "channel": 1,
+      "element": 2,
+      "other": {
+        "channel": 0,
+        "element": 1
+      },
+      "text": "channels 0 and 1 both map onto 6000h/0 \"Move\" (elements 1 and 2): of node 5 and node 7 the last to arrive stands"
+    },
+"#;
+    assert!(json.contains(wanted), "{json}");
+    assert!(json.contains("\"kind\": \"StoreTarget\""), "{json}");
+}
+
+#[test]
+fn a_channel_that_takes_no_payload_writes_nothing() {
+    let run = run(&["check", &file("untaken.rig", TWO_CHANNELS.as_bytes())]);
+    assert!(!run.out.contains("channels 0 and 2"), "{}", run.out);
+    assert!(!run.out.contains("channels 1 and 2"), "{}", run.out);
+}
+
 #[test]
 fn a_rig_without_channels_says_so() {
     let text = b"6000h Variable U8\n1601h Array\n1C81h Variable U8\n";
@@ -201,19 +307,19 @@ fn a_rig_without_channels_says_so() {
 
 #[test]
 fn rigs_that_are_damaged_missing_or_empty() {
-    let damaged = file("damaged.rig", b"# one\n6000h Variable Unsigned16 = 65536\n");
+    let damaged = file("damaged.rig", b"# one\n6000h Variable Unsigned16 = 65536\nwinch\n");
     for (path, wanted) in [
         (
             damaged.clone(),
             format!(
-                "{damaged}:2: expected a number from 0 to 65535 for an Unsigned16, found '65536'"
+                "{damaged}:2:29: expected a number from 0 to 65535 for an Unsigned16, found '65536'\nloomfinch: {damaged}:3:1: expected"
             ),
         ),
         (file("empty.rig", b""), "expected at least one object".to_string()),
-        (file("bytes.rig", &[0xFF, 0xFE, 0]), ":1: expected text in UTF-8".to_string()),
+        (file("bytes.rig", &[0xFF, 0xFE, 0]), ":1:1: expected text in UTF-8".to_string()),
         (rig("no-such.rig"), "No such file".to_string()),
         (rig("."), "irectory".to_string()),
-        (rig("rehearsal.pcap"), ":1: expected text in UTF-8".to_string()),
+        (rig("rehearsal.pcap"), ":1:1: expected text in UTF-8".to_string()),
         (
             file("large.rig", &vec![b'#'; (4 << 20) + 1]),
             "expected a rig file of at most".to_string(),

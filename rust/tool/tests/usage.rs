@@ -11,10 +11,12 @@ fn help_for_all_and_for_each_command() {
     let all = run(&["--help"]);
     assert_eq!((all.status, all.err.as_str()), (0, ""));
     assert!(all.out.contains("loomfinch check RIG"), "{}", all.out);
-    for command in ["check", "consume", "replay"] {
+    for (command, first) in
+        [("check", "RIG"), ("consume", "RIG"), ("replay", "RIG"), ("pair", "DRIVE.rig")]
+    {
         let help = run(&[command, "--help"]);
         assert_eq!(help.status, 0);
-        assert!(help.out.starts_with(&format!("loomfinch {command} RIG")), "{}", help.out);
+        assert!(help.out.starts_with(&format!("loomfinch {command} {first}")), "{}", help.out);
         assert!(help.out.contains("Example:"), "{}", help.out);
         assert_eq!(run(&["help", command]).out, help.out);
     }
@@ -39,7 +41,7 @@ fn words_of(text: &str) -> Vec<&str> {
 
 #[test]
 fn the_help_shows_what_is_printed() {
-    for command in ["check", "consume", "replay"] {
+    for command in ["check", "consume", "replay", "pair"] {
         let help = run(&["help", command]).out;
         let example = help.split("\n  $ loomfinch ").nth(1).unwrap();
         let (line, printed) = example.split_once('\n').unwrap();
@@ -106,12 +108,12 @@ fn the_rig_of_the_document_is_a_rig() {
 
 #[test]
 fn the_document_shows_what_is_printed() {
-    for command in ["$ loomfinch check", "$ loomfinch consume"] {
+    for command in ["$ loomfinch check", "$ loomfinch consume", "$ loomfinch pair"] {
         let lines = sample("TOOL.md", command);
         let arguments: Vec<String> = lines[0]
             .split_whitespace()
             .skip(2)
-            .map(|word| word.replace("rigs/ramp.rig", &rig("ramp.rig")))
+            .map(|word| word.strip_prefix("rigs/").map_or(word.to_string(), rig))
             .collect();
         assert_eq!(run(&arguments).out.trim_end(), lines[1..].join("\n").trim_end());
     }

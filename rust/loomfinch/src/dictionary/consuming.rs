@@ -2,7 +2,7 @@
 
 use super::Dictionary;
 use crate::answer::{done, fit};
-use crate::event::{Events, Payload};
+use crate::event::{Events, Payload, ReceivedPayload};
 use crate::refusal::Refusal;
 use crate::sys;
 use crate::types::{NodeId, PDOVersion};
@@ -18,7 +18,7 @@ impl Dictionary {
     ///
     /// A run that stops half-way is no refusal: the fields before the stop are written, and the last event says why.
     ///
-    /// Refuses with [`PayloadTooLong`](Refusal::PayloadTooLong) a payload over 1,490 bytes.
+    /// Refuses with [`PayloadTooLong`](Refusal::PayloadTooLong) a payload over 1490 bytes.
     pub fn consume_pdo_payload(
         &mut self,
         source_node_id: NodeId,
@@ -37,14 +37,14 @@ impl Dictionary {
             &mut self.events,
             &mut count,
         ))?;
-        Ok(Events::of(self.events[..fit(count)].to_vec()))
+        Ok(Events::of(&self.events[..fit(count)]))
     }
 
     /// Consumes the payloads of a cycle, one after another, each as
     /// [`consume_pdo_payload`](Dictionary::consume_pdo_payload) would; the dictionary is judged once.
     ///
-    /// Refuses, before any is consumed, with [`BadValue`](Refusal::BadValue) more than 1,024 payloads and one that does
-    /// not lie within what was delivered, and with [`PayloadTooLong`](Refusal::PayloadTooLong) one over 1,490 bytes.
+    /// Refuses, before any is consumed, with [`BadValue`](Refusal::BadValue) more than 1024 payloads and one that does
+    /// not lie within what was delivered, and with [`PayloadTooLong`](Refusal::PayloadTooLong) one over 1490 bytes.
     pub fn consume_cycle(
         &mut self,
         delivered: &[u8],
@@ -62,7 +62,39 @@ impl Dictionary {
             &mut count,
         ))?;
         debug_assert_eq!(consumed, payloads.len() as u64);
-        Ok(Events::of(self.events[..fit(count)].to_vec()))
+        Ok(Events::of(&self.events[..fit(count)]))
+    }
+
+    /// Consumes the payloads of a cycle as [`consume_cycle`](Dictionary::consume_cycle) does, each from bytes of its own,
+    /// which are copied behind each other.
+    ///
+    /// ```
+    /// use loomfinch::{Dictionary, NodeId, PDOVersion, ReceivedPayload};
+    ///
+    /// let mut dictionary = Dictionary::new(Default::default());
+    /// let (source_node_id, received_version) = (NodeId(5), PDOVersion(0x12));
+    /// let payload = &[0xC4, 0x09];
+    /// let one = ReceivedPayload { payload, source_node_id, received_version, is_ready: true };
+    /// assert!(dictionary.consume_payloads(&[one])?.is_empty());
+    /// # Ok::<(), loomfinch::Refusal>(())
+    /// ```
+    pub fn consume_payloads(
+        &mut self,
+        payloads: &[ReceivedPayload<'_>],
+    ) -> Result<Events, Refusal> {
+        let mut delivered = Vec::new();
+        let mut placed = Vec::new();
+        for received in payloads {
+            placed.push(Payload {
+                start: delivered.len(),
+                len: received.payload.len(),
+                source_node_id: received.source_node_id,
+                received_version: received.received_version,
+                is_ready: received.is_ready,
+            });
+            delivered.extend_from_slice(received.payload);
+        }
+        self.consume_cycle(&delivered, &placed)
     }
 
     /// Sets the bit of a node, 1 to 239, in the error object at an index, where that is an OctetString Variable which now

@@ -2,9 +2,11 @@
 
 mod checking;
 mod consuming;
+mod listing;
 mod reading;
 mod writing;
 
+pub use listing::ObjectInfo;
 pub use writing::Written;
 
 use crate::answer::done;
@@ -39,6 +41,8 @@ pub struct Dictionary {
     store: Vec<u8>,
     /// Room for the events of a call, kept so that consuming need not make it anew.
     events: Vec<u64>,
+    /// Is the memory no dictionary? No call makes one of it, or spoils one.
+    malformed: bool,
 }
 
 impl Dictionary {
@@ -61,7 +65,8 @@ impl Dictionary {
     /// assert_eq!(Dictionary::from_parts(parts).check(0), Err(Refusal::Malformed));
     /// ```
     pub fn from_parts(parts: Parts) -> Self {
-        Dictionary { parts, store: Vec::new(), events: Vec::new() }
+        let malformed = sys::read(&parts, 0, 0, &mut [0; 3]) == Refusal::Malformed.number().into();
+        Dictionary { parts, store: Vec::new(), events: Vec::new(), malformed }
     }
 
     /// The dictionary's memory.
@@ -98,7 +103,7 @@ impl Dictionary {
     /// Inserts an object at an index. Every other object keeps its name, values and rooms.
     ///
     /// Refuses, in this order, with [`BadValue`](Refusal::BadValue) an object that breaks a rule for sizes: a name over 32
-    /// bytes, more than 254 elements, a room over 1,490 bytes, a string longer than its room; with
+    /// bytes, more than 254 elements, a room over 1490 bytes, a string longer than its room; with
     /// [`Occupied`](Refusal::Occupied) an index that is taken; with [`Full`](Refusal::Full) an object that the dictionary
     /// has no room for.
     ///

@@ -65,6 +65,26 @@ impl Dictionary {
         Ok(number)
     }
 
+    /// Reads an Integer8, as [`read_u8`](Dictionary::read_u8) reads an Unsigned8.
+    pub fn read_i8(&self, index: u16, sub_index: u8) -> Result<i8, Refusal> {
+        self.read(index, sub_index)?.try_into()
+    }
+
+    /// Reads an Integer16, as [`read_u8`](Dictionary::read_u8) reads an Unsigned8.
+    pub fn read_i16(&self, index: u16, sub_index: u8) -> Result<i16, Refusal> {
+        self.read(index, sub_index)?.try_into()
+    }
+
+    /// Reads an Integer32, as [`read_u8`](Dictionary::read_u8) reads an Unsigned8.
+    pub fn read_i32(&self, index: u16, sub_index: u8) -> Result<i32, Refusal> {
+        self.read(index, sub_index)?.try_into()
+    }
+
+    /// Reads an Integer64, as [`read_u8`](Dictionary::read_u8) reads an Unsigned8.
+    pub fn read_i64(&self, index: u16, sub_index: u8) -> Result<i64, Refusal> {
+        self.read(index, sub_index)?.try_into()
+    }
+
     /// Reads a VisibleString, which is not copied. Refuses as [`read_u8`](Dictionary::read_u8) does.
     ///
     /// ```
@@ -140,7 +160,7 @@ impl Dictionary {
     /// Refuses, in this order, with [`ObjectNotFound`](Refusal::ObjectNotFound) where no Array is there, with
     /// [`MissingEntries`](Refusal::MissingEntries) where one of them is missing or no Unsigned64, and with
     /// [`PdoMapOverrun`](Refusal::PdoMapOverrun) where one ends behind the limit that 1F98h has for payloads, or behind
-    /// 1,490 bytes where it has none.
+    /// 1490 bytes where it has none.
     pub fn validate_pdo_mapping(&self, index: u16, count: u8) -> Result<(), Refusal> {
         done(sys::validate_pdo_mapping(&self.parts, index, count))
     }

@@ -78,7 +78,8 @@ impl Dictionary {
         self.write(STORE_PARAMETERS, list, signature()).map(|_| ())
     }
 
-    /// Saves a list as [`save`](Dictionary::save) does, into a lent store instead of the dictionary's own.
+    /// Saves a list as [`save`](Dictionary::save) does, into a lent store instead of the dictionary's own. A save changes no
+    /// value; the call works on a copy of the dictionary's memory, which it makes.
     ///
     /// ```
     /// use loomfinch::{AccessType, Capacity, Dictionary, Object, ObjectEntry, ObjectValue};
@@ -96,8 +97,8 @@ impl Dictionary {
     /// assert_eq!(dictionary.read_u16(0x6000, 0)?, 2_500);
     /// # Ok::<(), loomfinch::Refusal>(())
     /// ```
-    pub fn save_to(&mut self, list: u8, store: &mut [u8]) -> Result<(), Refusal> {
-        self.write_with_store(STORE_PARAMETERS, list, signature(), store).map(|_| ())
+    pub fn save_to(&self, list: u8, store: &mut [u8]) -> Result<(), Refusal> {
+        write(&mut self.parts.clone(), store, STORE_PARAMETERS, list, &signature()).map(|_| ())
     }
 
     /// Restores the values of the objects from index `first` to index `last`, 1003h left out: to what the dictionary's own

@@ -9,7 +9,8 @@ use loomfinch::{
 const MOVE: [u8; 6] = [0xC4, 0x09, 0x10, 0x27, 0, 0];
 
 fn consume(dictionary: &mut Dictionary, payload: &[u8]) -> Result<Vec<EventRecord>, Refusal> {
-    dictionary.consume_pdo_payload(NODE, payload, VERSION, true).map(Iterator::collect)
+    let events = dictionary.consume_pdo_payload(NODE, payload, VERSION, true)?;
+    Ok(events.into_iter().collect())
 }
 
 fn at(element: u8, event: Event) -> EventRecord {
@@ -65,9 +66,9 @@ fn nothing_happens_without_a_ready_payload_of_a_channel() -> Result<(), Refusal>
 #[test]
 fn a_wrong_version_names_no_element() -> Result<(), Refusal> {
     let mut rig = rig(16)?;
-    let mut events = rig.consume_pdo_payload(NODE, &MOVE, PDOVersion(0x22), true)?;
+    let events = rig.consume_pdo_payload(NODE, &MOVE, PDOVersion(0x22), true)?;
     let wanted = EventRecord { payload: 0, element: None, event: Event::MapVersion };
-    assert_eq!((events.next(), events.next()), (Some(wanted), None));
+    assert_eq!(events.as_slice(), [wanted]);
     assert_eq!(rig.read_bytes(0x1C80, 0)?[0], 0x10);
     assert_eq!(rig.read_u16(0x6000, 0)?, 0);
     Ok(())
@@ -138,7 +139,7 @@ fn a_cycle_is_its_payloads_in_turn() -> Result<(), Refusal> {
         [payload(0, 6, 5), payload(6, 2, 5), payload(8, 6, 5), payload(0, 6, 7), unready];
     let mut rig = rig(16)?;
     let mut apart = rig.clone();
-    let events: Vec<_> = rig.consume_cycle(&delivered, &payloads)?.collect();
+    let events: Vec<_> = rig.consume_cycle(&delivered, &payloads)?.into_iter().collect();
     let short = Event::PayloadShort(Cause::Frame);
     assert_eq!(events, [EventRecord { payload: 1, element: Some(2), event: short }]);
     assert_eq!(events[0].to_string(), "payload 1, element 2: PayloadShort: Frame");
@@ -158,7 +159,7 @@ fn a_cycle_has_room_for_all_events() -> Result<(), Refusal> {
     let mut dictionary = channel([(); 254].map(|()| maps(8, 0, 0, 0x6200)))?;
     let events = dictionary.consume_cycle(&[0], &[payload(0, 1, 5); MOST_PAYLOADS])?;
     assert_eq!(events.len(), 254 * MOST_PAYLOADS);
-    assert_eq!(events.last().map(|record| record.payload), Some(1_023));
+    assert_eq!(events.iter().last().map(|record| record.payload), Some(1_023));
     assert_eq!(dictionary.consume_cycle(&[], &[])?.len(), 0);
     Ok(())
 }

@@ -8,6 +8,8 @@ fn an_element_in_order_is_explained_too() -> Result<(), Refusal> {
     let explanation = rig(16)?.explain(0, 2)?;
     let (entry, target) = explanation.mapped.expect("a mapping word");
     assert_eq!((explanation.element, explanation.fault), (2, None));
+    let wanted = "element 2 maps 4 bytes onto 6200h/3, an Unsigned32 of 4 bytes";
+    assert_eq!(explanation.to_string(), wanted);
     assert_eq!(explanation.element_type, ValueType::Unsigned64);
     assert_eq!((entry.index, entry.sub_index, entry.field()), (0x6200, 3, Some(2..6)));
     assert_eq!(target, Target::Fixed { value_type: ValueType::Unsigned32, size: 4 });
@@ -43,7 +45,7 @@ fn each_element_has_its_sentence() -> Result<(), Refusal> {
     ]) {
         let explanation = dictionary.explain(0, element)?;
         assert_eq!(explanation.fault, Some(fault));
-        assert_eq!(explanation.to_string(), format!("element {element} {sentence}"));
+        assert_eq!(explanation.to_string(), format!("element {element} {sentence}: {fault}"));
     }
     Ok(())
 }

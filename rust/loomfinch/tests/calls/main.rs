@@ -3,9 +3,11 @@
 mod checking;
 mod codec;
 mod consuming;
+mod converting;
 mod explaining;
 mod inserting;
 mod lasting;
+mod listing;
 mod mapping;
 mod reading;
 mod rig;

@@ -42,7 +42,9 @@ fn an_owned_store_keeps_what_was_saved() -> Result<(), Refusal> {
 fn a_lent_store_keeps_what_was_saved() -> Result<(), Refusal> {
     let mut dictionary = storable()?;
     let mut store = [0xAA; 64];
-    dictionary.save_to(1, &mut store)?;
+    // A save borrows the dictionary for reading alone.
+    let saving: &Dictionary = &dictionary;
+    saving.save_to(1, &mut store)?;
     assert_eq!(store[..2], [3, 0]);
     assert_eq!(store[63], 0xAA);
     spoil(&mut dictionary)?;

@@ -19,15 +19,34 @@ pub struct Packet {
     pub bytes: Vec<u8>,
     /// How many bytes it had on the wire.
     pub length: usize,
-    /// Was it captured on an Ethernet?
-    pub ethernet: bool,
+    pub link: Link,
+}
+
+/// What a packet was captured on: what its bytes begin with.
+#[derive(Clone, Copy, Debug, PartialEq, Eq)]
+pub enum Link {
+    Ethernet,
+    /// A Linux "cooked" capture, as of the interface `any`, whose heads have no destination.
+    Cooked,
+    /// The newer form of that.
+    Cooked2,
+    /// Anything else, by its number.
+    Other(u16),
+}
+
+impl From<u16> for Link {
+    fn from(number: u16) -> Link {
+        match number {
+            1 => Link::Ethernet,
+            113 => Link::Cooked,
+            276 => Link::Cooked2,
+            other => Link::Other(other),
+        }
+    }
 }
 
 /// The most bytes of a packet: what capturing programs write at most.
 const MOST_PACKET: usize = 262_144;
-
-/// The link type of Ethernet.
-const ETHERNET: u16 = 1;
 
 pub struct Capture {
     source: Source,
@@ -65,6 +84,11 @@ impl Capture {
         };
         self.packets += u64::from(packet.is_some());
         Ok(packet)
+    }
+
+    /// How many packets were read so far.
+    pub fn packets(&self) -> u64 {
+        self.packets
     }
 
     /// How many bytes were read so far.

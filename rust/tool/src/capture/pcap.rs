@@ -1,11 +1,12 @@
 //! The classic capture form: a header, then packets each with a header of their own.
 
-use super::{Damage, Order, Packet, Source, ETHERNET, MOST_PACKET};
+use super::{Damage, Link, Order, Packet, Source, MOST_PACKET};
 
 pub struct Header {
     order: Order,
     /// Nanoseconds in the unit of the fractions of a second.
     unit: i128,
+    link: Link,
 }
 
 impl Header {
@@ -30,14 +31,8 @@ impl Header {
             ));
         }
         // The high half of the link type says how long the frames' check sequence is.
-        let link = order.u32(&rest, 16) as u16;
-        if link != ETHERNET {
-            return Err(Damage::at(
-                20,
-                format!("expected a capture of an Ethernet (link type 1), found link type {link}"),
-            ));
-        }
-        Ok(Header { order, unit })
+        let link = Link::from(order.u32(&rest, 16) as u16);
+        Ok(Header { order, unit, link })
     }
 
     pub fn next_packet(&self, source: &mut Source, number: u64) -> Result<Option<Packet>, Damage> {
@@ -67,7 +62,7 @@ impl Header {
             time: Some(seconds * 1_000_000_000 + fraction * self.unit),
             bytes,
             length: self.order.u32(&head, 12) as usize,
-            ethernet: true,
+            link: self.link,
         }))
     }
 }

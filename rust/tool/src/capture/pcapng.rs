@@ -1,6 +1,6 @@
 //! The newer capture form: sections of blocks, each block with its length before and behind it.
 
-use super::{Damage, Order, Packet, Source, ETHERNET, MOST_PACKET};
+use super::{Damage, Link, Order, Packet, Source, MOST_PACKET};
 
 /// The first bytes of a section's header, the same in either byte order.
 pub const SECTION_BEGIN: [u8; 4] = [0x0A, 0x0D, 0x0D, 0x0A];
@@ -18,7 +18,7 @@ pub struct Section {
 }
 
 struct Interface {
-    link: u16,
+    link: Link,
     /// The most bytes kept of a packet; 0 is no bound.
     kept: usize,
     ticks: Ticks,
@@ -181,7 +181,7 @@ impl Section {
         block.at_least(8)?;
         let options = &block.body[8..];
         self.interfaces.push(Interface {
-            link: self.order.u16(&block.body, 0),
+            link: self.order.u16(&block.body, 0).into(),
             kept: self.order.u32(&block.body, 4) as usize,
             ticks: self
                 .option(options, RESOLUTION, 1)
@@ -225,8 +225,7 @@ impl Section {
         let length = self.order.u32(&block.body, 16) as usize;
         let bytes = block.part(20, captured)?;
         let time = interface.offset * 1_000_000_000 + interface.ticks.nanoseconds(ticks);
-        let ethernet = interface.link == ETHERNET;
-        Ok(Packet { number, time: Some(time), bytes, length, ethernet })
+        Ok(Packet { number, time: Some(time), bytes, length, link: interface.link })
     }
 
     fn simple(&self, block: &Block, number: u64) -> Result<Packet, Damage> {
@@ -235,7 +234,7 @@ impl Section {
         let length = self.order.u32(&block.body, 0) as usize;
         let bound = if interface.kept == 0 { length } else { interface.kept };
         let bytes = block.part(4, length.min(bound))?;
-        Ok(Packet { number, time: None, bytes, length, ethernet: interface.link == ETHERNET })
+        Ok(Packet { number, time: None, bytes, length, link: interface.link })
     }
 
     fn interface_at(&self, place: usize, block: &Block) -> Result<&Interface, Damage> {

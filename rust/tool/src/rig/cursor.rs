@@ -1,26 +1,32 @@
 //! A place among the tokens of one line.
 
-use super::lexer::Token;
+use super::lexer::{self, Placed, Token};
 use super::numbers;
 use super::problem::Problem;
 
 pub struct Cursor {
-    tokens: Vec<Token>,
+    tokens: Vec<Placed>,
     at: usize,
+    /// The token that was taken last: problems name its column.
+    taken: usize,
     pub line: usize,
+    /// The column behind the line's last token.
+    end: usize,
 }
 
 impl Cursor {
-    pub fn new(tokens: Vec<Token>, line: usize) -> Cursor {
-        Cursor { tokens, at: 0, line }
+    pub fn new(text: &str, line: usize) -> Result<Cursor, Problem> {
+        let (tokens, end) = lexer::tokens(text, line)?;
+        Ok(Cursor { tokens, at: 0, taken: 0, line, end })
     }
 
     pub fn peek(&self) -> Option<&Token> {
-        self.tokens.get(self.at)
+        self.tokens.get(self.at).map(|found| &found.0)
     }
 
     pub fn next(&mut self) -> Option<Token> {
-        let token = self.tokens.get(self.at).cloned();
+        let token = self.peek().cloned();
+        self.taken = self.at;
         self.at += usize::from(token.is_some());
         token
     }
@@ -28,7 +34,7 @@ impl Cursor {
     /// The word so many tokens ahead, where there is one.
     pub fn word_ahead(&self, ahead: usize) -> Option<&str> {
         match self.tokens.get(self.at + ahead) {
-            Some(Token::Word(word)) => Some(word),
+            Some((Token::Word(word), _)) => Some(word),
             _ => None,
         }
     }
@@ -36,7 +42,9 @@ impl Cursor {
     /// Passes over the word if it comes next.
     pub fn skip_word(&mut self, wanted: &str) -> bool {
         let found = self.word_ahead(0).map_or(false, |word| word.eq_ignore_ascii_case(wanted));
-        self.at += usize::from(found);
+        if found {
+            self.next();
+        }
         found
     }
 
@@ -67,9 +75,26 @@ impl Cursor {
         Some(high << 16 | last)
     }
 
-    /// The error for something else than what was wanted; none found is the line's end.
+    /// The error for something else than what was wanted at the token that was taken last; none found is the line's end.
     pub fn expected(&self, wanted: &str, found: Option<&Token>) -> Problem {
-        let found = found.map_or("the end of the line".to_string(), Token::shown);
-        Problem::at(self.line, format!("expected {wanted}, found {found}"))
+        let shown = found.map_or("the end of the line".to_string(), Token::shown);
+        self.problem(format!("expected {wanted}, found {shown}"))
+    }
+
+    /// The error for something else than what was wanted next.
+    pub fn expected_next(&mut self, wanted: &str) -> Problem {
+        let found = self.next();
+        self.expected(wanted, found.as_ref())
+    }
+
+    /// An error at the token that was taken last.
+    pub fn problem(&self, text: impl Into<String>) -> Problem {
+        let column = self.tokens.get(self.taken).map_or(self.end, |found| found.1);
+        Problem::at(self.line, column, text)
+    }
+
+    /// An error of the line as a whole, at its beginning.
+    pub fn problem_of_line(&self, text: impl Into<String>) -> Problem {
+        Problem::at(self.line, self.tokens.first().map_or(1, |found| found.1), text)
     }
 }

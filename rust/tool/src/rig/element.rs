@@ -59,10 +59,7 @@ impl Parts {
         let of = match self.of {
             Some(of) => of,
             None => {
-                return Err(Problem::at(
-                    cursor.line,
-                    "expected a type before '=', as in Unsigned16 = 2500",
-                ))
+                return Err(cursor.problem("expected a type before '=', as in Unsigned16 = 2500"))
             }
         };
         let bytes = typed_value(cursor, of)?;
@@ -86,39 +83,38 @@ impl Parts {
     }
 
     /// The value that the parts say.
-    pub fn finish(self, line: usize) -> Result<Value, Problem> {
+    pub fn finish(self, cursor: &Cursor) -> Result<Value, Problem> {
         let of = match self.of {
             Some(of) => of,
-            None => return Err(Problem::at(line, "expected a type, such as Unsigned16")),
+            None => return Err(cursor.problem_of_line("expected a type, such as Unsigned16")),
         };
         if self.milliseconds && !is_unsigned(of) {
             let text = format!(
                 "expected 'ms' only beside an Unsigned type, found it beside {}",
                 words::type_with_article(of)
             );
-            return Err(Problem::at(line, text));
+            return Err(cursor.problem_of_line(text));
         }
         if of.size().is_none() && self.bytes.is_none() && self.room.is_none() {
             let text = format!(
                 "expected a room for {}, as in room 40, or a value that it takes its room from",
                 words::type_with_article(of)
             );
-            return Err(Problem::at(line, text));
+            return Err(cursor.problem_of_line(text));
         }
         let bytes = self.bytes.unwrap_or_else(|| vec![0; of.size().unwrap_or(0)]);
         let needed = if of.size().is_none() { bytes.len() } else { 0 };
         let room = self.room.unwrap_or(needed);
         if needed > room {
             let text = format!("the value has {}, its room only {}", words::bytes(needed), room);
-            return Err(Problem::at(line, text));
+            return Err(cursor.problem_of_line(text));
         }
         if room > MOST_ROOM {
-            return Err(Problem::at(
-                line,
-                format!("expected at most {MOST_ROOM} bytes, found {room}"),
-            ));
+            return Err(
+                cursor.problem_of_line(format!("expected at most {MOST_ROOM} bytes, found {room}"))
+            );
         }
-        Ok(Value { of, bytes, room, milliseconds: self.milliseconds })
+        Ok(Value { of, bytes, room, milliseconds: self.milliseconds, name: String::new() })
     }
 }
 
@@ -131,10 +127,9 @@ pub fn default_value(cursor: &mut Cursor, like: Option<ValueType>) -> Result<Val
     let of = match own.or(like) {
         Some(of) => of,
         None => {
-            return Err(Problem::at(
-                cursor.line,
-                "expected a type behind 'default', as in default Unsigned16 = 2500",
-            ))
+            return Err(
+                cursor.problem("expected a type behind 'default', as in default Unsigned16 = 2500")
+            )
         }
     };
     match cursor.next() {
@@ -144,19 +139,17 @@ pub fn default_value(cursor: &mut Cursor, like: Option<ValueType>) -> Result<Val
     let bytes = typed_value(cursor, of)?;
     let room = if of.size().is_none() { bytes.len() } else { 0 };
     if room > MOST_ROOM {
-        return Err(Problem::at(
-            cursor.line,
-            format!("expected at most {MOST_ROOM} bytes in a default, found {room}"),
-        ));
+        return Err(cursor
+            .problem(format!("expected at most {MOST_ROOM} bytes in a default, found {room}")));
     }
-    Ok(Value { of, bytes, room, milliseconds: false })
+    Ok(Value { of, bytes, room, milliseconds: false, name: String::new() })
 }
 
 fn once(cursor: &Cursor, first: bool, part: &str) -> Result<bool, Problem> {
     if first {
         Ok(true)
     } else {
-        Err(Problem::at(cursor.line, format!("expected one {part}, found a second")))
+        Err(cursor.problem(format!("expected one {part}, found a second")))
     }
 }
 
@@ -209,7 +202,7 @@ fn mapping(cursor: &mut Cursor) -> Result<PdoMappingEntry, Problem> {
     cursor.skip_word("at");
     let offset_bits = extent(cursor, "offset")?;
     if !cursor.skip_word("length") {
-        return Err(cursor.expected("'length' and the field's length in bytes", cursor.peek()));
+        return Err(cursor.expected_next("'length' and the field's length in bytes"));
     }
     let length_bits = extent(cursor, "length")?;
     Ok(PdoMappingEntry { index, sub_index, offset_bits, length_bits })
@@ -218,11 +211,7 @@ fn mapping(cursor: &mut Cursor) -> Result<PdoMappingEntry, Problem> {
 fn target(cursor: &mut Cursor) -> Result<(u16, u8), Problem> {
     let token = cursor.next();
     let parsed = match &token {
-        Some(Token::Word(word)) => {
-            let (index, sub_index) = word.split_once('/').unwrap_or((word, "0"));
-            let sub_index = numbers::unsigned(sub_index).and_then(|n| u8::try_from(n).ok());
-            numbers::index(index).zip(sub_index)
-        }
+        Some(Token::Word(word)) => numbers::place(word),
         _ => None,
     };
     parsed.ok_or_else(|| cursor.expected("a target, as in 6000h/0", token.as_ref()))
@@ -235,6 +224,9 @@ fn extent(cursor: &mut Cursor, part: &str) -> Result<u16, Problem> {
         Some(Token::Word(word)) => numbers::unsigned(word),
         _ => None,
     };
+    let wanted =
+        format!("the field's {part} as a number of bytes up to 8191, or of bits up to 65535");
+    let problem = cursor.expected(&wanted, token.as_ref());
     let unit = if cursor.skip_word("bits") {
         1
     } else {
@@ -242,7 +234,5 @@ fn extent(cursor: &mut Cursor, part: &str) -> Result<u16, Problem> {
         8
     };
     let bits = number.and_then(|n| n.checked_mul(unit)).and_then(|bits| u16::try_from(bits).ok());
-    let wanted =
-        format!("the field's {part} as a number of bytes up to 8191, or of bits up to 65535");
-    bits.ok_or_else(|| cursor.expected(&wanted, token.as_ref()))
+    bits.ok_or(problem)
 }

@@ -1,6 +1,7 @@
 //! A line of a rig file as tokens, each with the column where it begins.
 
 use super::problem::Problem;
+use crate::quoting;
 
 #[derive(Clone, Debug, PartialEq, Eq)]
 pub enum Token {
@@ -17,8 +18,8 @@ impl Token {
     /// The token as an error message quotes it.
     pub fn shown(&self) -> String {
         match self {
-            Token::Word(word) => format!("'{}'", word.escape_debug()),
-            Token::Text(text) => format!("the text \"{}\"", text.escape_debug()),
+            Token::Word(word) => quoting::word(word),
+            Token::Text(text) => format!("the text {}", quoting::text(text)),
             Token::Bytes(bytes) => format!("{} in brackets", crate::words::bytes(bytes.len())),
             Token::Equals => "'='".to_string(),
         }
@@ -28,31 +29,43 @@ impl Token {
 /// The most bytes that brackets may hold: no room is larger.
 const MOST_BYTES: usize = 1490;
 
-/// The tokens of a line; what follows a # outside of quotes is a comment.
-pub fn tokens(line: &str, number: usize) -> Result<Vec<Token>, Problem> {
-    let mut scanner = Scanner { rest: line, line: number };
+/// A token, and the column where it begins.
+pub type Placed = (Token, usize);
+
+/// The tokens of a line, and the column behind the last; what follows a # outside of quotes is a comment.
+pub fn tokens(line: &str, number: usize) -> Result<(Vec<Placed>, usize), Problem> {
+    let mut scanner = Scanner { rest: line, line: number, column: 1 };
     let mut found = Vec::new();
     loop {
+        let end = 1 + line[..line.len() - scanner.rest.len()].chars().count();
         scanner.rest = scanner.rest.trim_start();
-        match scanner.rest.chars().next() {
-            None | Some('#') => return Ok(found),
+        scanner.column = 1 + line[..line.len() - scanner.rest.len()].chars().count();
+        let token = match scanner.rest.chars().next() {
+            None | Some('#') => return Ok((found, end)),
             Some('=') => {
                 scanner.skip(1);
-                found.push(Token::Equals);
+                Token::Equals
             }
-            Some('"') => found.push(Token::Text(scanner.text()?)),
-            Some('[') => found.push(Token::Bytes(scanner.bytes()?)),
-            Some(_) => found.push(Token::Word(scanner.word())),
-        }
+            Some('"') => Token::Text(scanner.text()?),
+            Some('[') => Token::Bytes(scanner.bytes()?),
+            Some(_) => Token::Word(scanner.word()),
+        };
+        found.push((token, scanner.column));
     }
 }
 
 struct Scanner<'a> {
     rest: &'a str,
     line: usize,
+    /// Where the token begins that is scanned.
+    column: usize,
 }
 
 impl<'a> Scanner<'a> {
+    fn problem(&self, text: impl Into<String>) -> Problem {
+        Problem::at(self.line, self.column, text)
+    }
+
     fn skip(&mut self, bytes: usize) {
         self.rest = &self.rest[bytes..];
     }
@@ -78,7 +91,7 @@ impl<'a> Scanner<'a> {
                 _ => text.push(c),
             }
         }
-        Err(Problem::at(self.line, "expected a closing \" for the text that begins on this line"))
+        Err(self.problem("expected a closing \" for the text that begins on this line"))
     }
 
     fn escaped(&self, c: Option<char>) -> Result<char, Problem> {
@@ -87,9 +100,7 @@ impl<'a> Scanner<'a> {
             Some('\\') => Ok('\\'),
             Some('n') => Ok('\n'),
             Some('t') => Ok('\t'),
-            _ => {
-                Err(Problem::at(self.line, "expected \\\", \\\\, \\n or \\t after a \\ in a text"))
-            }
+            _ => Err(self.problem("expected \\\", \\\\, \\n or \\t after a \\ in a text")),
         }
     }
 
@@ -98,10 +109,9 @@ impl<'a> Scanner<'a> {
         let end = match self.rest.find(']') {
             Some(end) => end,
             None => {
-                return Err(Problem::at(
-                    self.line,
-                    "expected a closing ] for the bytes that begin on this line",
-                ))
+                return Err(
+                    self.problem("expected a closing ] for the bytes that begin on this line")
+                )
             }
         };
         let inside = self.rest[1..end].replace('*', " * ");
@@ -115,10 +125,9 @@ impl<'a> Scanner<'a> {
                 self.pairs(&mut bytes, word)?;
             }
             if bytes.len() > MOST_BYTES {
-                return Err(Problem::at(
-                    self.line,
-                    format!("expected at most {MOST_BYTES} bytes in brackets"),
-                ));
+                return Err(
+                    self.problem(format!("expected at most {MOST_BYTES} bytes in brackets"))
+                );
             }
         }
         Ok(bytes)
@@ -133,8 +142,7 @@ impl<'a> Scanner<'a> {
                 bytes.resize(bytes.len() - 1 + times, byte);
                 Ok(())
             }
-            _ => Err(Problem::at(
-                self.line,
+            _ => Err(self.problem(
                 "expected a byte before * and a count of 1 to 1490 behind it, as in [00 * 32]",
             )),
         }
@@ -145,10 +153,10 @@ impl<'a> Scanner<'a> {
             Some(more) => bytes.extend(more),
             None => {
                 let found = format!(
-                    "expected pairs of hexadecimal digits in brackets, as in [C4 09], found '{}'",
-                    word.escape_debug()
+                    "expected pairs of hexadecimal digits in brackets, as in [C4 09], found {}",
+                    quoting::word(word)
                 );
-                return Err(Problem::at(self.line, found));
+                return Err(self.problem(found));
             }
         }
         Ok(())
@@ -182,8 +190,11 @@ mod tests {
             Token::Bytes(vec![0xC4, 9, 0, 0, 0]),
             word("ms"),
         ];
-        assert_eq!(tokens(line, 1), Ok(wanted));
-        assert_eq!(tokens("   # nothing", 1), Ok(Vec::new()));
+        let (found, end) = tokens(line, 1).unwrap();
+        assert_eq!(end, 45);
+        assert_eq!(found.iter().map(|found| found.1).collect::<Vec<_>>(), [1, 7, 16, 30, 31, 43]);
+        assert_eq!(found.into_iter().map(|found| found.0).collect::<Vec<_>>(), wanted);
+        assert_eq!(tokens("   # nothing", 1), Ok((Vec::new(), 1)));
     }
 
     #[test]

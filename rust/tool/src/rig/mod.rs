@@ -5,6 +5,7 @@ mod element;
 mod lexer;
 mod literal;
 pub mod numbers;
+mod object;
 mod parser;
 mod problem;
 mod types;
@@ -20,6 +21,9 @@ pub use parser::parse;
 pub use problem::Problem;
 pub use types::{is_unsigned, Kind};
 
+/// The version of the form that is read.
+pub const FORM: u64 = 1;
+
 /// The bounds of document 01.
 pub const MOST_OBJECTS: usize = 1024;
 pub const MOST_VALUES: usize = 6144;
@@ -31,6 +35,8 @@ pub const MOST_ROOM: usize = 1490;
 #[derive(Clone, Debug, Default)]
 pub struct Rig {
     pub objects: BTreeMap<u16, Object>,
+    /// The names of nodes that have one.
+    pub nodes: BTreeMap<u8, String>,
 }
 
 #[derive(Clone, Debug)]
@@ -54,6 +60,8 @@ pub struct Value {
     pub room: usize,
     /// Is the number a time in milliseconds?
     pub milliseconds: bool,
+    /// An element's own name, empty where it has none.
+    pub name: String,
 }
 
 /// What an index and a sub-index name.
@@ -95,6 +103,12 @@ impl Object {
 }
 
 impl Value {
+    /// A value that stands for none.
+    pub fn empty() -> Value {
+        let (of, bytes, name) = (ValueType::Unsigned8, vec![0], String::new());
+        Value { of, bytes, room: 0, milliseconds: false, name }
+    }
+
     /// The number of an Unsigned type's value.
     pub fn unsigned(&self) -> Option<u64> {
         Some(little_endian(&self.bytes)).filter(|_| is_unsigned(self.of))
@@ -118,9 +132,21 @@ impl Rig {
         }
     }
 
-    /// The name of an object, empty where it has none.
-    pub fn name(&self, index: u16) -> &str {
-        self.objects.get(&index).map_or("", |object| object.name.as_str())
+    /// The value at a place, to be changed.
+    pub fn value_mut(&mut self, index: u16, sub_index: u8) -> Option<&mut Value> {
+        let object = self.objects.get_mut(&index)?;
+        let place = object.value_place(sub_index)?;
+        object.values.get_mut(place)
+    }
+
+    /// The name of a place: its element's own, else its object's; empty where it has none.
+    pub fn name(&self, index: u16, sub_index: u8) -> &str {
+        match self.place(index, sub_index) {
+            Place::Value(_, value) if !value.name.is_empty() => &value.name,
+            Place::Value(object, _) | Place::NoSub(object) => &object.name,
+            Place::Count => self.objects.get(&index).map_or("", |object| object.name.as_str()),
+            Place::NoObject => "",
+        }
     }
 
     /// The Unsigned8 at a list's element, as consuming reads a channel's record.
@@ -139,11 +165,6 @@ impl Rig {
             0 => Some(MANAGING_NODE),
             node => Some(node),
         }
-    }
-
-    /// The first channel whose record names the sender.
-    pub fn channel_of(&self, sender: u8) -> Option<u8> {
-        (0..=255).find(|channel| sender != 0 && self.named_sender(*channel) == Some(sender))
     }
 }
 

@@ -35,6 +35,23 @@ pub fn signed(word: &str) -> Option<i128> {
     }
 }
 
+/// A mapping version in its two hexadecimal digits: 1.2.
+pub fn version(word: &str) -> Option<u8> {
+    let (main, sub) = word.split_once('.')?;
+    let digit = |digits: &str| match digits.as_bytes() {
+        [digit] => char::from(*digit).to_digit(16).map(|digit| digit as u8),
+        _ => None,
+    };
+    Some(digit(main)? << 4 | digit(sub)?)
+}
+
+/// A place: 6000h/0, or 6000h, which is the same.
+pub fn place(word: &str) -> Option<(u16, u8)> {
+    let (first, sub_index) = word.split_once('/').unwrap_or((word, "0"));
+    let sub_index = unsigned(sub_index).and_then(|number| u8::try_from(number).ok());
+    index(first).zip(sub_index)
+}
+
 /// An index: hexadecimal, and marked so.
 pub fn index(word: &str) -> Option<u16> {
     hex_digits(word).and_then(|hex| u16::from_str_radix(hex, 16).ok())

@@ -1,143 +1,252 @@
-//! A rig file's lines as objects.
+//! A rig file's lines as objects. A line that is wrong is told, and the others are read on.
 
 use super::cursor::Cursor;
-use super::element::{default_value, Parts};
-use super::lexer::{self, Token};
+use super::lexer::Token;
 use super::numbers;
+use super::object;
 use super::problem::Problem;
-use super::types::{access_of_name, Kind};
-use super::{Object, Rig, Value};
-use super::{MOST_BYTES, MOST_ELEMENTS, MOST_NAME, MOST_OBJECTS, MOST_VALUES};
-use crate::words;
-use loomfinch::AccessType;
+use super::types::Kind;
+use super::{Object, Rig, Value, FORM, MANAGING_NODE};
+use super::{MOST_BYTES, MOST_ELEMENTS, MOST_OBJECTS, MOST_VALUES};
 
-/// The rig that the bytes of a file describe.
-pub fn parse(file: &[u8]) -> Result<Rig, Problem> {
-    let text = text_of(file)?;
+/// The rig that the bytes of a file describe, or all that is wrong with it, line by line.
+pub fn parse(file: &[u8]) -> Result<Rig, Vec<Problem>> {
+    let text = text_of(file).map_err(|problem| vec![problem])?;
     let mut reader = Reader::default();
     for (k, line) in text.lines().enumerate() {
-        let number = k + 1;
-        let mut cursor = Cursor::new(lexer::tokens(line, number)?, number);
-        if cursor.peek().is_some() {
-            reader.line(&mut cursor)?;
-        }
+        let read = Cursor::new(line, k + 1).and_then(|mut cursor| reader.line(&mut cursor));
+        reader.problems.extend(read.err());
     }
-    reader.finish_object()?;
-    if reader.rig.objects.is_empty() {
-        return Err(Problem::of_file(
-            "expected at least one object, as in 6000h Variable Unsigned16; found none",
-        ));
+    reader.finish_object();
+    if reader.rig.objects.is_empty() && reader.problems.is_empty() {
+        let text = "expected at least one object, as in 6000h Variable Unsigned16; found none";
+        reader.problems.push(Problem::of_file(text));
     }
-    Ok(reader.rig)
+    if reader.problems.is_empty() {
+        return Ok(reader.rig);
+    }
+    reader.problems.sort_by_key(|problem| (problem.line, problem.column));
+    Err(reader.problems)
 }
 
 fn text_of(file: &[u8]) -> Result<&str, Problem> {
-    match std::str::from_utf8(file) {
-        Ok(text) => Ok(text.strip_prefix('\u{FEFF}').unwrap_or(text)),
-        Err(error) => {
-            let line =
-                1 + file[..error.valid_up_to()].iter().filter(|byte| **byte == b'\n').count();
-            Err(Problem::at(line, "expected text in UTF-8, found a byte that is none"))
-        }
-    }
+    std::str::from_utf8(file).map(|text| text.strip_prefix('\u{FEFF}').unwrap_or(text)).map_err(
+        |error| {
+            let before = String::from_utf8_lossy(&file[..error.valid_up_to()]);
+            let line = 1 + before.matches('\n').count();
+            let column = 1 + before.rsplit('\n').next().map_or(0, |last| last.chars().count());
+            Problem::at(line, column, "expected text in UTF-8, found a byte that is none")
+        },
+    )
 }
 
 #[derive(Default)]
 struct Reader {
     rig: Rig,
-    /// The object whose elements may follow.
-    open: Option<(u16, Object)>,
+    open: Open,
     values: usize,
     bytes: usize,
+    /// Was a line that is not empty read?
+    begun: bool,
+    problems: Vec<Problem>,
+}
+
+/// The object whose elements may follow.
+#[derive(Default)]
+enum Open {
+    #[default]
+    Nothing,
+    Object(u16, Object),
+    /// Its own line was wrong: its elements are read, and kept nowhere.
+    Broken,
 }
 
 impl Reader {
     fn line(&mut self, cursor: &mut Cursor) -> Result<(), Problem> {
-        let first = cursor.next();
-        if let Some(Token::Word(word)) = &first {
-            if let Some(index) = numbers::index(word) {
-                return self.object(cursor, index);
+        let first = match cursor.next() {
+            Some(first) => first,
+            None => return Ok(()),
+        };
+        let is_first = !std::mem::replace(&mut self.begun, true);
+        if let Token::Word(word) = &first {
+            match word.as_str() {
+                "rig" => return form(cursor, is_first),
+                "node" => return self.node(cursor),
+                _ => (),
             }
-            if cursor.word_ahead(0).and_then(Kind::of_name).is_some() {
-                return Err(
-                    cursor.expected("an index marked as hexadecimal, as in 6000h", first.as_ref())
-                );
+            let kind = cursor.word_ahead(0).and_then(Kind::of_name);
+            match numbers::index(word) {
+                Some(number) if kind.is_none() && self.has_elements() && number <= 0xFF => {
+                    let wanted = format!(
+                        "an element's number in decimal, as in {number}, or an object's kind behind its index"
+                    );
+                    return Err(cursor.expected(&wanted, Some(&first)));
+                }
+                Some(index) => return self.object(cursor, index),
+                None if kind.is_some() => {
+                    let wanted = "an index marked as hexadecimal, as in 6000h";
+                    self.begin(Open::Broken);
+                    return Err(cursor.expected(wanted, Some(&first)));
+                }
+                None => (),
             }
             if let Some((from, to)) = element_numbers(word) {
                 return self.element(cursor, from, to);
             }
         }
-        Err(cursor
-            .expected("an index, as in 6000h, or an element's number, as in 1", first.as_ref()))
+        let wanted = "an index, as in 6000h, an element's number, as in 1, or 'node'";
+        Err(cursor.expected(wanted, Some(&first)))
+    }
+
+    /// `node 5 "Drehbühne"`, behind its first word.
+    fn node(&mut self, cursor: &mut Cursor) -> Result<(), Problem> {
+        self.begin(Open::Nothing);
+        let token = cursor.next();
+        let number = match &token {
+            Some(Token::Word(word)) => numbers::unsigned(word),
+            _ => None,
+        };
+        let node = number.and_then(|number| u8::try_from(number).ok());
+        let node = node.filter(|node| (1..=MANAGING_NODE).contains(node)).ok_or_else(|| {
+            cursor.expected("a node from 1 to 240, as in node 5 \"Revolve\"", token.as_ref())
+        })?;
+        if self.rig.nodes.contains_key(&node) {
+            return Err(
+                cursor.problem(format!("expected one name for each node, found node {node} again"))
+            );
+        }
+        let name = match cursor.next() {
+            Some(Token::Text(text)) => object::named(text, cursor)?,
+            other => {
+                return Err(cursor.expected("the node's name in double quotes", other.as_ref()))
+            }
+        };
+        self.rig.nodes.insert(node, name);
+        match cursor.next() {
+            None => Ok(()),
+            other => Err(cursor.expected("the end of the line", other.as_ref())),
+        }
+    }
+
+    /// Is the object above one that has elements?
+    fn has_elements(&self) -> bool {
+        match &self.open {
+            Open::Object(_, object) => object.is_list(),
+            Open::Broken => true,
+            Open::Nothing => false,
+        }
     }
 
     fn object(&mut self, cursor: &mut Cursor, index: u16) -> Result<(), Problem> {
-        self.finish_object()?;
-        if let Some(earlier) = self.rig.objects.get(&index) {
+        self.begin(Open::Broken);
+        let earlier = self.rig.objects.get(&index).map(|object| object.line);
+        let again = earlier.map(|line| {
             let text = format!(
-                "expected each index once, found {:04X}h again (first on line {})",
-                index, earlier.line
+                "expected each index once, found {index:04X}h again (first on line {line})"
             );
-            return Err(Problem::at(cursor.line, text));
+            cursor.problem(text)
+        });
+        self.problems.extend(again);
+        let object = object::object(cursor)?;
+        if earlier.is_none() {
+            self.open = Open::Object(index, object);
         }
-        self.open = Some((index, object(cursor)?));
         Ok(())
     }
 
     fn element(&mut self, cursor: &mut Cursor, from: usize, to: usize) -> Result<(), Problem> {
-        let object = match &mut self.open {
-            Some((_, object)) if object.is_list() => object,
-            Some(_) => {
-                return Err(Problem::at(
-                    cursor.line,
-                    "expected a new object: a Variable has no elements",
-                ))
-            }
-            None => {
-                return Err(Problem::at(
-                    cursor.line,
-                    "expected an object, as in 1600h Array, before its elements",
-                ))
-            }
+        let misplaced = match &self.open {
+            Open::Object(_, object) if object.is_list() => None,
+            Open::Object(..) => Some("expected a new object: a Variable has no elements"),
+            Open::Nothing => Some("expected an object, as in 1600h Array, before its elements"),
+            Open::Broken => return object::element(cursor).map(|_| ()),
         };
-        let next = object.values.len() + 1;
-        if from != next {
-            return Err(Problem::at(cursor.line, format!("expected element {next}, found {from}")));
+        if let Some(text) = misplaced {
+            self.begin(Open::Broken);
+            return Err(cursor.problem(text));
         }
-        if to < from || to > MOST_ELEMENTS {
-            let text = format!(
-                "expected elements up to {MOST_ELEMENTS} at most, rising, found {from}..{to}"
-            );
-            return Err(Problem::at(cursor.line, text));
+        let count = match &self.open {
+            Open::Object(_, object) => object.values.len(),
+            _ => 0,
+        };
+        let misnumbered = misnumbered(count + 1, from, to).map(|text| cursor.problem(text));
+        let rising = from <= to && to <= MOST_ELEMENTS;
+        self.problems.extend(misnumbered);
+        let value = object::element(cursor);
+        if let Open::Object(_, object) = &mut self.open {
+            // What stands in for an element that is wrong is never used: the file is refused.
+            let stand_in = || Value::empty();
+            let last = if rising { to } else { count + 1 };
+            object.values.resize(last, value.as_ref().map_or_else(|_| stand_in(), Value::clone));
         }
-        let value = element(cursor)?;
-        object.values.resize(to, value);
-        Ok(())
+        value.map(|_| ())
     }
 
-    fn finish_object(&mut self) -> Result<(), Problem> {
-        let (index, object) = match self.open.take() {
-            Some(open) => open,
-            None => return Ok(()),
+    /// Closes the object above, and begins what follows.
+    fn begin(&mut self, next: Open) {
+        self.finish_object();
+        self.open = next;
+    }
+
+    fn finish_object(&mut self) {
+        let (index, object) = match std::mem::take(&mut self.open) {
+            Open::Object(index, object) => (index, object),
+            Open::Nothing | Open::Broken => return,
         };
         let line = object.line;
+        let before = [self.rig.objects.len(), self.values, self.bytes];
         self.values += object.value_count();
         self.bytes += object.weight();
         self.rig.objects.insert(index, object);
-        for (what, count, most) in [
-            ("objects", self.rig.objects.len(), MOST_OBJECTS),
-            ("values and defaults", self.values, MOST_VALUES),
-            ("bytes of names, rooms and defaults", self.bytes, MOST_BYTES),
-        ] {
-            if count > most {
+        let after = [self.rig.objects.len(), self.values, self.bytes];
+        let bounds = [
+            ("objects", MOST_OBJECTS),
+            ("values and defaults", MOST_VALUES),
+            ("bytes of names, rooms and defaults", MOST_BYTES),
+        ];
+        for ((what, most), (before, count)) in bounds.into_iter().zip(before.into_iter().zip(after))
+        {
+            if before <= most && count > most {
                 let text = format!(
                     "expected at most {most} {what} in a rig, found {count} with this object"
                 );
-                return Err(Problem::at(line, text));
+                self.problems.push(Problem::of_line(line, text));
             }
         }
-        Ok(())
     }
+}
+
+/// `rig 1`, behind its first word.
+fn form(cursor: &mut Cursor, is_first: bool) -> Result<(), Problem> {
+    if !is_first {
+        return Err(cursor.problem("expected 'rig' and the form's version on the first line only"));
+    }
+    let token = cursor.next();
+    let version = match &token {
+        Some(Token::Word(word)) => numbers::unsigned(word),
+        _ => None,
+    };
+    match (version, cursor.peek()) {
+        (Some(FORM), None) => Ok(()),
+        (Some(FORM), Some(_)) => Err(cursor.expected_next("the end of the line")),
+        (Some(other), _) => Err(cursor.problem(format!(
+            "expected version {FORM} of the rig form, found {other}: a newer loomfinch may read it"
+        ))),
+        (None, _) => {
+            Err(cursor.expected("the version of the rig form, as in rig 1", token.as_ref()))
+        }
+    }
+}
+
+/// What is wrong with an element's numbers where `next` is to come.
+fn misnumbered(next: usize, from: usize, to: usize) -> Option<String> {
+    if from != next {
+        return Some(format!("expected element {next}, found {from}"));
+    }
+    let wrong = to < from || to > MOST_ELEMENTS;
+    wrong.then(|| {
+        format!("expected elements up to {MOST_ELEMENTS} at most, rising, found {from}..{to}")
+    })
 }
 
 /// `3` or `1..3`.
@@ -148,80 +257,4 @@ fn element_numbers(word: &str) -> Option<(usize, usize)> {
         Some((from, to)) => number(from).zip(number(to)),
         None => number(word).map(|k| (k, k)),
     }
-}
-
-/// An object's line behind its index.
-fn object(cursor: &mut Cursor) -> Result<Object, Problem> {
-    let line = cursor.line;
-    let token = cursor.next();
-    let kind = match &token {
-        Some(Token::Word(word)) => Kind::of_name(word),
-        _ => None,
-    };
-    let kind = kind.ok_or_else(|| cursor.expected("Variable, Array or Record", token.as_ref()))?;
-    let mut name: Option<String> = None;
-    let mut access: Option<AccessType> = None;
-    let mut default: Option<Value> = None;
-    let mut parts = Parts::default();
-    while let Some(token) = cursor.peek().cloned() {
-        if let Token::Text(text) = token {
-            cursor.next();
-            set(&mut name, named(text, line)?, line, "name")?;
-        } else if let Some(found) = cursor.word_ahead(0).and_then(access_of_name) {
-            cursor.next();
-            set(&mut access, found, line, "access")?;
-        } else if cursor.skip_word("default") {
-            set(&mut default, default_value(cursor, parts.value_type())?, line, "default")?;
-        } else if !parts.take(cursor)? {
-            return Err(cursor.expected(object_parts(kind), Some(&token)));
-        } else if kind != Kind::Variable {
-            let text = format!(
-                "expected elements on their own lines, as in 1 Unsigned16: {} has no value itself",
-                words::kind_with_article(kind)
-            );
-            return Err(Problem::at(line, text));
-        }
-    }
-    let values = if kind == Kind::Variable { vec![parts.finish(line)?] } else { Vec::new() };
-    let name = name.unwrap_or_default();
-    Ok(Object { kind, access, name, values, default, line })
-}
-
-fn object_parts(kind: Kind) -> &'static str {
-    match kind {
-        Kind::Variable => "a type, a \"name\", an access, '=', 'room', 'ms' or 'default'",
-        Kind::Array | Kind::Record => "a \"name\", an access or 'default'",
-    }
-}
-
-fn set<T>(place: &mut Option<T>, found: T, line: usize, part: &str) -> Result<(), Problem> {
-    match place.replace(found) {
-        None => Ok(()),
-        Some(_) => Err(Problem::at(line, format!("expected one {part}, found a second"))),
-    }
-}
-
-fn named(name: String, line: usize) -> Result<String, Problem> {
-    if name.len() > MOST_NAME {
-        let text = format!("expected a name of at most {} bytes, found {}", MOST_NAME, name.len());
-        return Err(Problem::at(line, text));
-    }
-    Ok(name)
-}
-
-/// An element's line behind its number.
-fn element(cursor: &mut Cursor) -> Result<Value, Problem> {
-    let mut parts = Parts::default();
-    parts.take_mapping(cursor)?;
-    while let Some(token) = cursor.peek().cloned() {
-        if !parts.take(cursor)? {
-            let wanted = if parts.is_empty() {
-                "a type, as in Unsigned16, or a mapping, as in 6000h/0 at 0 length 2"
-            } else {
-                "a type, '=', 'room', 'ms' or the end of the line"
-            };
-            return Err(cursor.expected(wanted, Some(&token)));
-        }
-    }
-    parts.finish(cursor.line)
 }

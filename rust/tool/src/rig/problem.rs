@@ -1,26 +1,30 @@
-//! What is wrong with a rig file, and on which line.
+//! What is wrong with a rig file, and where.
 
 #[derive(Clone, Debug, PartialEq, Eq)]
 pub struct Problem {
     /// The line, from 1; none where the file as a whole is meant.
     pub line: Option<usize>,
+    /// The column, from 1, counted in characters; none where the line as a whole is meant.
+    pub column: Option<usize>,
     pub text: String,
 }
 
 impl Problem {
-    pub fn at(line: usize, text: impl Into<String>) -> Problem {
-        Problem { line: Some(line), text: text.into() }
+    pub fn at(line: usize, column: usize, text: impl Into<String>) -> Problem {
+        Problem { line: Some(line), column: Some(column), text: text.into() }
+    }
+
+    pub fn of_line(line: usize, text: impl Into<String>) -> Problem {
+        Problem { line: Some(line), column: None, text: text.into() }
     }
 
     pub fn of_file(text: impl Into<String>) -> Problem {
-        Problem { line: None, text: text.into() }
+        Problem { line: None, column: None, text: text.into() }
     }
 
-    /// As a compiler writes it: file, line, what is wrong.
+    /// As a compiler writes it: file, line, column, what is wrong.
     pub fn shown(&self, file: &str) -> String {
-        match self.line {
-            Some(line) => format!("{}:{}: {}", file, line, self.text),
-            None => format!("{}: {}", file, self.text),
-        }
+        let number = |number: Option<usize>| number.map_or(String::new(), |n| format!(":{n}"));
+        format!("{}{}{}: {}", file, number(self.line), number(self.column), self.text)
     }
 }

@@ -4,7 +4,7 @@ use super::*;
 
 fn value_of(line: &str) -> Value {
     let rig = parse(format!("6000h Variable {line}").as_bytes())
-        .unwrap_or_else(|p| panic!("{}: {}", line, p.text));
+        .unwrap_or_else(|problems| panic!("{}: {}", line, problems[0].text));
     rig.objects[&0x6000].values[0].clone()
 }
 
@@ -32,7 +32,7 @@ fn the_set_up_of_the_cases() {
     );
     assert_eq!(rig.objects[&0x6200].values.len(), 3);
     assert_eq!(rig.objects[&0x1C81].values[0].room, 32);
-    assert_eq!((rig.channel_of(5), rig.channel_of(6), rig.channel_of(0)), (Some(0), None, None));
+    assert_eq!((rig.named_sender(0), rig.named_sender(1)), (Some(5), None));
 }
 
 #[test]
@@ -85,15 +85,18 @@ fn error_of(line: &str) -> Problem {
     let text = format!("# a rig\n1600h Array\n{line}\n");
     match parse(text.as_bytes()) {
         Ok(_) => panic!("{line} was taken"),
-        Err(problem) => problem,
+        Err(problems) => {
+            assert_eq!(problems.len(), 1, "{line}: {problems:?}");
+            problems[0].clone()
+        }
     }
 }
 
 #[test]
 fn errors_name_the_line_and_what_was_expected() {
     for (line, wanted) in [
-        ("Variable", "expected an index, as in 6000h, or an element's number, as in 1, found 'Variable'"),
-        ("\"6000h\"", "expected an index, as in 6000h, or an element's number, as in 1, found the text \"6000h\""),
+        ("Variable", "expected an index, as in 6000h, an element's number, as in 1, or 'node', found 'Variable'"),
+        ("\"6000h\"", "expected an index, as in 6000h, an element's number, as in 1, or 'node', found the text \"6000h\""),
         ("6000h", "expected Variable, Array or Record, found the end of the line"),
         ("6000h Varible", "expected Variable, Array or Record, found 'Varible'"),
         ("6000h Variable", "expected a type, such as Unsigned16"),
@@ -142,11 +145,87 @@ fn errors_name_the_line_and_what_was_expected() {
         ("6001 Variable U16", "expected an index marked as hexadecimal, as in 6000h, found '6001'"),
         ("6000h Variable Boolean = yes", "expected true, false or a number from 0 to 255 for a Boolean, found 'yes'"),
         ("6000h Variable U8 = 1 [", "expected a closing ]"),
+        ("1h 6000h/0 at 0 length 2", "expected an element's number in decimal, as in 1, or an object's kind behind its index, found '1h'"),
+        ("0Ah 6000h/0 at 0 length 2", "expected an element's number in decimal, as in 10, or an object's kind"),
     ] {
         let problem = error_of(line);
         assert_eq!(problem.line, Some(3), "{}: {}", line, problem.text);
         assert!(problem.text.starts_with(wanted), "{}: {}", line, problem.text);
     }
+}
+
+#[test]
+fn names_of_elements_and_nodes() {
+    let text = "rig 1\nnode 5 \"Drehbühne\"\n6200h Array \"Move times\"\n1 U32 ms\n2 U32 \"Revolve move\" ms\n\
+                1600h Array\n1 6200h/2 at 0 length 4 \"Move\"\nnode 240 \"Pult\"\n";
+    let rig = parse(text.as_bytes()).unwrap();
+    assert_eq!((rig.nodes[&5].as_str(), rig.nodes[&240].as_str()), ("Drehbühne", "Pult"));
+    let names = [(0, "Move times"), (1, "Move times"), (2, "Revolve move"), (3, "Move times")];
+    for (sub_index, name) in names {
+        assert_eq!(rig.name(0x6200, sub_index), name);
+    }
+    assert!(rig.objects[&0x6200].values[1].milliseconds);
+    assert_eq!(rig.name(0x1600, 1), "Move");
+    for (text, wanted) in [
+        ("rig 2\n6000h Variable U8", "expected version 1 of the rig form, found 2"),
+        ("rig\n6000h Variable U8", "expected the version of the rig form, as in rig 1"),
+        (
+            "6000h Variable U8\nrig 1",
+            "expected 'rig' and the form's version on the first line only",
+        ),
+        ("node 5 \"a\"\nnode 5 \"b\"", "expected one name for each node, found node 5 again"),
+        ("node 0 \"a\"", "expected a node from 1 to 240"),
+        ("node 5", "expected the node's name in double quotes, found the end of the line"),
+        ("node 5 \"a\" 6", "expected the end of the line, found '6'"),
+        ("6000h Array\n1 U8 \"a\" \"b\"", "expected one name, found a second"),
+    ] {
+        let problem = &parse(text.as_bytes()).unwrap_err()[0];
+        assert!(problem.text.starts_with(wanted), "{}: {}", text, problem.text);
+    }
+}
+
+#[test]
+fn errors_name_the_column() {
+    for (line, column) in [
+        ("Variable", 1),
+        ("  6000h  Varible", 10),
+        ("6000h Variable", 1),
+        ("6000h Variable \"é\" rww", 20),
+        ("6000h Variable U16 = 65536", 22),
+        ("6000h Variable U16 =   # none", 21),
+        ("6000h Variable NetTime = 5 ns 1 s", 26),
+        ("6000h Variable U16 ms ms", 23),
+        ("6000h Variable VisibleString = \"a\\q\"", 32),
+        ("1 6000h/0 at 9000 bytes length 2", 14),
+        ("1 6000h/0 at 0 length two bytes", 23),
+        ("1 6000h/0 at 0", 15),
+        ("2 Unsigned16", 1),
+    ] {
+        let problem = error_of(line);
+        assert_eq!(problem.column, Some(column), "{}: {}", line, problem.text);
+    }
+}
+
+#[test]
+fn all_errors_of_a_file_are_told() {
+    let text = "1600h Array\n1 6000h/0 at 0\n2 6000h/0 at 0 length 2\n4 6000h at 2 length x\n5 U8\n6000h Varible\n1 U8\n2 U9\n\
+                6001h Variable U8\n1 U8\n2 U8\n6002 Variable U8\n6001h Variable U8\n";
+    let problems = parse(text.as_bytes()).unwrap_err();
+    let found: Vec<(usize, &str)> = problems
+        .iter()
+        .map(|problem| (problem.line.unwrap(), problem.text.split(',').next().unwrap()))
+        .collect();
+    let wanted = [
+        (2, "expected 'length' and the field's length in bytes"),
+        (4, "expected element 3"),
+        (4, "expected the field's length as a number of bytes up to 8191"),
+        (6, "expected Variable"),
+        (8, "expected a type"),
+        (10, "expected a new object: a Variable has no elements"),
+        (12, "expected an index marked as hexadecimal"),
+        (13, "expected each index once"),
+    ];
+    assert_eq!(found, wanted);
 }
 
 #[test]
@@ -164,12 +243,12 @@ fn texts_that_no_room_holds() {
 
 #[test]
 fn elements_need_a_list() {
-    let first = parse(b"1 Unsigned16").unwrap_err();
+    let first = parse(b"1 Unsigned16").unwrap_err().remove(0);
     assert_eq!(
         (first.line, first.text.as_str()),
         (Some(1), "expected an object, as in 1600h Array, before its elements")
     );
-    let variable = parse(b"6000h Variable U8\n1 U8").unwrap_err();
+    let variable = parse(b"6000h Variable U8\n1 U8").unwrap_err().remove(0);
     assert_eq!(
         (variable.line, variable.text.as_str()),
         (Some(2), "expected a new object: a Variable has no elements")
@@ -179,12 +258,12 @@ fn elements_need_a_list() {
 #[test]
 fn files_that_are_empty_or_no_text() {
     for text in ["", "\n\n# nothing\n", "\u{FEFF}"] {
-        assert_eq!(parse(text.as_bytes()).unwrap_err().line, None);
+        assert_eq!(parse(text.as_bytes()).unwrap_err()[0].line, None);
     }
-    let problem = parse(b"# one\n# two \xFF\n").unwrap_err();
+    let problem = parse(b"# one\n# two \xFF\n").unwrap_err().remove(0);
     assert_eq!(
         (problem.line, problem.shown("x.rig").as_str()),
-        (Some(2), "x.rig:2: expected text in UTF-8, found a byte that is none")
+        (Some(2), "x.rig:2:7: expected text in UTF-8, found a byte that is none")
     );
 }
 
@@ -197,11 +276,15 @@ fn line_ends_and_marks_of_other_systems() {
 #[test]
 fn the_bounds_of_a_rig() {
     let objects: String = (0..=1024).map(|k| format!("{k:04X}h Variable U8\n")).collect();
-    let problem = parse(objects.as_bytes()).unwrap_err();
+    let problem = parse(objects.as_bytes()).unwrap_err().remove(0);
     assert_eq!(problem.line, Some(1025));
     assert!(problem.text.starts_with("expected at most 1024 objects"), "{}", problem.text);
     let lists: String = (0..25).map(|k| format!("{k:04X}h Array\n1..254 U8\n")).collect();
-    assert!(parse(lists.as_bytes()).unwrap_err().text.starts_with("expected at most 6144 values"));
+    assert!(parse(lists.as_bytes()).unwrap_err()[0]
+        .text
+        .starts_with("expected at most 6144 values"));
     let rooms: String = (0..22).map(|k| format!("{k:04X}h Variable Domain room 1490\n")).collect();
-    assert!(parse(rooms.as_bytes()).unwrap_err().text.starts_with("expected at most 32768 bytes"));
+    assert!(parse(rooms.as_bytes()).unwrap_err()[0]
+        .text
+        .starts_with("expected at most 32768 bytes"));
 }

@@ -37,13 +37,18 @@ fn poll(start: [u8; 3], version: u8, payload: &[u8]) -> Vec<u8> {
     frame
 }
 
-/// A classic capture, a frame each second and so many units.
+/// A classic capture of an Ethernet, a frame each second and so many units.
 pub fn pcap(big: bool, nanoseconds: bool, frames: &[Vec<u8>]) -> Vec<u8> {
+    pcap_of(1, big, nanoseconds, frames)
+}
+
+/// A classic capture of a link type.
+pub fn pcap_of(link: u32, big: bool, nanoseconds: bool, frames: &[Vec<u8>]) -> Vec<u8> {
     let magic = if nanoseconds { 0xA1B2_3C4D } else { 0xA1B2_C3D4 };
     let mut file = four(big, magic).to_vec();
     file.extend(two(big, 2));
     file.extend(two(big, 4));
-    for number in [0, 0, 65_535, 1] {
+    for number in [0, 0, 65_535, link] {
         file.extend(four(big, number));
     }
     for (second, frame) in (0..).zip(frames) {

@@ -1,0 +1,96 @@
+//! The headers for C held against the crate: names, numbers and versions.
+
+use loomfinch::{AccessType, Checked, Fault, Refusal, ValueType};
+
+fn file(name: &str) -> String {
+    let path = format!("{}/../../include/{name}", env!("CARGO_MANIFEST_DIR"));
+    std::fs::read_to_string(path).unwrap()
+}
+
+/// `UnicodeString` as a header writes it: `UNICODE_STRING`.
+fn constant(name: &str) -> String {
+    let mut constant = String::new();
+    for c in name.chars() {
+        if c.is_ascii_uppercase() && !constant.is_empty() {
+            constant.push('_');
+        }
+        constant.push(c.to_ascii_uppercase());
+    }
+    constant
+}
+
+#[test]
+fn constants_have_the_crate_s_numbers() {
+    let header = file("loomfinch.h");
+    let has = |name: &str, number: u8| {
+        let wanted = format!("LOOMFINCH_{name} = {number}");
+        let ends =
+            |at: usize| !header[at + wanted.len()..].starts_with(|c: char| c.is_ascii_digit());
+        assert!(header.match_indices(&wanted).any(|(at, _)| ends(at)), "{wanted}");
+    };
+    for number in 0..=20 {
+        has(&constant(ValueType::from_number(number).unwrap().name()), number);
+    }
+    for number in 1..=18 {
+        has(&constant(Refusal::from_number(number).unwrap().name()), number);
+    }
+    for number in 33..=38 {
+        has(&constant(Fault::from_number(number).unwrap().name()), number);
+    }
+    for (checked, number) in [(Checked::NoSender, 31), (Checked::NoList, 32), (Checked::TooFar, 39)]
+    {
+        has(&constant(checked.name()), number);
+    }
+    let access = [
+        AccessType::ReadOnly,
+        AccessType::WriteOnly,
+        AccessType::WriteOnlyStore,
+        AccessType::ReadWrite,
+        AccessType::ReadWriteStore,
+        AccessType::Constant,
+        AccessType::Conditional,
+    ];
+    for (access, number) in access.into_iter().zip(0..) {
+        has(&format!("ACCESS_{}", constant(&format!("{access:?}"))), number);
+    }
+}
+
+#[test]
+fn every_answer_has_its_name() {
+    let header = file("loomfinch.h");
+    let names = header.split("loomfinch_answer_name").nth(1).unwrap();
+    let names: Vec<&str> = names.split('"').skip(1).step_by(2).collect();
+    let refusals = (1..=18).map(|number| Refusal::from_number(number).unwrap().name());
+    let faults = (33..=38).map(|number| Fault::from_number(number).unwrap().name());
+    let mut wanted = vec!["Done"];
+    wanted.extend(refusals);
+    wanted.extend(["RestoreRequested", "NoSender", "NoList"]);
+    wanted.extend(faults);
+    wanted.extend(["TooFar", "?"]);
+    assert_eq!(names[..wanted.len()], wanted);
+}
+
+#[test]
+fn there_is_one_version() {
+    let version = env!("CARGO_PKG_VERSION");
+    let header = file("loomfinch.h");
+    assert!(header.contains(&format!("#define LOOMFINCH_VERSION \"{version}\"\n")));
+    let parts = ["MAJOR", "MINOR", "PATCH"].into_iter().zip(version.split('.'));
+    for (part, number) in parts {
+        assert!(header.contains(&format!("#define LOOMFINCH_VERSION_{part} {number}\n")), "{part}");
+    }
+    assert!(file("loomfinch.pc").contains(&format!("\nVersion: {version}\n")));
+}
+
+#[test]
+fn every_call_over_the_lent_slices_has_one_over_the_struct() {
+    let (header, over) = (file("loomfinch.h"), file("loomfinch_dictionary.h"));
+    let calls = header.lines().filter_map(|line| line.strip_prefix("uint64_t loomfinch_"));
+    let mut found = 0;
+    for name in calls.map(|rest| rest.split('(').next().unwrap()) {
+        let plain = ["decode", "encode", "from_u64", "to_u64"].contains(&name);
+        found += usize::from(!plain);
+        assert!(plain || over.contains(&format!(" loomfinch_dictionary_{name}(")), "{name}");
+    }
+    assert_eq!(found, 19);
+}
