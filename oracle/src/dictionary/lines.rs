@@ -1,5 +1,5 @@
 //! Calls and the answers that they must give, as the lines that
-//! crates/cases/src/history.rt reads; its first comment is their format.
+//! crates/tables/src/history.rt reads; its first comment is their format.
 
 use super::checked::{NO_SENDER, TOO_FAR};
 use super::explained;
@@ -11,14 +11,14 @@ use super::tally::Tally;
 use super::world::World;
 use crate::hex::hex;
 
-/// What history.rt lends whole: room for 8 objects, 300 values and 1,200 bytes.
+/// What crates/memory lends whole: room for 8 objects, 300 values and 1,200 bytes.
 pub const LENT: [usize; 4] = [108, 900, 300, 1200];
 
 /// Bytes of the store beside it.
 pub const STORE_BYTES: usize = 1000;
 
-/// The longest file that is stored. The program that replays it reads 65,536 bytes at most.
-const LONGEST: usize = 60_000;
+/// The longest table that is stored. It lies in two files of at most 48 KB each.
+const LONGEST: usize = 96_000;
 
 /// The most bytes of a name, of encodings or of a payload, and the most numbers or events, that are
 /// taken from a line.
@@ -243,7 +243,7 @@ fn found(call: &Call, outcome: &Outcome, memory: &Memory) -> String {
     }
 }
 
-/// The sum of crates/cases/src/memory.rt, where bytes of the store that are not lent lie behind it.
+/// The sum of crates/tables/src/cells.rt, where bytes of the store that are not lent lie behind it.
 fn sum(memory: &Memory, behind: &[u8]) -> u64 {
     const HALF: u64 = 1 << 32;
     let words = memory.objects.iter().chain(&memory.slots).chain(&memory.words).copied();
