@@ -1,4 +1,3 @@
 pub mod Utf8
 pub mod Machine
 pub mod Tables
-pub mod Agree

@@ -1,5 +1,5 @@
 -- The answer, found in one pass from left to right. The state is what the character begun still asks for: the ranges of its further bytes,
--- and `[]` between two characters. `Agree.antt` proves that the answer means what `Utf8.antt` says.
+-- and `[]` between two characters. `means` in proofs/Agree.antt proves that the answer means what `Utf8.antt` says.
 -- Assumes nothing.
 use Prim.Native.Nat.{ℕ, _+_, _≤_}
 use mathlib.Core.Path.{_≡_}

@@ -1,3 +1,4 @@
 pub mod Meaning
+pub mod Standard
 pub mod Codec
 pub mod Range

@@ -27,7 +27,7 @@ abbrev pub twos : ℕ → ℤ → ℕ
 twos half (pos k) = k
 twos half (negsuc k) = half + half - suc k
 
--- TIME_OF_DAY and TIME_DIFFERENCE: 28 bits of milliseconds and 4 reserved bits, which are kept; then 16 bits of days
+-- TIME_OF_DAY and TIME_DIFFERENCE: 28 bits of milliseconds and 4 reserved bits, which are kept as part of ms (Standard.antt); then 16 bits of days
 abbrev pub timeOfDay : ℕ → Day
 timeOfDay x = record { ms = unsigned 32 x; days = bits 32 16 x }
 
