@@ -3,8 +3,7 @@
 
 use super::image::Record;
 use super::model::*;
-use super::objects;
-use super::written::rising;
+use super::objects::{self, rising};
 use crate::original::{KINDS, UNICODE_STRING, size};
 use crate::random::Random;
 

@@ -3,7 +3,7 @@
 
 use super::model::{Object, VARIABLE, Value, element};
 use super::running::{Word, channel_of, list_u8, row};
-use super::world::{Dictionary, Done, Refused};
+use super::sound::{Dictionary, Done, Refused};
 use crate::original::{BUFFER_TOO_SHORT, UNICODE_STRING, size};
 
 /// Numbers of the faults (R12.12).

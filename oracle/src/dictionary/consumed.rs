@@ -8,7 +8,7 @@ use super::image;
 use super::insertion::Insertion;
 use super::memory::Lent;
 use super::model::*;
-use super::objects;
+use super::objects::{self, rising};
 use super::payloads::{self, Arrival};
 use super::restores;
 use super::spoil::spoil;
@@ -16,7 +16,6 @@ use super::step::{Call, Cycle, History, Step};
 use super::tally::{Goal, Tally};
 use super::trial::Trial;
 use super::writes;
-use super::written::rising;
 use crate::random::Random;
 
 const UNSIGNED8: u64 = 5;

@@ -4,8 +4,8 @@
 
 use super::memory::Memory;
 use super::running::{MAP_VERSION, Payload, Run, Told, Word, set_bit};
+use super::sound::{Dictionary, Done, Refused};
 use super::step::{Cycle, Received};
-use super::world::{Dictionary, Done, Refused};
 use crate::original::BAD_VALUE;
 
 const PAYLOAD_TOO_LONG: u64 = 14;

@@ -1,11 +1,11 @@
 //! Stored histories of memory that is changed without a call.
 
+use super::cells::{Cell, cells, other};
 use super::lines::{LENT, Lines};
 use super::malformed;
-use super::malice::{Cell, cells, other};
 use super::model::*;
 use super::objects::{self, Pool};
-use super::stored::{SMALL, any_call, each_call, until};
+use super::said::{SMALL, any_call, each_call, until};
 use crate::inputs::text;
 use crate::original::{KINDS, VISIBLE_STRING};
 use crate::random::Random;

@@ -2,12 +2,12 @@
 //! from the rules alone. What the check says of the element is told from the other numbers, and
 //! only the faults' numbers are those of checked.rs.
 
+use super::answers::answer_name;
 use super::checked::{COUNT_TARGET, HAND_OFF, MISALIGNED, NO_TARGET, NOT_MAPPING, WRONG_LENGTH};
 use super::model::{Object, VARIABLE, Value, element, is_string};
 use super::running::{Word, row};
+use super::sound::{Dictionary, Done, Refused};
 use super::step::{Call, Outcome};
-use super::tally::{Goal, Tally, answer_name};
-use super::world::{Dictionary, Done, Refused};
 use crate::original::{BUFFER_TOO_SHORT, UNICODE_STRING, size};
 
 /// The numbers of an explanation.
@@ -24,11 +24,11 @@ const NO_OBJECT: u64 = 0;
 const NO_SUB_OBJECT: u64 = 1;
 const A_COUNT: u64 = 2;
 const A_VALUE: u64 = 3;
-const THERE: [&str; 4] =
+pub const THERE: [&str; 4] =
     ["no object there", "no sub-index there", "a count there", "a value there"];
 
 /// Numbers of the faults that name an element, and 0 for none.
-const VERDICTS: [u64; 7] =
+pub const VERDICTS: [u64; 7] =
     [0, NOT_MAPPING, MISALIGNED, HAND_OFF, NO_TARGET, COUNT_TARGET, WRONG_LENGTH];
 
 impl Dictionary {
@@ -113,7 +113,7 @@ fn fits(kind: u64, holds: u64, bytes: u64) -> bool {
     }
 }
 
-fn verdict_name(verdict: u64) -> &'static str {
+pub fn verdict_name(verdict: u64) -> &'static str {
     if verdict == 0 { "no fault" } else { answer_name(verdict) }
 }
 
@@ -146,36 +146,4 @@ impl Named {
             _ => {}
         }
     }
-}
-
-const EXPLAIN: &str = "explain";
-
-/// The refusals, and each way to come to them.
-const REFUSALS: [Goal; 8] = [
-    (EXPLAIN, 1, None),
-    (EXPLAIN, 3, Some("no mapping")),
-    (EXPLAIN, 3, Some("a Variable")),
-    (EXPLAIN, 4, Some("element 0")),
-    (EXPLAIN, 4, Some("behind the last")),
-    (EXPLAIN, 4, Some("element 255")),
-    (EXPLAIN, 12, Some("none")),
-    (EXPLAIN, 12, Some("too few")),
-];
-
-/// What of the explanation was not reached.
-pub fn lacking(tally: &Tally) -> Vec<String> {
-    let verdicts = VERDICTS.map(|verdict| (EXPLAIN, 0, Some(verdict_name(verdict))));
-    let lent = tally.not_noted(EXPLAIN, &["just enough lent", "more lent"]);
-    let there = tally.not_noted(EXPLAIN, &THERE);
-    [tally.missed(&REFUSALS), tally.missed(&verdicts), there, lent, lacking_named(tally)].concat()
-}
-
-/// The faults of which no named element was explained; the stored histories are held against it
-/// too.
-pub fn lacking_named(tally: &Tally) -> Vec<String> {
-    let faults = VERDICTS[1..].iter().map(|fault| answer_name(*fault));
-    let missed = faults.filter(|fault| tally.noted(EXPLAIN, fault) == 0);
-    missed
-        .map(|fault| format!("no explained element was one that a check named for {fault}"))
-        .collect()
 }

@@ -2,25 +2,23 @@
 //! and all other calls between checks.
 
 use super::calls;
+use super::cells;
 use super::checked::LEAST_NUMBERS;
 use super::checks;
 use super::consumed;
-use super::explained;
 use super::fields;
+use super::goals;
 use super::image::{self, Record};
-use super::malice;
+use super::literals::{RECORD, u8s, w};
 use super::memory::Lent;
 use super::model::*;
-use super::objects;
+use super::objects::{self, rising};
 use super::payloads;
 use super::restores;
 use super::step::{Call, History, Step};
-use super::stored::bare;
 use super::tally::{Goal, Tally};
-use super::traps::{RECORD, u8s, w};
 use super::trial::Trial;
 use super::writes;
-use super::written::rising;
 use crate::original::{KINDS, size};
 use crate::random::Random;
 
@@ -52,7 +50,7 @@ pub fn compare(trial: &mut Trial, random: &mut Random) {
         trial.compare(damaged(random));
     }
     trial.demand(lacking);
-    trial.demand(explained::lacking);
+    trial.demand(goals::explanations_lacking);
 }
 
 /// A check or an explanation, most times.
@@ -215,8 +213,8 @@ fn retyped(random: &mut Random) -> History {
 /// A cell changed, after which most are no dictionary, and some another one.
 fn damaged(random: &mut Random) -> History {
     let objects = fields::dictionary(random, 3);
-    let cells = malice::cells(&objects);
-    let mut steps = vec![Step::Lay(objects.clone()), malice::any_edit(random, &cells)];
+    let cells = cells::cells(&objects);
+    let mut steps = vec![Step::Lay(objects.clone()), cells::any_edit(random, &cells)];
     steps.extend(checks::each(random, &objects).map(Step::Call));
     let lengths = Used::of(&objects).lengths();
     History { first: Lent { at_start: random.below(2) == 0, lengths, store: 0 }, steps }

@@ -3,9 +3,7 @@
 
 use super::channels::{self, LONGEST, mapping_word};
 use super::model::*;
-use super::objects;
-use super::stored::bare;
-use super::written::rising;
+use super::objects::{self, rising};
 use crate::original::{UNICODE_STRING, size};
 use crate::random::Random;
 

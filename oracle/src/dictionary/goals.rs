@@ -1,6 +1,8 @@
-//! What a run must reach of insertions, writes, saves, count checks and restores: every answer, and
-//! each way to come to it.
+//! What a run must reach of insertions, writes, saves, count checks, restores and explanations:
+//! every answer, and each way to come to it.
 
+use super::answers::answer_name;
+use super::explained::{THERE, VERDICTS, verdict_name};
 use super::tally::{Goal, Tally};
 
 /// What a run did not reach.
@@ -24,6 +26,7 @@ const INSERTS: &str = "insert";
 const WRITES: &str = "write";
 const COUNTS: &str = "validate_pdo_mapping";
 const RESTORES: &str = "restore_power_on_values";
+const EXPLAINS: &str = "explain";
 
 const INSERT: [Goal; 37] = [
     (INSERTS, 0, Some("the first object")),
@@ -191,3 +194,34 @@ const RESTORED: [&str; 8] = [
     "1003h left",
     "a record without its place",
 ];
+
+/// The refusals, and each way to come to them.
+const EXPLAIN_REFUSALS: [Goal; 8] = [
+    (EXPLAINS, 1, None),
+    (EXPLAINS, 3, Some("no mapping")),
+    (EXPLAINS, 3, Some("a Variable")),
+    (EXPLAINS, 4, Some("element 0")),
+    (EXPLAINS, 4, Some("behind the last")),
+    (EXPLAINS, 4, Some("element 255")),
+    (EXPLAINS, 12, Some("none")),
+    (EXPLAINS, 12, Some("too few")),
+];
+
+/// What of the explanation was not reached.
+pub fn explanations_lacking(tally: &Tally) -> Vec<String> {
+    let verdicts = VERDICTS.map(|verdict| (EXPLAINS, 0, Some(verdict_name(verdict))));
+    let lent = tally.not_noted(EXPLAINS, &["just enough lent", "more lent"]);
+    let there = tally.not_noted(EXPLAINS, &THERE);
+    [tally.missed(&EXPLAIN_REFUSALS), tally.missed(&verdicts), there, lent, lacking_named(tally)]
+        .concat()
+}
+
+/// The faults of which no named element was explained; the stored histories are held against it
+/// too.
+pub fn lacking_named(tally: &Tally) -> Vec<String> {
+    let faults = VERDICTS[1..].iter().map(|fault| answer_name(*fault));
+    let missed = faults.filter(|fault| tally.noted(EXPLAINS, fault) == 0);
+    missed
+        .map(|fault| format!("no explained element was one that a check named for {fault}"))
+        .collect()
+}

@@ -87,6 +87,11 @@ impl Object {
     }
 }
 
+/// Without a name, an access or a default.
+pub fn bare(index: u64, shape: u64, values: Vec<Value>) -> Object {
+    Object { index, shape, access: NO_ACCESS, name: Vec::new(), values, default: None }
+}
+
 impl Used {
     pub fn of(objects: &[Object]) -> Self {
         objects.iter().map(Object::used).fold(Self::default(), Self::plus)

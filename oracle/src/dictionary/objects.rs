@@ -143,6 +143,13 @@ pub fn encoding(random: &mut Random, kind: u64, longest: usize) -> Vec<u8> {
     }
 }
 
+/// By index, each index once.
+pub fn rising(mut objects: Vec<Object>) -> Vec<Object> {
+    objects.sort_by_key(|object| object.index);
+    objects.dedup_by_key(|object| object.index);
+    objects
+}
+
 /// Objects that together use just so much: lists with rising indices. There
 /// must be room for it: 254 values a list, 1,490 bytes a value, 32 a name where
 /// a list has no value.

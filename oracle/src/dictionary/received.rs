@@ -4,12 +4,12 @@ use super::channels;
 use super::consumed::not_reached;
 use super::consuming::{LEAST_ROOM, LONGEST_PAYLOAD};
 use super::lines::{LENT, Lines, sayable};
+use super::literals::{RECORD, u8s, u16s, w};
 use super::model::*;
 use super::payloads;
+use super::said::{any_call, insert_all, until};
 use super::step::{Call, Cycle, Received};
-use super::stored::{any_call, bare, until};
-use super::stores::insert_all;
-use super::traps::{self, RECORD, Trap, u8s, u16s, w};
+use super::traps::{self, Trap};
 use crate::random::Random;
 
 /// Never changed: the printed list is the same at every run.

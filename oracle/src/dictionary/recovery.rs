@@ -1,15 +1,14 @@
 //! The restores among the stored histories with a store.
 
+use super::dictionaries::{saved, varied};
 use super::goals::IMAGES;
 use super::image;
 use super::lines::{Lines, STORE_BYTES};
 use super::memory::STORE;
 use super::model::*;
 use super::objects::{self, Sizes};
-use super::restored::{saved, varied};
 use super::restores::{self, range};
-use super::stored::{any_call, bare, until};
-use super::stores::{any_store, any_write, insert_all};
+use super::said::{any_call, any_store, any_write, insert_all, until};
 use super::writes;
 use crate::original::KINDS;
 use crate::random::Random;

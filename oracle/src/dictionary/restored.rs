@@ -3,17 +3,15 @@
 
 use super::calls;
 use super::checks;
+use super::dictionaries::{LARGER, image_length, saved, varied};
 use super::insertion::Insertion;
 use super::memory::Lent;
 use super::model::*;
-use super::objects::{self, Sizes};
+use super::objects::Sizes;
 use super::restores;
 use super::step::{Call, History, Step};
 use super::trial::Trial;
 use super::writes;
-use super::written::{LARGER, image_length, mixed};
-use crate::inputs::text;
-use crate::original::{UNICODE_STRING, VISIBLE_STRING};
 use crate::random::Random;
 
 pub fn compare(trial: &mut Trial, random: &mut Random) {
@@ -24,75 +22,6 @@ pub fn compare(trial: &mut Trial, random: &mut Random) {
         let sizes = random.pick(&LARGER);
         trial.compare(history(random, sizes));
     }
-}
-
-/// Most objects are saved, and half have a default for one of their values.
-pub fn saved(random: &mut Random, sizes: Sizes) -> Vec<Object> {
-    let mut all = mixed(random, sizes);
-    for object in &mut all {
-        if random.below(4) > 0 {
-            object.access = random.pick(&[2, 4]);
-        }
-        redefault(random, object);
-    }
-    all
-}
-
-/// Half of them get a default of the type of one of their values, as long as its room or about that.
-fn redefault(random: &mut Random, object: &mut Object) {
-    if object.values.is_empty() || random.below(2) == 0 {
-        return;
-    }
-    let value = &object.values[random.below(object.values.len())];
-    let room = value.room.len();
-    let length = match random.below(6) {
-        0 => room + 1,
-        1 | 2 => room,
-        _ => random.below(room + 1),
-    };
-    let encoding = match value.kind {
-        VISIBLE_STRING => text(random, length.min(LARGEST_ROOM)),
-        UNICODE_STRING => random.bytes(length.min(LARGEST_ROOM) / 2 * 2),
-        kind if is_string(kind) => random.bytes(length.min(LARGEST_ROOM)),
-        kind => objects::encoding(random, kind, 0),
-    };
-    let room = if is_string(value.kind) { encoding.len() } else { 0 };
-    object.default = Some(Value::new(value.kind, room, &encoding));
-}
-
-/// The objects as another version of a device has them.
-pub fn varied(random: &mut Random, objects: &[Object], sizes: Sizes) -> Vec<Object> {
-    let mut all = objects.to_vec();
-    all.retain(|_| random.below(12) > 0);
-    for object in &mut all {
-        for value in &mut object.values {
-            match random.below(6) {
-                0 | 1 => *value = objects::value(random, sizes.longest),
-                2 => *value = objects::value_of(random, value.kind, sizes.longest),
-                3 => resize(random, value),
-                _ => {}
-            }
-        }
-        match random.below(12) {
-            0 if object.values.len() < sizes.elements && object.shape != VARIABLE => {
-                object.values.push(objects::value(random, sizes.longest));
-            }
-            1 if object.shape != VARIABLE => drop(object.values.pop()),
-            2 if object.values.len() == 1 => object.shape = random.pick(&[VARIABLE, ARRAY]),
-            3 => object.default = None,
-            4 | 5 => redefault(random, object),
-            _ => {}
-        }
-    }
-    all
-}
-
-/// Another room, with other bytes behind the value.
-fn resize(random: &mut Random, value: &mut Value) {
-    let used = if is_string(value.kind) { value.word as usize } else { 0 };
-    let room = used + random.pick(&[0, 0, 1, 2, 9]);
-    value.room.resize(room.min(LARGEST_ROOM), 0);
-    value.room[used..].fill_with(|| random.pick(&[0x80, 0xFF, 0x00, 0xC3]));
 }
 
 /// Two sets of objects, of which now the one and now the other is the dictionary, laid or let in.

@@ -5,7 +5,7 @@ use super::between::{LIST_RETYPED, RECORD_RETYPED};
 use super::image::{self, Record};
 use super::memory::Memory;
 use super::model::{self, Object, VARIABLE, Value, is_string};
-use super::world::{Dictionary, Done, Refused};
+use super::sound::{Dictionary, Done, Refused};
 use std::ops::RangeInclusive;
 
 const TOO_LONG: u64 = 13;

@@ -1,13 +1,13 @@
 //! Saves at the bounds of the image: 2,048 records and 16,384 bytes of bodies.
 
 use super::calls;
+use super::dictionaries::image_length;
 use super::memory::Lent;
 use super::model::*;
 use super::restores;
 use super::step::{Call, History, Step};
 use super::trial::Trial;
 use super::writes;
-use super::written::image_length;
 use crate::random::Random;
 
 const OCTET_STRING: u64 = 12;

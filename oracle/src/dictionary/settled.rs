@@ -1,9 +1,9 @@
 //! Dictionaries in which a check errs easily, each with payloads that show why its answer is right.
 
 use super::faults::{elements, mapped};
+use super::literals::{RECORD, u8s, u16s, u32s, w};
 use super::model::*;
-use super::stored::bare;
-use super::traps::{self, RECORD, Trap, nodes, string, u8s, u16s, u32s, w};
+use super::traps::{self, Trap, nodes, string};
 
 const VISIBLE_STRING: u64 = 11;
 const OCTET_STRING: u64 = 12;

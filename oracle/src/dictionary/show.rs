@@ -1,16 +1,27 @@
 //! Prints a history that differs.
 
+use super::answers::answer_name;
 use super::insertion::Insertion;
 use super::link::Given;
 use super::memory::{Lent, Memory, SLICES};
 use super::model::{Object, Value, is_string};
 use super::step::{Call, Cycle, History, Outcome, Received, Step, Write};
-use super::tally::answer_name;
-use super::trial::Difference;
+use super::world::Wanted;
 use crate::call::number_fill;
 
 /// Cells, or objects, of one kind that are printed.
 const MOST_CELLS: usize = 24;
+
+/// Where a history first differs. Without `given` the port gave no answer: it
+/// was stopped by a fault, or by the clock.
+pub struct Difference {
+    pub step: usize,
+    pub call: Call,
+    pub given: Option<Given>,
+    pub wanted: Wanted,
+    pub before: Memory,
+    pub after: Memory,
+}
 
 pub fn history(history: &History) {
     println!("differs: {}", lent(&history.first));

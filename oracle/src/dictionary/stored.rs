@@ -7,6 +7,7 @@ use super::insertion::Insertion;
 use super::lines::{LENT, Lines, sayable};
 use super::model::*;
 use super::objects::{self, CONFIGURED_NODES, Pool, Sizes, UNSIGNED32, using};
+use super::said::{SMALL, any_call, each_call, until};
 use super::spoil::spoil;
 use super::step::{Call, WIDTHS};
 use crate::inputs::{damaged, text};
@@ -23,8 +24,6 @@ const MAC_ADDRESS: u64 = 19;
 
 const MOST_LENT_VALUES: usize = LENT[2];
 const MOST_LENT_BYTES: usize = LENT[3];
-
-pub const SMALL: Sizes = Sizes { longest: 6, elements: 3 };
 
 pub fn print() {
     let random = &mut Random::new(SEED);
@@ -44,27 +43,6 @@ pub fn print() {
     damage::each_rule(&mut lines, random);
     damage::unseen(&mut lines, random);
     print!("{}", lines.finish());
-}
-
-/// A read, a name to find, the configured nodes or a counter, at places of the objects and others.
-pub fn any_call(lines: &mut Lines, random: &mut Random, objects: &[Object]) {
-    lines.call(until(|| Some(calls::any(random, objects)).filter(sayable)));
-}
-
-/// Each of these, and an insertion.
-pub fn each_call(lines: &mut Lines, random: &mut Random, objects: &[Object]) {
-    let made = until(|| {
-        let calls = calls::each(random, objects);
-        calls.iter().all(sayable).then_some(calls)
-    });
-    made.into_iter().for_each(|call| lines.call(call));
-    let pool = Pool::new(random, 2);
-    lines.insert(&objects::object(random, &pool, SMALL));
-}
-
-/// Repeats what is random until it gives something.
-pub fn until<T>(mut attempt: impl FnMut() -> Option<T>) -> T {
-    (0..1_000_000).find_map(|_| attempt()).expect("it comes up among a million")
 }
 
 /// An index that is not taken.
@@ -123,11 +101,6 @@ fn all_of(lines: &mut Lines, random: &mut Random, object: &Object) {
     for name in [object.name.clone(), damaged(random, &object.name), longer] {
         lines.call(Call::FindByName(name));
     }
-}
-
-/// Without a name, an access or a default.
-pub fn bare(index: u64, shape: u64, values: Vec<Value>) -> Object {
-    Object { index, shape, access: NO_ACCESS, name: Vec::new(), values, default: None }
 }
 
 fn bytes_of(random: &mut Random, count: usize) -> Vec<Value> {

@@ -1,26 +1,22 @@
 //! The stored histories of writes, saves and count checks, with stores of several lengths; like those
 //! of stored.rs, which have no store. recovery.rs has the restores.
 
+use super::dictionaries::{image_length, mapped, mixed};
 use super::goals::lacking_stored;
-use super::insertion::Insertion;
-use super::lines::{Lines, STORE_BYTES, sayable};
+use super::lines::{Lines, STORE_BYTES};
 use super::mappings;
 use super::model::*;
-use super::objects::{self, Sizes};
+use super::objects::{self, Sizes, rising};
 use super::recovery;
+use super::said::{any_call, any_store, any_write, insert_all, is_short, until};
 use super::step::Call;
-use super::stored::{any_call, bare, until};
 use super::writes::{self, write};
-use super::written::{image_length, mapped, mixed, rising};
 use crate::inputs::{damaged, text};
 use crate::original::{KINDS, UNICODE_STRING, VISIBLE_STRING};
 use crate::random::Random;
 
 /// Never changed: the printed list is the same at every run.
 const SEED: u64 = 303;
-
-/// Longer data would make a line long and say nothing more.
-const LONGEST_DATA: usize = 40;
 
 const UNSIGNED8: u64 = 5;
 const UNSIGNED16: u64 = 6;
@@ -44,14 +40,6 @@ pub fn print() {
     let lacking = lacking_stored(&lines.tally);
     assert!(lacking.is_empty(), "the lines lack {lacking:?}");
     print!("{}", lines.finish());
-}
-
-fn is_short(call: &Call) -> bool {
-    sayable(call) && !matches!(call, Call::Write(given) if given.data.len() > LONGEST_DATA)
-}
-
-pub fn any_write(lines: &mut Lines, random: &mut Random, objects: &[Object]) {
-    lines.call(until(|| Some(writes::any(random, objects)).filter(is_short)));
 }
 
 /// Each sort of write, and a count check.
@@ -190,22 +178,6 @@ fn saves(lines: &mut Lines, random: &mut Random) {
     for _ in 0..60 {
         lines.lend(random.pick(&[0, 1, 2, 300, STORE_BYTES]));
         lines.call(until(|| Some(writes::command(random)).filter(is_short)));
-    }
-}
-
-/// A store that is long enough most times.
-pub fn any_store(random: &mut Random, objects: &[Object]) -> usize {
-    let exact = image_length(objects, 1).min(STORE_BYTES);
-    random.pick(&[STORE_BYTES, STORE_BYTES, exact, exact - 1, 1])
-}
-
-pub fn insert_all(lines: &mut Lines, objects: &[Object]) {
-    lines.begin();
-    for object in objects {
-        let call = Call::Insert(Insertion::of(object));
-        if sayable(&call) {
-            lines.call(call);
-        }
     }
 }
 

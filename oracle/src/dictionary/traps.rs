@@ -1,10 +1,9 @@
 //! Dictionaries and payloads in which a consumer errs easily, each with what it is about, and
 //! document 01's cases 5 to 11.
 
+use super::literals::{RECORD, u8s, u16s, u32s, w};
 use super::model::*;
-use super::stored::bare;
 
-pub const RECORD: u64 = LAST_SHAPE;
 const VISIBLE_STRING: u64 = 11;
 const OCTET_STRING: u64 = 12;
 const UNICODE_STRING: u64 = 13;
@@ -15,22 +14,6 @@ pub struct Trap {
     pub payload: Vec<u8>,
     pub sender: u8,
     pub version: u8,
-}
-
-pub fn w(length: u64, offset: u64, sub_index: u64, index: u64) -> Value {
-    Value::new(8, 0, &(index | sub_index << 16 | offset << 32 | length << 48).to_le_bytes())
-}
-
-pub fn u8s<const N: usize>(numbers: [u8; N]) -> Vec<Value> {
-    numbers.map(|number| Value::new(5, 0, &[number])).to_vec()
-}
-
-pub fn u16s<const N: usize>(numbers: [u16; N]) -> Vec<Value> {
-    numbers.map(|number| Value::new(6, 0, &number.to_le_bytes())).to_vec()
-}
-
-pub fn u32s<const N: usize>(numbers: [u32; N]) -> Vec<Value> {
-    numbers.map(|number| Value::new(7, 0, &number.to_le_bytes())).to_vec()
 }
 
 pub fn string(index: u64, kind: u64, room: usize, bytes: &[u8]) -> Object {

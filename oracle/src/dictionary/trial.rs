@@ -2,7 +2,7 @@
 
 use super::link::{self, Given};
 use super::memory::Memory;
-use super::show;
+use super::show::{self, Difference};
 use super::shrink::smallest;
 use super::step::{Call, History, Step};
 use super::tally::Tally;
@@ -34,17 +34,6 @@ pub struct Trial<'a> {
 
 /// What a whole run must reach: it says what was not reached.
 pub type Demand = fn(&Tally) -> Vec<String>;
-
-/// Where a history first differs. Without `given` the port gave no answer: it
-/// was stopped by a fault, or by the clock.
-pub struct Difference {
-    pub step: usize,
-    pub call: Call,
-    pub given: Option<Given>,
-    pub wanted: Wanted,
-    pub before: Memory,
-    pub after: Memory,
-}
 
 impl<'a> Trial<'a> {
     pub fn new(port: &'a mut Port) -> Self {

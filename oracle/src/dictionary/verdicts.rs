@@ -3,18 +3,17 @@
 use super::checked::LEAST_NUMBERS;
 use super::checks;
 use super::consuming::LEAST_ROOM;
-use super::explained::lacking_named;
 use super::faults::{lacking, mapped};
 use super::fields;
+use super::goals::lacking_named;
 use super::lines::{LENT, Lines, STORE_BYTES, sayable};
+use super::literals::{RECORD, u8s, u32s, w};
 use super::model::*;
 use super::payloads;
 use super::restores;
+use super::said::{insert_all, until};
 use super::settled::{self, Arrival, Question};
 use super::step::{Call, Received};
-use super::stored::{bare, until};
-use super::stores::insert_all;
-use super::traps::{RECORD, u8s, u32s, w};
 use super::writes::save;
 use crate::random::Random;
 

@@ -6,8 +6,8 @@ use super::image::{self, Record};
 use super::memory::Memory;
 use super::model::{self, element, is_string, no_encoding};
 use super::rust::Written;
+use super::sound::{Dictionary, Done, Refused};
 use super::step::Write;
-use super::world::{Dictionary, Done, Refused};
 use crate::original::BAD_VALUE;
 
 const TOO_LONG: u64 = 13;

@@ -2,12 +2,11 @@
 
 use super::calls;
 use super::checks;
-use super::image;
+use super::dictionaries::{LARGER, image_length, mapped, mixed};
 use super::insertion::Insertion;
-use super::mappings;
 use super::memory::Lent;
 use super::model::*;
-use super::objects::{self, Pool, Sizes};
+use super::objects::{Sizes, rising};
 use super::restores;
 use super::step::{Call, History, Step};
 use super::trial::Trial;
@@ -29,66 +28,6 @@ pub fn compare(trial: &mut Trial, random: &mut Random) {
         let objects = mixed(random, sizes);
         trial.compare(history(random, objects));
     }
-}
-
-/// Long strings, or long lists.
-pub const LARGER: [Sizes; 3] = [
-    Sizes { longest: LARGEST_ROOM, elements: 3 },
-    Sizes { longest: 200, elements: 12 },
-    Sizes { longest: 2, elements: MOST_ELEMENTS },
-];
-
-/// Both ends of what the lists 2 and 3 save, and places with a meaning.
-const INDICES: [u16; 12] = [
-    0x0FFF, 0x1000, 0x1FFF, 0x2000, 0x5FFF, 0x6000, 0x9FFF, 0xA000, 0x1003, 0x1010, 0x1011, 0x1F81,
-];
-
-/// Objects of any sort, of which half may be saved; mappings among them.
-pub fn mixed(random: &mut Random, sizes: Sizes) -> Vec<Object> {
-    let mut pool = Pool::new(random, 8);
-    for place in 0..6 {
-        pool.indices[place] = random.pick(&INDICES);
-    }
-    let count = random.below(8);
-    let mut all: Vec<Object> = (0..count).map(|_| objects::object(random, &pool, sizes)).collect();
-    for object in &mut all {
-        if random.below(2) == 0 {
-            object.access = random.pick(&[2, 3, 4, 4]);
-        }
-    }
-    if random.below(2) == 0 {
-        all.extend(mapped(random, 4));
-    }
-    rising(all)
-}
-
-/// Mappings and, most times, their limits.
-pub fn mapped(random: &mut Random, most: usize) -> Vec<Object> {
-    let mut all: Vec<Object> =
-        (0..1 + random.below(3)).map(|_| mappings::mapping(random, most)).collect();
-    if random.below(4) > 0 {
-        all.push(mappings::limits(random, &all));
-    }
-    all
-}
-
-/// By index, each index once.
-pub fn rising(mut objects: Vec<Object>) -> Vec<Object> {
-    objects.sort_by_key(|object| object.index);
-    objects.dedup_by_key(|object| object.index);
-    objects
-}
-
-/// Bytes of the image of a list, as the objects are.
-pub fn image_length(objects: &[Object], list: u8) -> usize {
-    let is_saved = |object: &&Object| match list {
-        _ if !matches!(object.access, 2 | 4) => false,
-        1 => true,
-        2 => matches!(object.index, 0x1000..=0x1FFF),
-        _ => matches!(object.index, 0x6000..=0x9FFF),
-    };
-    let values: Vec<&Value> = objects.iter().filter(is_saved).flat_map(|o| &o.values).collect();
-    image::length(values.len(), values.iter().map(|value| value.encoding().len()).sum())
 }
 
 /// None, the least, just enough for a list, one byte less or more, or ample.
