@@ -1,19 +1,19 @@
 //! Times calls of the port and of the Rust on the same dictionaries.
 
-use super::consuming::A_PAYLOAD;
-use super::image::{self, Record};
-use super::insertion::Insertion;
 use super::link;
-use super::memory::{Lent, ROW, SLOT};
-use super::model::{Object, Used};
-use super::objects::using;
 use super::payload_times;
-use super::restores;
-use super::rooms;
-use super::rust::Rust;
-use super::step::{Call, Cycle, History, Received, Step, Write};
 use super::times::{Table, count};
-use super::writes;
+use crate::dictionary::generators::objects::using;
+use crate::dictionary::generators::restores;
+use crate::dictionary::generators::writes;
+use crate::dictionary::model::consuming::A_PAYLOAD;
+use crate::dictionary::model::image::{self, Record};
+use crate::dictionary::model::insertion::Insertion;
+use crate::dictionary::model::layout::{Object, Used};
+use crate::dictionary::model::memory::{Lent, ROW, SLOT};
+use crate::dictionary::model::rust::Rust;
+use crate::dictionary::model::step::{Call, Cycle, History, Received, Step, Write};
+use crate::dictionary::runs::rooms;
 use crate::original;
 use crate::port::Port;
 use crate::random::Random;

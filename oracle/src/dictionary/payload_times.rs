@@ -2,10 +2,10 @@
 //! payloads, with the channel first and last, alone and among records for all channels.
 
 use super::bench::{self, Setting};
-use super::consuming::LEAST_ROOM;
-use super::model::*;
-use super::step::{Call, Cycle, Received};
 use super::times::{Table, count};
+use crate::dictionary::model::consuming::LEAST_ROOM;
+use crate::dictionary::model::layout::*;
+use crate::dictionary::model::step::{Call, Cycle, Received};
 use crate::port::Port;
 use crate::random::Random;
 
