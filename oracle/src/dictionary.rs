@@ -1,14 +1,12 @@
 //! The dictionary: histories of calls, and damaged memory.
 
-mod bench;
 mod generators;
 mod link;
 mod model;
-mod payload_times;
 mod runs;
 mod shown;
 mod stored;
-mod times;
+mod timing;
 
 use crate::port::Port;
 use crate::random::Random;
@@ -63,5 +61,5 @@ pub fn print_checks() {
 
 /// Prints how long calls take, in the port and in the Rust.
 pub fn bench(port: &mut Port, random: &mut Random) {
-    bench::print(port, random);
+    timing::bench::print(port, random);
 }

@@ -1,11 +1,11 @@
 //! Times calls of the port and of the Rust on the same dictionaries.
 
-use super::link;
 use super::payload_times;
 use super::times::{Table, count};
 use crate::dictionary::generators::objects::using;
 use crate::dictionary::generators::restores;
 use crate::dictionary::generators::writes;
+use crate::dictionary::link;
 use crate::dictionary::model::consuming::A_PAYLOAD;
 use crate::dictionary::model::image::{self, Record};
 use crate::dictionary::model::insertion::Insertion;
