@@ -1,70 +1,19 @@
 //! The dictionary: histories of calls, and damaged memory.
 
-mod admission;
-mod asking;
-mod backend;
-mod bench;
-mod between;
-mod bounds;
-mod breakage;
-mod calls;
-mod causes;
-mod channels;
-mod checked;
-mod checks;
-mod consumed;
-mod consuming;
-mod damage;
-mod demand;
-mod explained;
-mod faults;
-mod fields;
-mod goals;
-mod histories;
-mod image;
-mod images;
-mod insertion;
-mod lines;
+mod generators;
 mod link;
-mod malformed;
-mod malice;
-mod mappings;
-mod memory;
 mod model;
-mod node;
-mod objects;
-mod payload_times;
-mod payloads;
-mod received;
-mod recovery;
-mod restored;
-mod restores;
-mod restoring;
-mod rooms;
-mod running;
-mod rust;
-mod saves;
-mod settled;
-mod show;
-mod shrink;
-mod spoil;
-mod step;
+mod runs;
+mod shown;
 mod stored;
-mod stores;
-mod tally;
-mod times;
-mod traps;
-mod trial;
-mod tried;
-mod verdicts;
-mod whole;
-mod world;
-mod writes;
-mod writing;
-mod written;
+mod timing;
 
 use crate::port::Port;
 use crate::random::Random;
+use runs::{
+    bounds, consumed, demand, faults, goals, histories, images, malice, restored, rooms, saves,
+    trial, written,
+};
 
 /// Gives the comparisons and the differences.
 pub fn compare(port: &mut Port, random: &mut Random) -> (u64, u64) {
@@ -92,25 +41,25 @@ pub fn compare_checks(port: &mut Port, random: &mut Random) -> (u64, u64) {
 
 /// Prints the histories that crates/cases replays.
 pub fn print_stored() {
-    stored::print();
+    stored::histories::print();
 }
 
 /// Prints those of them that have a store.
 pub fn print_stores() {
-    stores::print();
+    stored::stores::print();
 }
 
 /// Prints those that consume payloads.
 pub fn print_payloads() {
-    received::print();
+    stored::received::print();
 }
 
 /// Prints those that check channels.
 pub fn print_checks() {
-    verdicts::print();
+    stored::verdicts::print();
 }
 
 /// Prints how long calls take, in the port and in the Rust.
 pub fn bench(port: &mut Port, random: &mut Random) {
-    bench::print(port, random);
+    timing::bench::print(port, random);
 }

@@ -1,10 +1,10 @@
 //! Histories as commands of dictionary.c, and its replies.
 
-use super::insertion::Insertion;
-use super::memory::{BYTES, Lent, Memory, SLICES, STORE};
-use super::model::{self, Object, Used};
-use super::step::{Call, Cycle, History, Outcome, Received, Step, Width, Write};
 use crate::call::number_fill;
+use crate::dictionary::model::insertion::Insertion;
+use crate::dictionary::model::layout::{self, Object, Used};
+use crate::dictionary::model::memory::{BYTES, Lent, Memory, SLICES, STORE};
+use crate::dictionary::model::step::{Call, Cycle, History, Outcome, Received, Step, Width, Write};
 use crate::port::{Batch, Port, whole_words};
 use std::io::Result;
 
@@ -85,7 +85,7 @@ fn lending(command: u64, Lent { at_start, lengths, store }: Lent) -> Vec<u64> {
 
 fn laying(objects: &[Object]) -> Vec<u64> {
     let mut memory = Memory::filled(Used::of(objects).lengths(), 0);
-    model::lay(objects, &mut memory);
+    layout::lay(objects, &mut memory);
     let mut words = Vec::new();
     for (slice, cells) in memory.word_slices().into_iter().enumerate() {
         words.extend([PUT, slice as u64, 0, cells.len() as u64]);

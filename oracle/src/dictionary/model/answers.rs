@@ -1,0 +1,36 @@
+//! The names of answers (RULES.md 13).
+
+pub fn answer_name(answer: u64) -> &'static str {
+    match answer {
+        0 => "Done",
+        1 => "Malformed",
+        2 => "BadValue",
+        3 => "ObjectNotFound",
+        4 => "SubObjectNotFound",
+        5 => "TypeMismatch",
+        6 => "ReadOnly",
+        7 => "BadSignature",
+        8 => "NoStorage",
+        9 => "CountNotWritable",
+        10 => "MissingEntries",
+        11 => "PdoMapOverrun",
+        12 => "BufferTooShort",
+        13 => "TooLong",
+        14 => "PayloadTooLong",
+        15 => "NoEventRoom",
+        16 => "Occupied",
+        17 => "Full",
+        18 => "StoreFull",
+        19 => "RestoreRequested",
+        31 => "NoSender",
+        32 => "NoList",
+        33 => "NotMapping",
+        34 => "Misaligned",
+        35 => "HandOff",
+        36 => "NoTarget",
+        37 => "CountTarget",
+        38 => "WrongLength",
+        39 => "TooFar",
+        _ => "no answer of the rules",
+    }
+}

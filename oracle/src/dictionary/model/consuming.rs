@@ -1,0 +1,139 @@
+//! What consuming must give: RULES.md 11 read a second time, on the plain objects. All that the
+//! Rust tells must be what is told here, and all its values those of the objects. What it cannot
+//! say is document 01's: the element of an event, TooLong, the refusals, and where bytes lie.
+
+use super::memory::Memory;
+use super::running::{MAP_VERSION, Payload, Run, Told, Word, set_bit};
+use super::sound::{Dictionary, Done, Refused};
+use super::step::{Cycle, Received};
+use crate::original::BAD_VALUE;
+
+const PAYLOAD_TOO_LONG: u64 = 14;
+const NO_EVENT_ROOM: u64 = 15;
+
+pub const LONGEST_PAYLOAD: usize = 1490;
+pub const LEAST_ROOM: usize = 254;
+pub const MOST_PAYLOADS: usize = 1024;
+
+/// Numbers that say one payload of a cycle.
+pub const A_PAYLOAD: usize = 5;
+
+impl Dictionary {
+    /// Neither refusal has a counterpart in the Rust, which takes any payload and has no event
+    /// list.
+    pub fn consume_pdo_payload(
+        &mut self,
+        given: &Received,
+        memory: &mut Memory,
+        notes: &mut Vec<&'static str>,
+    ) -> Result<Done, Refused> {
+        if given.room < LEAST_ROOM {
+            return Err((NO_EVENT_ROOM, None));
+        }
+        if given.payload.len() > LONGEST_PAYLOAD {
+            return Err((PAYLOAD_TOO_LONG, None));
+        }
+        let Received { sender, version, .. } = *given;
+        let payload = Payload { bytes: &given.payload, sender, version, ready: given.ready != 0 };
+        let events = self.consume(&payload, 0, memory, notes);
+        self.check(memory);
+        Ok(Done { numbers: vec![events.len() as u64], events, ..Done::default() })
+    }
+
+    /// The Rust has no such call: it is given one payload after another.
+    pub fn consume_cycle(
+        &mut self,
+        given: &Cycle,
+        memory: &mut Memory,
+        notes: &mut Vec<&'static str>,
+    ) -> Result<Done, Refused> {
+        let payloads = payloads(given).map_err(|rule| (BAD_VALUE, Some(rule)))?;
+        if payloads.iter().any(|payload| payload.bytes.len() > LONGEST_PAYLOAD) {
+            return Err((PAYLOAD_TOO_LONG, None));
+        }
+        let mut events = Vec::new();
+        let mut consumed = 0;
+        for payload in &payloads {
+            if given.room < events.len() + LEAST_ROOM {
+                break;
+            }
+            events.extend(self.consume(payload, consumed, memory, notes));
+            consumed += 1;
+        }
+        self.check(memory);
+        let cause = match payloads.len() {
+            0 => "no payload",
+            count if count as u64 > consumed => "ended for event room",
+            _ => "all payloads",
+        };
+        let numbers = vec![consumed, events.len() as u64];
+        Ok(Done { numbers, events, cause: Some(cause), ..Done::default() })
+    }
+
+    /// The events of a payload, the number-th of its call.
+    fn consume(
+        &mut self,
+        payload: &Payload,
+        number: u64,
+        memory: &mut Memory,
+        notes: &mut Vec<&'static str>,
+    ) -> Vec<u64> {
+        notes.push("payloads");
+        if !payload.ready {
+            self.rust.receive(payload.sender, payload.bytes, payload.version, false);
+            notes.push("not ready");
+            return Vec::new();
+        }
+        let Payload { bytes, sender, version, .. } = *payload;
+        let told = self.rust.consume(sender, bytes, version, &self.objects);
+        let mut run = Run { objects: &mut self.objects, memory, payload, notes };
+        let (words, wanted) = run.all();
+        assert_eq!(told, wanted, "what the Rust tells of {bytes:X?} of {sender}, {version:X}");
+        assert!(self.all_equal(), "the model has the Rust's values after {bytes:X?} of {sender}");
+        wanted.iter().map(|told| event(told, &words, number)).collect()
+    }
+
+    pub fn update_pdo_error_object(&mut self, index: u16, node: u8, memory: &mut Memory) -> Done {
+        self.rust.update_pdo_error_object(index, node);
+        let set = set_bit(&mut self.objects, memory, index, node);
+        assert!(self.all_equal(), "the model has the Rust's values after the bit of {node}");
+        Done::because(if set { "a bit set" } else { "nothing" })
+    }
+}
+
+/// R11.12: the payloads, or the rule that makes them BadValue.
+fn payloads(given: &Cycle) -> Result<Vec<Payload<'_>>, &'static str> {
+    if !given.payloads.len().is_multiple_of(A_PAYLOAD) {
+        return Err("numbers not by five");
+    }
+    if given.payloads.len() > A_PAYLOAD * MOST_PAYLOADS {
+        return Err("too many payloads");
+    }
+    let payload = |numbers: &[u64]| {
+        let [start, length] = [numbers[0], numbers[1]];
+        let end = start.checked_add(length).ok_or("a payload ends past 64 bits")?;
+        let bytes = usize::try_from(end).ok().and_then(|end| given.data.get(start as usize..end));
+        Ok(Payload {
+            bytes: bytes.ok_or("a payload not within the data")?,
+            sender: numbers[2].try_into().map_err(|_| "sender")?,
+            version: numbers[3].try_into().map_err(|_| "version")?,
+            ready: numbers[4] != 0,
+        })
+    };
+    given.payloads.chunks(A_PAYLOAD).map(payload).collect()
+}
+
+/// R11.14.
+fn event(told: &Told, words: &[Word], payload: u64) -> u64 {
+    let [mut element, mut index, mut start, mut length] = [0; 4];
+    if told.kind != MAP_VERSION {
+        element = words[told.step].element;
+    }
+    if told.handed.is_some() {
+        let word = &words[told.step];
+        index = word.index.into();
+        [start, length] = [word.start / 8, word.length / 8].map(|bytes| bytes as u64);
+    }
+    let handed = index + 65_536 * (start + 8192 * (length + 8192 * payload));
+    told.kind + 16 * (element + 256 * handed)
+}

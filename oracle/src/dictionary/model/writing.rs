@@ -1,0 +1,82 @@
+//! What `write` and the count check must give. The Rust decides; what it cannot
+//! say is document 01's: BadValue, TooLong, StoreFull, and where bytes lie.
+
+use super::causes;
+use super::image::{self, Record};
+use super::layout::{self, element, is_string, no_encoding};
+use super::memory::Memory;
+use super::rust::Written;
+use super::sound::{Dictionary, Done, Refused};
+use super::step::Write;
+use crate::original::BAD_VALUE;
+
+const TOO_LONG: u64 = 13;
+const STORE_FULL: u64 = 18;
+const RESTORE_REQUESTED: u64 = 19;
+
+impl Dictionary {
+    pub fn write(&mut self, given: &Write, memory: &mut Memory) -> Result<Done, Refused> {
+        // The Rust has no such value, so that it is not asked.
+        if let Some(rule) = no_encoding(given.kind, &given.data) {
+            return Err((BAD_VALUE, Some(rule)));
+        }
+        let written = self.rust.write(given);
+        let refused = |refusal| (refusal, causes::of_refusal(&self.objects, given, refusal));
+        let done = written.map_err(refused).and_then(|written| match written {
+            Written::Taken => self.put(given, memory),
+            Written::Saved(records) => self.save(given.sub_index, &records, memory),
+            // No refusal, but it too leaves everything as it was.
+            Written::RestoreRequested => Err((RESTORE_REQUESTED, None)),
+        });
+        let object = self.objects.iter().find(|object| object.index == given.index.into());
+        let equal = object.is_none_or(|object| self.is_equal(object));
+        assert!(equal, "the model has the Rust's values after a write at {:X}", given.index);
+        done
+    }
+
+    /// What the Rust makes of the value is put where the layout has it.
+    fn put(&mut self, given: &Write, memory: &mut Memory) -> Result<Done, Refused> {
+        let Write { index, sub_index, kind, ref data } = *given;
+        let row = self.objects.iter().position(|object| object.index == index.into());
+        let row = row.expect("the Rust has just these objects");
+        let cause = causes::of_put(&self.objects[row], given);
+        let Some(element) = element(&self.objects[row], sub_index) else {
+            return Ok(Done::because(cause));
+        };
+        let (place, start) = layout::place_of(&self.objects, index, element);
+        let value = &mut self.objects[row].values[element];
+        // The Rust has no rooms: what it took beyond one is outside the domain (R2.5).
+        if is_string(kind) && data.len() > value.room.len() {
+            self.rust.put_back(index, sub_index, value);
+            return Err((TOO_LONG, None));
+        }
+        let found = self.rust.read(index, sub_index);
+        let Ok(found) = found else { unreachable!("it was just written") };
+        value.word = found.word;
+        value.room[..found.bytes.len()].copy_from_slice(&found.bytes);
+        memory.words[place] = found.word;
+        memory.bytes[start..][..found.bytes.len()].copy_from_slice(&found.bytes);
+        self.check(memory);
+        Ok(Done::because(cause))
+    }
+
+    /// The image is that of the Rust's table. Its storage has no bounds: a table
+    /// that passes one is outside the domain (R2.5), and the one before it stays.
+    fn save(&mut self, list: u8, records: &[Record], memory: &mut Memory) -> Result<Done, Refused> {
+        assert!(self.all_equal(), "the model has the Rust's values at a save");
+        if let Some(cause) = image::full(records, memory.store.len()) {
+            self.rust.undo_save();
+            return Err((STORE_FULL, Some(cause)));
+        }
+        let image = image::of(records);
+        memory.store[..image.len()].copy_from_slice(&image);
+        Ok(Done::because(causes::of_save(list, records.is_empty())))
+    }
+
+    pub fn validate_pdo_mapping(&self, index: u16, count: u8) -> Result<Done, Refused> {
+        let cause = |answer| causes::of_count(&self.objects, index, count, answer);
+        let judged = self.rust.validate_pdo_mapping(index, count);
+        judged.map_err(|refusal| (refusal, cause(refusal)))?;
+        Ok(Done { cause: cause(0), ..Done::default() })
+    }
+}

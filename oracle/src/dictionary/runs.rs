@@ -1,0 +1,20 @@
+//! The runs: histories held against the port, and what they must reach.
+
+pub mod admission;
+pub mod asking;
+pub mod bounds;
+pub mod consumed;
+pub mod demand;
+pub mod faults;
+pub mod goals;
+pub mod histories;
+pub mod images;
+pub mod malice;
+pub mod restored;
+pub mod rooms;
+pub mod saves;
+pub mod shrink;
+pub mod trial;
+pub mod tried;
+pub mod whole;
+pub mod written;
