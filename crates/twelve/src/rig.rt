@@ -7,7 +7,6 @@ use loomfinch::EventRecord;
 use loomfinch::Fault;
 use loomfinch::Head;
 use loomfinch::Number;
-use loomfinch::Stored;
 use memory::Memory;
 
 // A mapping of one, two and four bytes onto 6000h.
@@ -98,19 +97,15 @@ fn are_stored(m: Memory, short: u64, long: u64) -> bool {
     is_number(m.read_u16(0x6000, 0), short) & is_number(m.read_u32(0x6200, 3), long)
 }
 
-// Is the byte at a place `wanted`, and every other of the 32 zero?
-fn one_byte(bytes: [u8; 1200], start: usize, place: usize, wanted: u8) -> bool {
-    let mut i: usize = 0;
-    while i < 32 {
+// Is the byte at a place `wanted`, and every other one 0?
+fn one_byte(part: &[u8], place: usize, wanted: u8) -> bool {
+    let mut i = 0;
+    while i < part.len() {
         let mut expected = 0;
         if i == place {
             expected = wanted;
         }
-        if 1200 <= start + i {
-            return false;
-        }
-        let at = start + i;
-        if bytes[at] != expected {
+        if part[i] != expected {
             return false;
         }
         i += 1;
@@ -120,14 +115,12 @@ fn one_byte(bytes: [u8; 1200], start: usize, place: usize, wanted: u8) -> bool {
 
 // All 32 bytes of an error object.
 fn error_is(m: Memory, index: u16, place: usize, wanted: u8) -> bool {
-    let Stored::Is { kind, word, start } = m.read(index, 0) else {
-        return false;
-    };
-    if 1200 < start {
-        return false;
-    }
+    let objects = m.objects;
+    let slots = m.slots;
+    let words = m.words;
     let bytes = m.bytes;
-    (kind == 12) & (word == 32) & one_byte(bytes, start as usize, place, wanted)
+    let part = loomfinch::read_part(&objects, &slots, &words, &bytes, index, 0);
+    (part.len() == 32) & one_byte(part, place, wanted)
 }
 
 // MapVersion, told of element 0.
