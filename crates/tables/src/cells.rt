@@ -1,62 +1,7 @@
-// Room for what a line gives, sums over memory, and numbers held against a line's.
-ghost use mathlib.Core.Path.{_≡_};
-ghost use Prim.Native.Nat.{_≤_};
-ghost use lib.ListN.{length};
-ghost use Rattle.tables.specs.Lines.{Counts};
-use crate::hex::next;
-use crate::hex::number;
+// Cells of the memory: one of them changed, and the sum over them.
+use lines::sum_of;
+use lines::sum_of_bytes;
 use memory::Memory;
-
-pub fn room() -> [u8; 4096]
-    ensures { λ r. ⌜ 4096 ≡ length r ⌝ }
-{
-    [0; 4096]
-}
-
-pub fn numbers() -> [u64; 1024]
-    ensures { λ r. ⌜ 1024 ≡ length r ⌝ }
-{
-    [0; 1024]
-}
-
-fn byte(xs: &[u8], i: usize) -> u64
-    ensures { λ r. ⌜ r ≤ 255 ⌝ }
-{
-    if i < xs.len() {
-        return xs[i] as u64;
-    }
-    0
-}
-
-// Numbers of two bytes each, the high one first.
-pub fn pairs(from: &[u8], out: &mut [u64]) -> usize
-    ensures { λ r. ⌜ Counts r (now (out .exit)) ⌝ }
-{
-    let mut n = 0;
-    while n < out.len() {
-        if from.len() < 2 * n + 2 {
-            return n;
-        }
-        out[n] = byte(from, 2 * n) * 256 + byte(from, 2 * n + 1);
-        n += 1;
-    }
-    n
-}
-
-// Puts the n numbers that start at `at` into `out`, as many as it has room for, and answers where the next token starts.
-pub fn listed(s: &[u8], at: usize, n: usize, out: &mut [u64]) -> usize {
-    let mut p = at;
-    let mut i = 0;
-    while i < out.len() {
-        if n <= i {
-            return p;
-        }
-        out[i] = number(s, p);
-        p = next(s, p);
-        i += 1;
-    }
-    p
-}
 
 fn set(xs: &mut [u64], place: usize, x: u64) -> bool {
     if place < xs.len() {
@@ -103,31 +48,6 @@ pub fn damage(before: Memory, slice: u64, place: usize, value: u64) -> Damaged {
     Damaged { memory, is_there }
 }
 
-// One element more of a sum.
-fn added(sum: u64, x: u64) -> u64 {
-    sum % 0x1_0000_0000 * 65599 + x % 0x1_0000_0000 + x / 0x1_0000_0000
-}
-
-fn sum_of(xs: &[u64], before: u64) -> u64 {
-    let mut sum = before;
-    let mut i = 0;
-    while i < xs.len() {
-        sum = added(sum, xs[i]);
-        i += 1;
-    }
-    sum
-}
-
-fn sum_of_bytes(xs: &[u8], before: u64) -> u64 {
-    let mut sum = before;
-    let mut i = 0;
-    while i < xs.len() {
-        sum = added(sum, byte(xs, i));
-        i += 1;
-    }
-    sum
-}
-
 // Over the dictionary.
 pub fn sum(m: Memory) -> u64 {
     let objects = m.objects;
@@ -141,22 +61,4 @@ pub fn sum(m: Memory) -> u64 {
 pub fn sum_with_store(m: Memory) -> u64 {
     let store = m.store;
     sum_of_bytes(&store, sum(m))
-}
-
-// Are the first n of the numbers those that start at `at`, and all behind them 0?
-pub fn are(s: &[u8], at: usize, all: &[u64], n: u64) -> bool {
-    let mut p = at;
-    let mut i = 0;
-    while i < all.len() {
-        let mut expected = 0;
-        if (i as u64) < n {
-            expected = number(s, p);
-        }
-        if all[i] != expected {
-            return false;
-        }
-        p = next(s, p);
-        i += 1;
-    }
-    n <= all.len() as u64
 }

@@ -1,10 +1,10 @@
 // The lines of histories that check channels and explain their elements. Zeros are lent, so that a number behind the results shows
 // where it is touched.
-use crate::cells::are;
-use crate::cells::numbers;
 use crate::dictionary::sub_at;
-use crate::hex::next;
-use crate::hex::number;
+use lines::are;
+use lines::next;
+use lines::number;
+use lines::numbers;
 use loomfinch::CheckedAll;
 use loomfinch::Explained;
 use memory::Memory;

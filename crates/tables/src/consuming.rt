@@ -1,18 +1,18 @@
 // The lines of histories that consume payloads and set error bits. An event list of zeros is lent: no event is 0, so that a
 // number behind the events shows where it is touched.
-use crate::cells::are;
-use crate::cells::listed;
-use crate::cells::numbers;
-use crate::cells::room;
 use crate::cells::sum;
 use crate::dictionary::index_at;
 use crate::dictionary::sub_at;
-use crate::hex::bytes;
-use crate::hex::next;
-use crate::hex::number;
 use crate::history::Turn;
-use crate::records::blank;
-use crate::records::say;
+use lines::are;
+use lines::blank;
+use lines::bytes;
+use lines::listed;
+use lines::next;
+use lines::number;
+use lines::numbers;
+use lines::room;
+use lines::say;
 use loomfinch::Consumed;
 use memory::Called;
 use memory::Logged;

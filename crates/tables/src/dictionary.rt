@@ -1,11 +1,11 @@
 // The lines of histories that insert, read, find, list and count.
-use crate::cells::numbers;
-use crate::cells::pairs;
-use crate::cells::room;
-use crate::codec::same;
-use crate::hex::bytes;
-use crate::hex::next;
-use crate::hex::number;
+use lines::bytes;
+use lines::next;
+use lines::number;
+use lines::numbers;
+use lines::pairs;
+use lines::room;
+use lines::same;
 use loomfinch::ByName;
 use loomfinch::Head;
 use loomfinch::Listed;

@@ -28,7 +28,6 @@ use crate::cells::sum_with_store;
 use crate::checking::channel_line;
 use crate::checking::channels_line;
 use crate::checking::element_line;
-use crate::codec;
 use crate::consuming::bit_line;
 use crate::consuming::consume_line;
 use crate::consuming::cycle_line;
@@ -38,12 +37,12 @@ use crate::dictionary::name_line;
 use crate::dictionary::nodes_line;
 use crate::dictionary::read_line;
 use crate::dictionary::typed_line;
-use crate::hex::last;
-use crate::hex::next;
-use crate::hex::number;
 use crate::storing::count_line;
 use crate::storing::restore_line;
 use crate::storing::write_line;
+use lines::last;
+use lines::next;
+use lines::number;
 use memory::Called;
 use memory::Memory;
 
@@ -69,16 +68,9 @@ fn turned(s: &[u8], at: usize, called: Called) -> Turn {
     Turn { memory, right }
 }
 
-// A line that asks, of the codec or of the memory as it is.
+// A line that asks of the memory as it is, or of the codec.
 fn asked(kind: u8, s: &[u8], at: usize, m: Memory) -> bool {
     match kind {
-        b'w' => codec::word_line(s, at),
-        b'f' => codec::field_line(s, at),
-        b'd' => codec::decode_line(s, at),
-        b'e' => codec::encode_line(s, at),
-        b'r' => codec::refused_line(s, at),
-        b't' => codec::text_line(s, at),
-        b'v' => codec::event_line(s, at),
         b'R' => read_line(s, at, m),
         b'U' => typed_line(s, at, m),
         b'F' => name_line(s, at, m),
@@ -89,7 +81,8 @@ fn asked(kind: u8, s: &[u8], at: usize, m: Memory) -> bool {
         b'X' => element_line(s, at, m),
         b'S' => sum(m) == number(s, at),
         b'T' => sum_with_store(m) == number(s, at),
-        _ => kind == b'#',
+        b'#' => true,
+        _ => lines::asked(kind, s, at),
     }
 }
 

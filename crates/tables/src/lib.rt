@@ -1,13 +1,10 @@
-// Tables of calls and the answers that they must give, a line each: those of the codec (codec.rt says their form) and histories,
-// whose lines call one dictionary and one store after another (history.rt). A line that begins with # says something to its reader.
+// Tables of calls and the answers that they must give, a line each: those of the codec (crate lines) and histories, whose lines call
+// one dictionary and one store after another (history.rt). A line that begins with # says something to its reader.
 mod cells;
 mod checking;
-mod codec;
 mod consuming;
 mod dictionary;
-mod hex;
 mod history;
-mod records;
 mod storing;
 mod tally;
 

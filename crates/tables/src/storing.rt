@@ -1,12 +1,12 @@
 // The lines of histories that write, save, restore and check a mapping's count. A line says how many bytes of the store it
 // lends.
 ghost use Prim.Native.Nat.{_≤_};
-use crate::cells::room;
 use crate::dictionary::index_at;
 use crate::dictionary::sub_at;
-use crate::hex::bytes;
-use crate::hex::next;
-use crate::hex::number;
+use lines::bytes;
+use lines::next;
+use lines::number;
+use lines::room;
 use loomfinch::Answer;
 use memory::Called;
 use memory::Memory;

@@ -1,7 +1,7 @@
 // How many lines of the tables were run, and how many differ.
 ghost use Rattle.tables.specs.Lines.{LineEnd};
-use crate::hex::next;
 use crate::history::take_turn;
+use lines::next;
 use memory::Memory;
 
 pub struct State {
