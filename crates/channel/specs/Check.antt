@@ -4,7 +4,7 @@ use mathlib.Core.Bool.{Bool, false, cond, _||_}
 use mathlib.Core.List.{List, [], _∷_}
 use lib.Dec.{eqb, ltb}
 use Rattle.answers.specs.declared.Refusal.the-variants.{Malformed}
-use Rattle.entry.specs.Table.{Dict, kindAt, countAt, firstAt, typeAt}
+use Rattle.entry.specs.Table.{Dict, kindAt, listCount, firstAt, typeAt}
 use Rattle.entry.specs.Find.{findRow}
 use Rattle.entry.specs.Judge.{wellFormed}
 use Rattle.entry.specs.declared.Found.{Found}
@@ -35,7 +35,7 @@ isFar (Upto e) = ltb 1490 e
 isFar Missing = false
 
 abbrev pub lastOf : Dict → ℕ → Checked
-lastOf d r = cond (isFar (endsFrom (d .slots) (d .words) (countAt (d .objects) r) (firstAt (d .objects) r) 0)) TooFar Pass
+lastOf d r = cond (isFar (endsFrom (d .slots) (d .words) (listCount (d .objects) r) (firstAt (d .objects) r) 0)) TooFar Pass
 
 abbrev pub onElements : Dict → ℕ → Checked
 onElements d r = faultFrom (d .objects) (d .slots) (firstAt (d .objects) r) (listIn (d .objects) (d .words) r) 0 (lastOf d r)
@@ -43,7 +43,7 @@ onElements d r = faultFrom (d .objects) (d .slots) (firstAt (d .objects) r) (lis
 -- NoList: "1600h+i is not a list of at least one element"
 abbrev pub onList : Dict → Found → Checked
 onList d Nothing = NoList
-onList d (At r) = cond (eqb (kindAt (d .objects) r) 0 || eqb (countAt (d .objects) r) 0) NoList (onElements d r)
+onList d (At r) = cond (eqb (kindAt (d .objects) r) 0 || eqb (listCount (d .objects) r) 0) NoList (onElements d r)
 
 -- R12.3: "A U8 of 0 or 240 at 1400h+i/1 gives sender 240, any other value gives itself; an earlier channel that matches that sender takes it."
 abbrev pub senderFor : ℕ → ℕ

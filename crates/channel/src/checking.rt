@@ -66,7 +66,7 @@ fn check_elements(objects: &[u64], slots: &[u64], words: &[u64], bytes: &[u8], r
     ensures { λ c. ⌜ c ≡ onElements (dict (now (objects .entry)) (now (slots .entry)) (now (words .entry)) (now (bytes .entry))) r ⌝ }
 {
     let first = entry::first_at(objects, r) as usize;
-    let n = entry::count_at(objects, r) as usize;
+    let n = entry::list_count(objects, r) as usize;
     if is_far(pdo_validator::ends(slots, words, n, first)) {
         return first_fault(objects, slots, words, first, n, Checked::TooFar);
     }
@@ -80,7 +80,7 @@ fn check_list(objects: &[u64], slots: &[u64], words: &[u64], bytes: &[u8], index
     let Found::At(r) = entry::find(objects, index) else {
         return Checked::NoList;
     };
-    if (entry::kind_at(objects, r) == 0) | (entry::count_at(objects, r) == 0) {
+    if (entry::kind_at(objects, r) == 0) | (entry::list_count(objects, r) == 0) {
         return Checked::NoList;
     }
     check_elements(objects, slots, words, bytes, r)

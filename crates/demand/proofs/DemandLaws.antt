@@ -9,7 +9,7 @@ use lib.Dec.{eqb}
 use lib.ListN.{length}
 use Rattle.lists.specs.Numbers.{Bytes}
 use Rattle.answers.specs.declared.Refusal.the-variants.{Malformed}
-use Rattle.entry.specs.Table.{Dict, kindAt, countAt, firstAt, typeAt}
+use Rattle.entry.specs.Table.{Dict, kindAt, listCount, firstAt, typeAt}
 use Rattle.entry.specs.Find.{findRow}
 use Rattle.entry.specs.Judge.{wellFormed}
 use Rattle.entry.specs.Put.{contents}
@@ -40,9 +40,9 @@ pub record Passed (d : Dict) (i : ℕ) : Type 0 where
   pub row : ℕ
   pub found : findRow (d .objects) (0x1600 + i) ≡ At row
   pub list : eqb (kindAt (d .objects) row) 0 ≡ false
-  pub some : eqb (countAt (d .objects) row) 0 ≡ false
+  pub some : eqb (listCount (d .objects) row) 0 ≡ false
   pub clean : AllClean (d .objects) (d .slots) (firstAt (d .objects) row) (listIn (d .objects) (d .words) row) 0
-  pub near : isFar (endsFrom (d .slots) (d .words) (countAt (d .objects) row) (firstAt (d .objects) row) 0) ≡ false
+  pub near : isFar (endsFrom (d .slots) (d .words) (listCount (d .objects) row) (firstAt (d .objects) row) 0) ≡ false
 
 -- a list without a fault is clean, and what comes last is the answer
 pub record NoFault (objects slots : List ℕ) (p : ℕ) (ws : List ℕ) (j : ℕ) (last : Checked) : Type 0 where
@@ -65,23 +65,23 @@ passed d i e = well (wellFormed d) refl e
     x : ℕ
     x = 0x1600 + i
 
-    ends : (w : wellFormed d ≡ true) (v : ℕ) → u8At d (commIndex i) 1 ≡ At v → firstMatch d (senderFor v) ≡ At i → (r : ℕ) → findRow (d .objects) x ≡ At r → eqb (kindAt (d .objects) r) 0 ≡ false → eqb (countAt (d .objects) r) 0 ≡ false
+    ends : (w : wellFormed d ≡ true) (v : ℕ) → u8At d (commIndex i) 1 ≡ At v → firstMatch d (senderFor v) ≡ At i → (r : ℕ) → findRow (d .objects) x ≡ At r → eqb (kindAt (d .objects) r) 0 ≡ false → eqb (listCount (d .objects) r) 0 ≡ false
         → AllClean (d .objects) (d .slots) (firstAt (d .objects) r) (listIn (d .objects) (d .words) r) 0
-        → (b : Bool) → isFar (endsFrom (d .slots) (d .words) (countAt (d .objects) r) (firstAt (d .objects) r) 0) ≡ b → cond b TooFar Pass ≡ Pass → Passed d i
+        → (b : Bool) → isFar (endsFrom (d .slots) (d .words) (listCount (d .objects) r) (firstAt (d .objects) r) 0) ≡ b → cond b TooFar Pass ≡ Pass → Passed d i
     ends w v s m r f k n c true q e = let z : _≡_ {A = ℕ} 0 1 = cc in absurd (omega arith)
     ends w v s m r f k n c false q e = record { well = w; value = v; sender = s; first = m; row = r; found = f; list = k; some = n; clean = c; near = q }
 
-    some-of : (w : wellFormed d ≡ true) (v : ℕ) → u8At d (commIndex i) 1 ≡ At v → firstMatch d (senderFor v) ≡ At i → (r : ℕ) → findRow (d .objects) x ≡ At r → (a b : Bool) → eqb (kindAt (d .objects) r) 0 ≡ a → eqb (countAt (d .objects) r) 0 ≡ b
+    some-of : (w : wellFormed d ≡ true) (v : ℕ) → u8At d (commIndex i) 1 ≡ At v → firstMatch d (senderFor v) ≡ At i → (r : ℕ) → findRow (d .objects) x ≡ At r → (a b : Bool) → eqb (kindAt (d .objects) r) 0 ≡ a → eqb (listCount (d .objects) r) 0 ≡ b
         → cond (a || b) NoList (onElements d r) ≡ Pass → Passed d i
     some-of w v s m r f true b k n e = let z : _≡_ {A = ℕ} 0 1 = cc in absurd (omega arith)
     some-of w v s m r f false true k n e = let z : _≡_ {A = ℕ} 0 1 = cc in absurd (omega arith)
     some-of w v s m r f false false k n e =
         let q = no-fault (d .objects) (d .slots) (firstAt (d .objects) r) (listIn (d .objects) (d .words) r) 0 (lastOf d r) e in
-        ends w v s m r f k n (q .clean) (isFar (endsFrom (d .slots) (d .words) (countAt (d .objects) r) (firstAt (d .objects) r) 0)) refl (q .passes)
+        ends w v s m r f k n (q .clean) (isFar (endsFrom (d .slots) (d .words) (listCount (d .objects) r) (firstAt (d .objects) r) 0)) refl (q .passes)
 
     list-of : (w : wellFormed d ≡ true) (v : ℕ) → u8At d (commIndex i) 1 ≡ At v → firstMatch d (senderFor v) ≡ At i → (g : Found) → findRow (d .objects) x ≡ g → onList d g ≡ Pass → Passed d i
     list-of w v s m Nothing f e = let z : _≡_ {A = ℕ} 0 1 = cc in absurd (omega arith)
-    list-of w v s m (At r) f e = some-of w v s m r f (eqb (kindAt (d .objects) r) 0) (eqb (countAt (d .objects) r) 0) refl refl e
+    list-of w v s m (At r) f e = some-of w v s m r f (eqb (kindAt (d .objects) r) 0) (eqb (listCount (d .objects) r) 0) refl refl e
 
     same : (w : wellFormed d ≡ true) (v : ℕ) → u8At d (commIndex i) 1 ≡ At v → (j : ℕ) → firstMatch d (senderFor v) ≡ At j → (b : Bool) → eqb j i ≡ b → cond b (onList d (findRow (d .objects) x)) NoSender ≡ Pass → Passed d i
     same w v s j m true q e = list-of w v s (m ∙ ap At (eqb-true j i q)) (findRow (d .objects) x) refl e

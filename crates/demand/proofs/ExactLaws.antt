@@ -11,13 +11,13 @@ use lib.ListN.{length, drop, getD, replicate, length-replicate, length-drop}
 use lib.Seq.{length-take-le, getD-take, getD-drop}
 use Rattle.lists.specs.Numbers.{Bytes}
 use Rattle.mapping.specs.Word.{entryOf, endOf}
-use Rattle.entry.specs.Table.{Dict, countAt, firstAt, typeAt}
+use Rattle.entry.specs.Table.{Dict, listCount, firstAt, typeAt}
 use Rattle.entry.specs.Find.{findRow}
 use Rattle.entry.specs.Judge.{wellFormed}
 use Rattle.entry.specs.Put.{Contents, contents}
 use Rattle.entry.specs.declared.Found.{Found}
 use Rattle.entry.specs.declared.Found.the-variants.{At, Nothing}
-use Rattle.entry.proofs.ValueLaws.{found-lies}
+use Rattle.entry.proofs.ValueLaws.{list-count-le, found-lies}
 use Rattle.pdo_validator.specs.Counting.{endsFrom}
 use Rattle.pdo_validator.proofs.CountLaws.{elements-lie}
 use Rattle.pdo_channel.specs.Channel.{u8At, matchesIn, commIndex, channelFrom, firstMatch, orZero, expectedOf}
@@ -53,16 +53,16 @@ unfolding faultFrom
 clean-last objects slots p [] j last c = refl
 clean-last objects slots p (w ∷ ws) j last c = rw (c .0) (clean-last objects slots p ws (j + 1) last (c .1))
 
--- ---- the list in a row: as many words as elements, and where they lie
+-- ---- the list in a row: as many words as elements are used, and where they lie
 module _ (d : Dict) (e : wellFormed d ≡ true) (x r : ℕ) (f : findRow (d .objects) x ≡ At r) where
   abbrev n : ℕ
-  n = countAt (d .objects) r
+  n = listCount (d .objects) r
 
   abbrev p : ℕ
   p = firstAt (d .objects) r
 
   inside : p + n ≤ length (d .words)
-  inside = elements-lie d e r n (found-lies d e x r f .below) (omega arith) .worded
+  inside = elements-lie d e r n (found-lies d e x r f .below) (list-count-le d e r (found-lies d e x r f .below)) .worded
 
   pub list-length : length (listIn (d .objects) (d .words) r) ≡ n
   list-length = length-take-le n (drop p (d .words)) (rw length-drop (omega (arith, inside)))
@@ -174,6 +174,6 @@ demand-pass d i e t =
     let m = list-most d e (0x1600 + i) r (t .found) c in
     let long = list-length d e (0x1600 + i) r (t .found) in
     let few : m .end ≤ 1490 = m .least 1490 (omega arith) (λ k h. rw (sym (list-word d e (0x1600 + i) r (t .found) k h)) (omega (arith, a .short, long-at (d .objects) (d .slots) (x .payload) p ws 0 c (a .long) k (omega (arith, long, h))))) in
-    let near : isFar (endsFrom (d .slots) (d .words) (countAt (d .objects) r) p 0) ≡ false = ap isFar (m .is) ∙ le-ltb 1490 (m .end) few in
+    let near : isFar (endsFrom (d .slots) (d .words) (listCount (d .objects) r) p 0) ≡ false = ap isFar (m .is) ∙ le-ltb 1490 (m .end) few in
     let first : firstMatch d (senderFor (s .value)) ≡ At i = ap (firstMatch d) (s .same) ∙ a .first in
     simp (e, s .sender, first, eq-eqb i i refl, t .found, t .list, t .some) (clean-last (d .objects) (d .slots) p ws 0 (lastOf d r) c ∙ rw near)

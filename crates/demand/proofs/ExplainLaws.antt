@@ -11,6 +11,7 @@ use Rattle.entry.specs.Table.{Dict, kindAt, countAt, firstAt, typeAt}
 use Rattle.entry.specs.Find.{subAt}
 use Rattle.entry.specs.declared.Place.{Place}
 use Rattle.entry.specs.declared.Place.the-variants.{Value}
+use Rattle.entry.proofs.ValueLaws.{list-count-le, found-lies}
 use Rattle.element.specs.declared.Fault.{Fault}
 use Rattle.element.specs.declared.Fault.the-variants.{NotMapping}
 use Rattle.element.specs.declared.Verdict.the-variants.{Faulty}
@@ -44,6 +45,7 @@ named-explained d i k v e =
     let l = n .listed in
     let p = firstAt (d .objects) (l .row) + n .fault .place in
     let long = list-length d (l .well) (0x1600 + i) (l .row) (l .found) in
+    let used = list-count-le d (l .well) (l .row) (found-lies d (l .well) (0x1600 + i) (l .row) (l .found) .below) in
     let word = list-word d (l .well) (0x1600 + i) (l .row) (l .found) (n .fault .place) (omega (arith, long, n .fault .below)) in
-    let there = element-there (d .objects) (l .row) k (n .fault .place) (l .list) (n .element) (omega (arith, long, n .fault .below)) in
+    let there = element-there (d .objects) (l .row) k (n .fault .place) (l .list) (n .element) (omega (arith, long, n .fault .below, used)) in
     rw (l .well, l .found, l .list) (ap (λ (q : Place). saidOf (ofPlace d q)) there ∙ said-element (d .objects) (d .slots) (typeAt (d .slots) p) (getD (d .words) p 0) ∙ rw (sym word) (n .fault .verdict))

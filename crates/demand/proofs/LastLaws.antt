@@ -17,7 +17,7 @@ use Rattle.entry.specs.Judge.{wellFormed}
 use Rattle.entry.specs.Put.{contents}
 use Rattle.entry.specs.declared.Found.the-variants.{At}
 use Rattle.entry.specs.declared.Place.the-variants.{Value}
-use Rattle.entry.proofs.ValueLaws.{Element, element-of}
+use Rattle.entry.proofs.ValueLaws.{list-count-le, found-lies, Element, element-of}
 use Rattle.pdo_run.specs.Run.{frame, listIn}
 use Rattle.pdo_handler.specs.Consume.{consumedBy}
 use Rattle.element.specs.declared.Verdict.the-variants.{Clean}
@@ -89,10 +89,11 @@ module _ (d d′ : Dict) where
       let l = k .list in
       let same : l .row ≡ r = cc in
       let long = list-length d (s .well) (0x1600 + i) (s .row) (s .found) in
+      let used = list-count-le d (s .well) (s .row) (found-lies d (s .well) (0x1600 + i) (s .row) (s .found) .below) in
       let c : AllClean (d′ .objects) (d′ .slots) (firstAt (d′ .objects) (l .row)) (listIn (d′ .objects) (d′ .words) (l .row)) 0 =
       rw (k .words)
       (kept-clean (firstAt (d .objects) (s .row)) (firstAt (d′ .objects) (l .row)) (listIn (d .objects) (d .words) (s .row)) 0
-      (λ m h. let z : 0 + m ≡ m = omega arith in rw z (l .types m (omega (arith, h, long)))) (λ m h. k .targets m (omega (arith, h, long))) (s .clean)) in
+      (λ m h. let z : 0 + m ≡ m = omega arith in rw z (l .types m (omega (arith, h, long, used)))) (λ m h. k .targets m (omega (arith, h, long))) (s .clean)) in
       let f = frame (d′ .objects) (d′ .slots) payload sender m in
       let clean = subst (λ r. AllClean (d′ .objects) (d′ .slots) (firstAt (d′ .objects) r) (listIn (d′ .objects) (d′ .words) r) 0) same c in
       let kind : kindAt (d′ .objects) r ≡ kindAt (d .objects) (s .row) = ap (kindAt (d′ .objects)) (sym same) ∙ l .kind in

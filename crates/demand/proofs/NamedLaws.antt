@@ -9,7 +9,7 @@ use native.Mathlib.Omega.{arith}
 use borrow.Author.Tests.{eq-eqb, eqb-true, ltb-true}
 use lib.Dec.{eqb}
 use lib.ListN.{length, getD}
-use Rattle.entry.specs.Table.{Dict, kindAt, countAt, firstAt, typeAt}
+use Rattle.entry.specs.Table.{Dict, kindAt, listCount, firstAt, typeAt}
 use Rattle.entry.specs.Find.{findRow}
 use Rattle.entry.specs.Judge.{wellFormed}
 use Rattle.entry.specs.declared.Found.{Found}
@@ -105,7 +105,7 @@ module _ (d : Dict) (i : ℕ) where
             let z : _≡_ {A = ℕ} 0 1 = cc in absurd (omega arith);
       }
 
-  reaches : (l : Listed d i) → AllClean (d .objects) (d .slots) (listStart d (l .row)) (listWords d (l .row)) 0 → isFar (endsFrom (d .slots) (d .words) (countAt (d .objects) (l .row)) (listStart d (l .row)) 0) ≡ true → Reaches d i
+  reaches : (l : Listed d i) → AllClean (d .objects) (d .slots) (listStart d (l .row)) (listWords d (l .row)) 0 → isFar (endsFrom (d .slots) (d .words) (listCount (d .objects) (l .row)) (listStart d (l .row)) 0) ≡ true → Reaches d i
   reaches l c h =
       record {
         listed = l;
@@ -127,15 +127,15 @@ module _ (d : Dict) (i : ℕ) where
       s : Bool
       s = hasSender d i (u8At d (commIndex i) 1)
 
-      last : s ≡ true → (l : Listed d i) → FaultlessIn l → (b : Bool) → isFar (endsFrom (d .slots) (d .words) (countAt (d .objects) (l .row)) (firstAt (d .objects) (l .row)) 0) ≡ b → Says d i
+      last : s ≡ true → (l : Listed d i) → FaultlessIn l → (b : Bool) → isFar (endsFrom (d .slots) (d .words) (listCount (d .objects) (l .row)) (firstAt (d .objects) (l .row)) 0) ≡ b → Says d i
       last h l f true q = far (reaches l (f .clean) q) (simp (l .well, h, l .found, l .list, l .some) (f .is ∙ rw q))
       last h l f false q = let e : checkOf d i ≡ Pass = simp (l .well, h, l .found, l .list, l .some) (f .is ∙ rw q) in passes (λ b. pass-demand d i b e) e
 
       elements : s ≡ true → (l : Listed d i) → FaultIn l ⊎ FaultlessIn l → Says d i
       elements h l (inl f) = let n : 0 + f .place ≡ f .place = omega arith in named (f .place + 1) (f .fault) (first-fault l f) (simp (l .well, h, l .found, l .list, l .some) (rw n at (f .is)))
-      elements h l (inr f) = last h l f (isFar (endsFrom (d .slots) (d .words) (countAt (d .objects) (l .row)) (firstAt (d .objects) (l .row)) 0)) refl
+      elements h l (inr f) = last h l f (isFar (endsFrom (d .slots) (d .words) (listCount (d .objects) (l .row)) (firstAt (d .objects) (l .row)) 0)) refl
 
-      some-of : wellFormed d ≡ true → s ≡ true → (r : ℕ) → findRow (d .objects) x ≡ At r → (a b : Bool) → eqb (kindAt (d .objects) r) 0 ≡ a → eqb (countAt (d .objects) r) 0 ≡ b → Says d i
+      some-of : wellFormed d ≡ true → s ≡ true → (r : ℕ) → findRow (d .objects) x ≡ At r → (a b : Bool) → eqb (kindAt (d .objects) r) 0 ≡ a → eqb (listCount (d .objects) r) 0 ≡ b → Says d i
       some-of w h r f true b k n = listless (record { well = w; sent = a-sender d i w h; none = λ q g. let u : r ≡ q = cc in rw (← u, k) }) (simp (w, h, f, k))
       some-of w h r f false true k n = listless (record { well = w; sent = a-sender d i w h; none = λ q g. let u : r ≡ q = cc in rw (← u, k, n) }) (simp (w, h, f, k, n))
       some-of w h r f false false k n =
@@ -144,7 +144,7 @@ module _ (d : Dict) (i : ℕ) where
 
       list : wellFormed d ≡ true → s ≡ true → (g : Found) → findRow (d .objects) x ≡ g → Says d i
       list w h Nothing f = listless (record { well = w; sent = a-sender d i w h; none = λ r g. let z : _≡_ {A = ℕ} 0 1 = cc in absurd (omega arith) }) (simp (w, h, f))
-      list w h (At r) f = some-of w h r f (eqb (kindAt (d .objects) r) 0) (eqb (countAt (d .objects) r) 0) refl refl
+      list w h (At r) f = some-of w h r f (eqb (kindAt (d .objects) r) 0) (eqb (listCount (d .objects) r) 0) refl refl
 
       sender : wellFormed d ≡ true → (b : Bool) → s ≡ b → Says d i
       sender w true h = list w h (findRow (d .objects) x) refl

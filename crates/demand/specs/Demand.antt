@@ -11,7 +11,7 @@ use Rattle.text.specs.Machine.{judge}
 use Rattle.mapping.specs.Word.{entryOf, fieldOf, endOf}
 use Rattle.mapping.specs.declared.Field.{Field}
 use Rattle.mapping.specs.declared.Field.the-variants as field
-use Rattle.entry.specs.Table.{Dict, kindAt, countAt, firstAt, typeAt, roomAt}
+use Rattle.entry.specs.Table.{Dict, kindAt, listCount, firstAt, typeAt, roomAt}
 use Rattle.entry.specs.Find.{findRow, placeOf}
 use Rattle.entry.specs.Put.{Contents, contents, putIn}
 use Rattle.entry.specs.Encode.{encodingIn}
@@ -97,7 +97,7 @@ pub record Demand (d : Dict) (i : ℕ) : Type 0 where
   pub row : ℕ
   pub found : findRow (d .objects) (0x1600 + i) ≡ At row
   pub list : eqb (kindAt (d .objects) row) 0 ≡ false
-  pub some : eqb (countAt (d .objects) row) 0 ≡ false
+  pub some : eqb (listCount (d .objects) row) 0 ≡ false
   pub exists : Admits d i row
   pub all : (payload : List ℕ) → Bytes payload → (sender version : ℕ) (ready : Bool) (k : ℕ) → Admitted d i row payload sender version ready
       → Written (frame (d .objects) (d .slots) payload sender k) (contents (d .words) (d .bytes)) version ready (firstAt (d .objects) row) (listIn (d .objects) (d .words) row)

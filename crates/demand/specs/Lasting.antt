@@ -6,7 +6,7 @@ use mathlib.Core.List.{List, [], _∷_}
 use lib.ListN.{getD}
 use Rattle.lists.specs.Numbers.{Bytes}
 use Rattle.mapping.specs.Word.{entryOf}
-use Rattle.entry.specs.Table.{Dict, kindAt, countAt, firstAt, typeAt, roomAt}
+use Rattle.entry.specs.Table.{Dict, kindAt, countAt, listCount, firstAt, typeAt, roomAt}
 use Rattle.entry.specs.Find.{findRow, placeOf}
 use Rattle.entry.specs.Put.{contents, filled}
 use Rattle.entry.specs.declared.Found.the-variants.{At}
@@ -49,7 +49,7 @@ pub record SameTarget (d d′ : Dict) (x sub p : ℕ) : Type 0 where
 pub record KeepsList (d d′ : Dict) (i r : ℕ) : Type 0 where
   pub list : SameRow d d′ (0x1600 + i) r
   pub words : listIn (d′ .objects) (d′ .words) (list .row) ≡ listIn (d .objects) (d .words) r
-  pub targets : (k : ℕ) → k < countAt (d .objects) r
+  pub targets : (k : ℕ) → k < listCount (d .objects) r
       → let e = entryOf (getD (listIn (d .objects) (d .words) r) k 0) in (p : ℕ) → placeOf (d .objects) (e .index) (e .«sub_index») ≡ Value p → SameTarget d d′ (e .index) (e .«sub_index») p
 
 abbrev pub Keeps : Dict → Dict → ℕ → Type 0

@@ -7,7 +7,7 @@ use lib.Dec.{eqb}
 use lib.ListN.{length, getD}
 use Rattle.lists.specs.Numbers.{Bytes}
 use Rattle.answers.specs.declared.Refusal.the-variants.{Malformed}
-use Rattle.entry.specs.Table.{Dict, kindAt, countAt, firstAt, typeAt}
+use Rattle.entry.specs.Table.{Dict, kindAt, listCount, firstAt, typeAt}
 use Rattle.entry.specs.Find.{findRow}
 use Rattle.entry.specs.Judge.{wellFormed}
 use Rattle.entry.specs.Put.{Contents}
@@ -58,7 +58,7 @@ pub record Sender (d : Dict) (i : ℕ) : Type 0 where
 pub record Unlisted (d : Dict) (i : ℕ) : Type 0 where
   pub well : wellFormed d ≡ true
   pub sent : Sender d i
-  pub none : (r : ℕ) → findRow (d .objects) (0x1600 + i) ≡ At r → (eqb (kindAt (d .objects) r) 0 || eqb (countAt (d .objects) r) 0) ≡ true
+  pub none : (r : ℕ) → findRow (d .objects) (0x1600 + i) ≡ At r → (eqb (kindAt (d .objects) r) 0 || eqb (listCount (d .objects) r) 0) ≡ true
 
 -- and else it is one, in this row
 pub record Listed (d : Dict) (i : ℕ) : Type 0 where
@@ -67,7 +67,7 @@ pub record Listed (d : Dict) (i : ℕ) : Type 0 where
   pub row : ℕ
   pub found : findRow (d .objects) (0x1600 + i) ≡ At row
   pub list : eqb (kindAt (d .objects) row) 0 ≡ false
-  pub some : eqb (countAt (d .objects) row) 0 ≡ false
+  pub some : eqb (listCount (d .objects) row) 0 ≡ false
 
 -- ---- "The first fault": the element at this place, from 0, has it, and none before it has one
 pub record FirstFault (d : Dict) (r : ℕ) (v : Fault) : Type 0 where

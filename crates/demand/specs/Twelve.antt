@@ -15,8 +15,8 @@ use Rattle.value.specs.declared.Decoded.the-variants.{Value}
 use Rattle.value.specs.declared.ObjectValue.the-variants.{Integer16}
 use Rattle.value.specs.Meaning.{readings}
 use Rattle.value.specs.Codec.{sizeOf, wordAt, textWord, decodeOf}
-use Rattle.entry.specs.Model.{Val, Obj, allObjects, allSlots, allWords, allBytes, rowsOf, slotsOf, wordsOf, rooms}
-use Rattle.entry.specs.Table.{Dict, dict}
+use Rattle.entry.specs.Model.{Val, Obj, noExtra, allObjects, allSlots, allWords, allBytes, rowsOf, slotsOf, wordsOf, rooms}
+use Rattle.entry.specs.Table.{Dict, dict, listCount}
 use Rattle.entry.specs.Find.{findFrom, subAt}
 use Rattle.entry.specs.Put.{contents, putIn}
 use Rattle.pdo_step.specs.Outcomes.{outcomeOf, onIndex, onCount}
@@ -31,8 +31,8 @@ use Rattle.channel.specs.declared.Checked.{Checked}
 use Rattle.channel.specs.declared.Checked.the-variants.{Pass, Element}
 use Rattle.element.specs.Elements.{wordVerdict}
 use Rattle.channel.specs.Check.{faultFrom, checkOf}
-use Rattle.entry.specs.Rules.{wordOk, valOk, heldOk, headOk}
-use Rattle.entry.specs.Judge.{slotOk, slotsFrom, rowReserved, rowOk, rowFits, rowsFrom, reserved, headerOk, wellFormed}
+use Rattle.entry.specs.Rules.{wordOk, valOk, heldOk, headOk, extraOk, isEdition}
+use Rattle.entry.specs.Judge.{slotOk, slotsFrom, rowOk, rowFits, rowsFrom, reserved, headerOk, wellFormed}
 
 -- ---- the set-up of R14.2, with the first mapping word as a case has it
 abbrev pub value : ℕ → ℕ → Val
@@ -40,7 +40,7 @@ value t w = record { type = t; word = w; room = [] }
 
 -- no name, access absent
 abbrev pub object : ℕ → ℕ → ℕ → List Val → Obj
-object x kind default vs = record { index = x; kind = kind; access = 7; default = default; name = []; values = vs }
+object x kind default vs = record { index = x; kind = kind; access = 7; default = default; extra = noExtra; name = []; values = vs }
 
 abbrev zeros : List ℕ
 zeros = 0 ∷ 0 ∷ 0 ∷ 0 ∷ 0 ∷ 0 ∷ 0 ∷ 0 ∷ 0 ∷ 0 ∷ 0 ∷ 0 ∷ 0 ∷ 0 ∷ 0 ∷ 0 ∷ 0 ∷ 0 ∷ 0 ∷ 0 ∷ 0 ∷ 0 ∷ 0 ∷ 0 ∷ 0 ∷ 0 ∷ 0 ∷ 0 ∷ 0 ∷ 0 ∷ 0 ∷ 0 ∷ []
@@ -55,7 +55,7 @@ setUp w =
     ∷ []
 
 abbrev pub laid : ℕ → Dict
-laid w = dict (allObjects (setUp w)) (allSlots 0 (setUp w)) (allWords (setUp w)) (allBytes (setUp w))
+laid w = dict (allObjects 1 (setUp w)) (allSlots 0 (setUp w)) (allWords (setUp w)) (allBytes (setUp w))
 
 -- ---- what a case asks of the definitions, and what they answer
 pub data Asked : Type 0 where
@@ -129,10 +129,10 @@ each f (c ∷ cs) = f c ∷ each f cs
 
 -- ---- the theorem
 pub twelve : each answers table ≡ each wants table
-unfolding answers wants each entryOf fieldOf decodeOf wordAt textWord sizeOf number readings markedIn bitAt consumedBy channelFrom runFrom actOf applied outcomeOf onIndex onCount findFrom subAt putIn over checkOf wellFormed headerOk reserved rowsFrom rowFits rowOk rowReserved slotsFrom slotOk headOk heldOk valOk wordOk judgeAt faultFrom wordVerdict endsFrom allSlots allWords allBytes rowsOf slotsOf wordsOf rooms
+unfolding answers wants each entryOf fieldOf decodeOf wordAt textWord sizeOf number readings markedIn bitAt consumedBy channelFrom runFrom actOf applied outcomeOf onIndex onCount findFrom subAt listCount putIn over checkOf wellFormed headerOk reserved rowsFrom rowFits rowOk extraOk isEdition slotsFrom slotOk headOk heldOk valOk wordOk judgeAt faultFrom wordVerdict endsFrom allSlots allWords allBytes rowsOf slotsOf wordsOf rooms
 twelve = refl
 
 -- and case 8's channel passes: the check refuses no right one
 pub mended : checkOf (laid 0x0010000000006000) 0 ≡ Pass
-unfolding entryOf fieldOf textWord sizeOf channelFrom findFrom subAt checkOf wellFormed headerOk reserved rowsFrom rowFits rowOk rowReserved slotsFrom slotOk headOk heldOk valOk wordOk judgeAt faultFrom wordVerdict endsFrom allSlots allWords allBytes rowsOf slotsOf wordsOf rooms
+unfolding entryOf fieldOf textWord sizeOf channelFrom findFrom subAt listCount checkOf wellFormed headerOk reserved rowsFrom rowFits rowOk extraOk isEdition slotsFrom slotOk headOk heldOk valOk wordOk judgeAt faultFrom wordVerdict endsFrom allSlots allWords allBytes rowsOf slotsOf wordsOf rooms
 mended = refl

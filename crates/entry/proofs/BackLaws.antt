@@ -13,9 +13,9 @@ use lib.Seq.{drop-drop, getD-drop, take-append-seam, drop-append-seam}
 use Rattle.text.specs.Machine.{judge}
 use Rattle.lists.specs.Lists.{over}
 use Rattle.entry.specs.Model.{Val, Obj, rooms, wordsOf, slotsOf, used, size, bytesOf, rowsOf, header, allObjects, allSlots, allWords, allBytes}
-use Rattle.entry.specs.Table.{Dict, Lies, modelOf, valsFrom, objsFrom, valuesOf, usedOf, typeAt, startAt, roomAt}
-use Rattle.entry.specs.Rules.{isGood, heldOk, valsOk, headOk, objsOk, Few}
-use Rattle.entry.specs.Judge.{Sound, slotOk, slotsFrom, rowReserved, rowOk, rowFits, rowsFrom, reserved, headerOk, wellFormed}
+use Rattle.entry.specs.Table.{editionOf, Dict, Lies, modelOf, valsFrom, objsFrom, valuesOf, usedOf, typeAt, startAt, roomAt}
+use Rattle.entry.specs.Rules.{isEdition, extraOk, isGood, heldOk, valsOk, headOk, objsOk, Few}
+use Rattle.entry.specs.Judge.{Sound, slotOk, slotsFrom, rowOk, rowFits, rowsFrom, reserved, headerOk, wellFormed}
 use Rattle.entry.specs.declared.Sum.the-variants as sum
 use Rattle.entry.specs.declared.Walk.the-variants as walk
 use Rattle.entry.proofs.JudgeLaws.{and-true, held-room}
@@ -104,10 +104,10 @@ record ObjThere (d : Dict) (o : Obj) (os : List Obj) (i v b : ℕ) (w x y z : Li
   name : getD (d .objects) (12 * i + 17) 0 ≡ b
   len : getD (d .objects) (12 * i + 18) 0 ≡ length (o .name)
   flag : getD (d .objects) (12 * i + 19) 0 ≡ o .default
-  zero₀ : getD (d .objects) (12 * i + 20) 0 ≡ 0
-  zero₁ : getD (d .objects) (12 * i + 21) 0 ≡ 0
-  zero₂ : getD (d .objects) (12 * i + 22) 0 ≡ 0
-  zero₃ : getD (d .objects) (12 * i + 23) 0 ≡ 0
+  zero₀ : getD (d .objects) (12 * i + 20) 0 ≡ o .extra .kept
+  zero₁ : getD (d .objects) (12 * i + 21) 0 ≡ o .extra .ranged
+  zero₂ : getD (d .objects) (12 * i + 22) 0 ≡ o .extra .low
+  zero₃ : getD (d .objects) (12 * i + 23) 0 ≡ o .extra .high
   text : take (length (o .name)) (drop b (d .bytes)) ≡ o .name
   values : ValsThere d (o .values) v (b + length (o .name)) (allSlots (b + size o) os ++ x) (allWords os ++ y) (allBytes os ++ z)
   rest : ObjsThere d os (suc i) (v + used o) (b + size o) w x y z
@@ -149,6 +149,7 @@ pub record FirstOk (low : ℕ) (o : Obj) (os : List Obj) : Type 0 where
   pub head : headOk (o .index) (o .kind) (o .access) (used o - o .default) (o .default) (length (o .name)) ≡ true
   pub flag : o .default ≤ used o
   pub text : isGood (judge (o .name)) ≡ true
+  pub extra : extraOk (used o - o .default) (o .extra) ≡ true
   pub values : valsOk (used o - o .default) (o .values) ≡ true
   pub rest : objsOk (o .index + 1) os ≡ true
 
@@ -160,7 +161,8 @@ first-ok low o os e =
     let a = and-true _ _ (y .0) in
     let b = and-true _ _ (a .1) in
     let c = and-true _ _ (b .1) in
-    record { rises = x .0; head = a .0; flag = leb-true _ _ (b .0); text = c .0; values = c .1; rest = y .1 }
+    let g = and-true _ _ (c .1) in
+    record { rises = x .0; head = a .0; flag = leb-true _ _ (b .0); text = c .0; extra = g .0; values = g .1; rest = y .1 }
 
 objs-back : (d : Dict) (os : List Obj) (i v b low : ℕ) {w x y z : List ℕ} → ObjsThere d os i v b w x y z → objsOk low os ≡ true → objsFrom d (length os) i ≡ os
 unfolding objsFrom
@@ -170,12 +172,12 @@ objs-back d (o ∷ os) i v b low t g =
     let k = first-ok low o os g in
     let c : (used o - o .default) + o .default ≡ used o = omega (arith, k .flag) in
     let r = objs-back d os (suc i) (v + used o) (b + size o) (o .index + 1) (h .rest) (k .rest) in
-    rw (h .index, h .kind, h .access, h .count, h .first, h .name, h .len, h .flag, h .text, c, vals-back d (o .values) v (b + length (o .name)) (h .values), r)
+    rw (h .index, h .kind, h .access, h .count, h .first, h .name, h .len, h .flag, h .zero₀, h .zero₁, h .zero₂, h .zero₃, h .text, c, vals-back d (o .values) v (b + length (o .name)) (h .values), r)
 
 rows-right : (d : Dict) (os : List Obj) (i v b low : ℕ) {w x y z : List ℕ} → ObjsThere d os i v b w x y z → objsOk low os ≡ true
     → v + length (allWords os) ≤ valuesOf (d .objects) → b + length (allBytes os) ≤ usedOf (d .objects)
     → rowsFrom d (length os) i v b low ≡ walk.Whole (v + length (allWords os)) (b + length (allBytes os))
-unfolding rowsFrom rowOk rowReserved rowFits allWords allBytes
+unfolding rowsFrom rowOk rowFits allWords allBytes
 rows-right d [] i v b low t g m n = rw (add-zero, add-zero)
 rows-right d (o ∷ os) i v b low t g m n =
     let h = obj-there d o os i v b t in
@@ -194,17 +196,17 @@ rows-right d (o ∷ os) i v b low t g m n =
     let f₁ : (v + used o) + length (allWords os) ≡ v + length (wordsOf (o .values) ++ allWords os) = omega arith in
     let f₂ : (b + size o) + length (allBytes os) ≡ b + length (bytesOf o ++ allBytes os) = omega arith in
     let f₃ : (b + length (o .name)) + length (rooms (o .values)) ≡ b + size o = omega arith in
-    rw (h .index, h .kind, h .access, h .count, h .first, h .name, h .len, h .flag, h .zero₀, h .zero₁, h .zero₂, h .zero₃, k .rises, k .head, e₁, e₂, c, e₃, e₄, h .text, k .text, s, f₃)
+    rw (h .index, h .kind, h .access, h .count, h .first, h .name, h .len, h .flag, h .zero₀, h .zero₁, h .zero₂, h .zero₃, k .rises, k .head, k .extra, e₁, e₂, c, e₃, e₄, h .text, k .text, s, f₃)
     (rw (f₁, f₂) at r)
 
 -- ---- the whole memory
 long : (s l : List ℕ) → over s 0 l ≡ s → length l ≤ length s
 long s l e = omega (arith, ap length (begins s l e), length-append l (drop (length l) s))
 
-all-there : (os : List Obj) (d : Dict) → Lies os d → ObjsThere d os 0 0 0 (drop (length (allObjects os)) (d .objects)) (drop (length (allSlots 0 os)) (d .slots)) (drop (length (allWords os)) (d .words)) (drop (length (allBytes os)) (d .bytes))
+all-there : (os : List Obj) (d : Dict) → Lies os d → ObjsThere d os 0 0 0 (drop (length (allObjects (editionOf (d .objects)) os)) (d .objects)) (drop (length (allSlots 0 os)) (d .slots)) (drop (length (allWords os)) (d .words)) (drop (length (allBytes os)) (d .bytes))
 all-there os d l =
     record {
-      rows = ap (drop 12) (begins (d .objects) (allObjects os) (l .objects));
+      rows = ap (drop 12) (begins (d .objects) (allObjects (editionOf (d .objects)) os) (l .objects));
       slots = begins (d .slots) (allSlots 0 os) (l .slots);
       words = begins (d .words) (allWords os) (l .words);
       bytes = begins (d .bytes) (allBytes os) (l .bytes);
@@ -212,18 +214,18 @@ all-there os d l =
 
 -- the objects that a layout was made of are read back
 pub read-back : (os : List Obj) (d : Dict) → Lies os d → objsOk 0 os ≡ true → modelOf d ≡ os
-read-back os d l g = rw (totals os (d .objects) (l .objects) .number) (objs-back d os 0 0 0 0 (all-there os d l) g)
+read-back os d l g = rw (totals (editionOf (d .objects)) os (d .objects) (l .objects) .number) (objs-back d os 0 0 0 0 (all-there os d l) g)
 
-rest-right : (os : List Obj) (s : List ℕ) → over s 0 (allObjects os) ≡ s → reserved s ≡ true
+rest-right : (os : List Obj) (s : List ℕ) → over s 0 (allObjects (editionOf s) os) ≡ s → isEdition (editionOf s) ≡ true → reserved s ≡ true
 unfolding over reserved
-rest-right os s e = sym (ap reserved e)
+rest-right os s e g = sym (ap reserved e) ∙ rw g
 
-header-right : (os : List Obj) (d : Dict) → Lies os d → Few os → headerOk d ≡ true
+header-right : (os : List Obj) (d : Dict) → Lies os d → isEdition (editionOf (d .objects)) ≡ true → Few os → headerOk d ≡ true
 unfolding headerOk
-header-right os d l f =
-    let t = totals os (d .objects) (l .objects) in
-    let r = rest-right os (d .objects) (l .objects) in
-    let lo : 12 * length os + 12 ≤ length (d .objects) = omega (arith, long (d .objects) (allObjects os) (l .objects), length-append (header os) (rowsOf 0 0 os), length-rows 0 0 os) in
+header-right os d l v f =
+    let t = totals (editionOf (d .objects)) os (d .objects) (l .objects) in
+    let r = rest-right os (d .objects) (l .objects) v in
+    let lo : 12 * length os + 12 ≤ length (d .objects) = omega (arith, long (d .objects) (allObjects (editionOf (d .objects)) os) (l .objects), length-append (header (editionOf (d .objects)) os) (rowsOf 0 0 os), length-rows 0 0 os) in
     let ls : 3 * length (allWords os) ≤ length (d .slots) = omega (arith, long (d .slots) (allSlots 0 os) (l .slots), length-slots 0 os) in
     let lw = long (d .words) (allWords os) (l .words) in
     let lb = long (d .bytes) (allBytes os) (l .bytes) in
@@ -236,15 +238,15 @@ header-right os d l f =
     let e₇ : leb (length (allBytes os)) (length (d .bytes)) ≡ true = le-leb _ _ lb in
     rw (t .number, t .values, t .bytes, e₁, e₂, e₃, e₄, e₅, e₆, e₇, r)
 
-pub complete : (os : List Obj) (d : Dict) → Lies os d → objsOk 0 os ≡ true → Few os → wellFormed d ≡ true
+pub complete : (os : List Obj) (d : Dict) → isEdition (editionOf (d .objects)) ≡ true → Lies os d → objsOk 0 os ≡ true → Few os → wellFormed d ≡ true
 unfolding wellFormed
-complete os d l g f =
-    let t = totals os (d .objects) (l .objects) in
+complete os d v l g f =
+    let t = totals (editionOf (d .objects)) os (d .objects) (l .objects) in
     let e₁ : eqb (length (allWords os)) (length (allWords os)) ≡ true = eq-eqb (length (allWords os)) (length (allWords os)) refl in
     let e₂ : eqb (length (allBytes os)) (length (allBytes os)) ≡ true = eq-eqb (length (allBytes os)) (length (allBytes os)) refl in
     let r = rows-right d os 0 0 0 0 (all-there os d l) g (omega (arith, t .values)) (omega (arith, t .bytes)) in
-    rw (header-right os d l f, t .number, t .values, t .bytes, r, zero-add (length (allWords os)), zero-add (length (allBytes os)), e₁, e₂)
+    rw (header-right os d l v f, t .number, t .values, t .bytes, r, zero-add (length (allWords os)), zero-add (length (allBytes os)), e₁, e₂)
 
 -- the one pass passes exactly what is sound
 pub well-formed : (d : Dict) → Sound d → wellFormed d ≡ true
-well-formed d s = complete (modelOf d) d (s .lies) (s .good) (s .few)
+well-formed d s = complete (modelOf d) d (s .edition) (s .lies) (s .good) (s .few)

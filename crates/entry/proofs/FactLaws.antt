@@ -7,8 +7,8 @@ use native.Mathlib.Nat.{add-zero, zero-add}
 use native.Mathlib.Omega.{arith}
 use lib.ListN.{take, drop, getD}
 use Rattle.text.specs.Machine.{judge}
-use Rattle.entry.specs.Table.{Dict, numberOf, valuesOf, usedOf, indexAt, kindAt, accessAt, countAt, firstAt, nameAt, nameLenAt, defaultAt, typeAt, startAt, roomAt}
-use Rattle.entry.specs.Rules.{isGood, heldOk, headOk}
+use Rattle.entry.specs.Table.{Dict, extraAt, numberOf, valuesOf, usedOf, indexAt, kindAt, accessAt, countAt, firstAt, nameAt, nameLenAt, defaultAt, typeAt, startAt, roomAt}
+use Rattle.entry.specs.Rules.{extraOk, isGood, heldOk, headOk}
 use Rattle.entry.specs.Judge.{slotOk, slotsFrom, usedAt, rowOk, rowFits, rowsFrom, headerOk, wellFormed}
 use Rattle.entry.specs.declared.Sum.the-variants as sum
 use Rattle.entry.specs.declared.Walk.the-variants as walk
@@ -38,6 +38,7 @@ slots-each d n (suc k) p b e h q (suc j) l =
 -- a row
 pub record RowFacts (d : Dict) (i : ℕ) : Type 0 where
   pub head : headOk (indexAt (d .objects) i) (kindAt (d .objects) i) (accessAt (d .objects) i) (countAt (d .objects) i) (defaultAt (d .objects) i) (nameLenAt (d .objects) i) ≡ true
+  pub extra : extraOk (countAt (d .objects) i) (extraAt (d .objects) i) ≡ true
   pub values : firstAt (d .objects) i + usedAt (d .objects) i ≤ valuesOf (d .objects)
   pub bytes : nameAt (d .objects) i + nameLenAt (d .objects) i ≤ usedOf (d .objects)
   pub text : isGood (judge (take (nameLenAt (d .objects) i) (drop (nameAt (d .objects) i) (d .bytes)))) ≡ true
@@ -59,6 +60,7 @@ rows-each d (suc k) i v b low v′ b′ hv hb q j l =
     go zero l r f s ih =
         rw add-zero (record {
           head = r .head;
+          extra = r .extra;
           values = omega (arith, r .first, f .values);
           bytes = omega (arith, r .name, f .bytes);
           text = rw (r .name) (f .text);

@@ -14,9 +14,9 @@ use Rattle.text.specs.Machine.{judge}
 use Rattle.lists.specs.Lists.{over}
 use Rattle.entry.specs.Model.{rooms, wordsOf, slotsOf, used, size, bytesOf, row, rowsOf, header, allObjects, allSlots, allWords, allBytes}
 use Rattle.value.specs.Codec.{isText, fitsType, takes, textWord, wordAt}
-use Rattle.entry.specs.Table.{Dict, modelOf, valsFrom, objAt, objsFrom, numberOf, valuesOf, usedOf, indexAt, kindAt, accessAt, countAt, firstAt, nameAt, nameLenAt, defaultAt, typeAt, startAt, roomAt}
-use Rattle.entry.specs.Rules.{isGood, wordOk, valOk, heldOk, valsOk, headOk, objOk, objsOk}
-use Rattle.entry.specs.Judge.{Sound, slotOk, slotsFrom, usedAt, rowReserved, rowOk, rowFits, andThen, rowsFrom, reserved, headerOk, wholeAt, wellFormed}
+use Rattle.entry.specs.Table.{extraAt, editionOf, Dict, modelOf, valsFrom, objAt, objsFrom, numberOf, valuesOf, usedOf, indexAt, kindAt, accessAt, countAt, firstAt, nameAt, nameLenAt, defaultAt, typeAt, startAt, roomAt}
+use Rattle.entry.specs.Rules.{isEdition, extraOk, isGood, wordOk, valOk, heldOk, valsOk, headOk, objOk, objsOk}
+use Rattle.entry.specs.Judge.{Sound, slotOk, slotsFrom, usedAt, rowOk, rowFits, andThen, rowsFrom, reserved, headerOk, wholeAt, wellFormed}
 use Rattle.entry.specs.declared.Sum.{Sum}
 use Rattle.entry.specs.declared.Sum.the-variants as sum
 use Rattle.entry.specs.declared.Walk.{Walk}
@@ -127,30 +127,21 @@ pub record RowOk (d : Dict) (i v b low : ℕ) : Type 0 where
   pub head : headOk (indexAt (d .objects) i) (kindAt (d .objects) i) (accessAt (d .objects) i) (countAt (d .objects) i) (defaultAt (d .objects) i) (nameLenAt (d .objects) i) ≡ true
   pub first : firstAt (d .objects) i ≡ v
   pub name : nameAt (d .objects) i ≡ b
-  pub zero₀ : getD (d .objects) (12 * i + 20) 0 ≡ 0
-  pub zero₁ : getD (d .objects) (12 * i + 21) 0 ≡ 0
-  pub zero₂ : getD (d .objects) (12 * i + 22) 0 ≡ 0
-  pub zero₃ : getD (d .objects) (12 * i + 23) 0 ≡ 0
+  pub extra : extraOk (countAt (d .objects) i) (extraAt (d .objects) i) ≡ true
 
 pub row-ok : (d : Dict) (i v b low : ℕ) → rowOk (d .objects) i v b low ≡ true → RowOk d i v b low
-unfolding rowOk rowReserved
+unfolding rowOk
 row-ok d i v b low e =
     let x₀ = and-true _ _ e in
     let x₁ = and-true _ _ (x₀ .1) in
     let x₂ = and-true _ _ (x₁ .1) in
     let x₃ = and-true _ _ (x₂ .1) in
-    let x₄ = and-true _ _ (x₃ .1) in
-    let x₅ = and-true _ _ (x₄ .1) in
-    let x₆ = and-true _ _ (x₅ .1) in
     record {
       rises = x₀ .0;
       head = x₁ .0;
       first = eqb-true _ _ (x₂ .0);
       name = eqb-true _ _ (x₃ .0);
-      zero₀ = eqb-true _ _ (x₄ .0);
-      zero₁ = eqb-true _ _ (x₅ .0);
-      zero₂ = eqb-true _ _ (x₆ .0);
-      zero₃ = eqb-true _ _ (x₆ .1);
+      extra = x₃ .1;
     }
 
 pub record RowFits (d : Dict) (i v b : ℕ) : Type 0 where
@@ -209,11 +200,11 @@ obj-lies d i v b low e h g r f s =
       o-used = lu;
       o-name = ln;
       o-size = omega (arith, q, length-drop b (d .bytes), length-drop e (d .bytes), s .low, s .high);
-      o-row = rw (row-cells (d .objects) i g, r .zero₀, r .zero₁, r .zero₂, r .zero₃, lu, c, ln, r .first, r .name);
+      o-row = rw (row-cells (d .objects) i g, lu, c, ln, r .first, r .name);
       o-slots = rw (ln, r .first, length-vals d u v) (s .slots);
       o-words = rw (r .first, length-vals d u v) (s .words);
       o-bytes = ob;
-      o-good = rw (lu, c, ln, r .head, lg, r .name, f .text, r .first) (s .good);
+      o-good = rw (lu, c, ln, r .head, lg, r .name, f .text, r .extra, r .first) (s .good);
     }
 
 pub rows-lie : (d : Dict) (k i v b low v′ b′ : ℕ) → v ≤ valuesOf (d .objects) → b ≤ usedOf (d .objects)
@@ -289,10 +280,10 @@ header-ok d e =
       rest = x₆ .1;
     }
 
-header-is : (s : List ℕ) (n m b : ℕ) → 12 ≤ length s → getD s 0 0 ≡ n → getD s 1 0 ≡ m → getD s 2 0 ≡ b → reserved s ≡ true → s ≡ (n ∷ m ∷ b ∷ 1 ∷ 0 ∷ 0 ∷ 0 ∷ 0 ∷ 0 ∷ 0 ∷ 0 ∷ 0 ∷ []) ++ drop 12 s
+header-is : (s : List ℕ) (n m b : ℕ) → 12 ≤ length s → getD s 0 0 ≡ n → getD s 1 0 ≡ m → getD s 2 0 ≡ b → reserved s ≡ true → s ≡ (n ∷ m ∷ b ∷ getD s 3 0 ∷ 0 ∷ 0 ∷ 0 ∷ 0 ∷ 0 ∷ 0 ∷ 0 ∷ 0 ∷ []) ++ drop 12 s
 unfolding reserved
 header-is s n m b h p q r e =
-    let x₀ = and-true _ _ e in
+    let x₀ = and-true (isEdition (getD s 3 0)) _ e in
     let x₁ = and-true _ _ (x₀ .1) in
     let x₂ = and-true _ _ (x₁ .1) in
     let x₃ = and-true _ _ (x₂ .1) in
@@ -300,7 +291,6 @@ header-is s n m b h p q r e =
     let x₅ = and-true _ _ (x₄ .1) in
     let x₆ = and-true _ _ (x₅ .1) in
     let x₇ = and-true _ _ (x₆ .1) in
-    let c3 : getD s 3 0 ≡ 1 = eqb-true (getD s 3 0) 1 (x₀ .0) in
     let c4 : getD s 4 0 ≡ 0 = eqb-true (getD s 4 0) 0 (x₁ .0) in
     let c5 : getD s 5 0 ≡ 0 = eqb-true (getD s 5 0) 0 (x₂ .0) in
     let c6 : getD s 6 0 ≡ 0 = eqb-true (getD s 6 0) 0 (x₃ .0) in
@@ -309,7 +299,7 @@ header-is s n m b h p q r e =
     let c9 : getD s 9 0 ≡ 0 = eqb-true (getD s 9 0) 0 (x₆ .0) in
     let c10 : getD s 10 0 ≡ 0 = eqb-true (getD s 10 0) 0 (x₇ .0) in
     let c11 : getD s 11 0 ≡ 0 = eqb-true (getD s 11 0) 0 (x₇ .1) in
-    header-cells s h ∙ rw (p, q, r, c3, c4, c5, c6, c7, c8, c9, c10, c11)
+    header-cells s h ∙ rw (p, q, r, c4, c5, c6, c7, c8, c9, c10, c11)
 
 pub by-judge : (a : Bool) (v b : ℕ) (w : Walk) → cond a (wholeAt v b w) false ≡ true → (a ≡ true) × (w ≡ walk.Whole v b)
 by-judge true v b (walk.Whole x y) q =
@@ -320,7 +310,7 @@ by-judge false v b w q = absurd (ff q)
 
 -- ---- what is found right is sound
 pub sound : (d : Dict) → wellFormed d ≡ true → Sound d
-unfolding wellFormed
+unfolding wellFormed reserved
 sound d e =
     let j = by-judge (headerOk d) (valuesOf (d .objects)) (usedOf (d .objects)) (rowsFrom d (numberOf (d .objects)) 0 0 0 0) e in
     let h = header-ok d (j .0) in
@@ -332,13 +322,14 @@ sound d e =
     let b = lies-upto (d .bytes) (allBytes os) (usedOf (d .objects)) (h .bytes) (t .bytes) in
     let s = lies-upto (d .slots) (allSlots 0 os) (3 * valuesOf (d .objects)) (h .slots) (t .slots) in
     let l = length-objs d n 0 in
-    let o : d .objects ≡ allObjects os ++ drop (12 * n + 12) (d .objects) =
+    let o : d .objects ≡ allObjects (editionOf (d .objects)) os ++ drop (12 * n + 12) (d .objects) =
     header-is (d .objects) (length os) (length (allWords os)) (length (allBytes os)) (omega (arith, h .rows)) (sym l) (sym (w .0)) (sym (b .0)) (h .rest)
-    ∙ ap (λ k. header os ++ k) (rw z at (t .rows)) in
+    ∙ ap (λ k. header (editionOf (d .objects)) os ++ k) (rw z at (t .rows)) in
     record {
-      lies = record { objects = lies-upto (d .objects) (allObjects os) (12 * n + 12) (h .rows) o .1; slots = s .1; words = w .1; bytes = b .1 };
+      lies = record { objects = lies-upto (d .objects) (allObjects (editionOf (d .objects)) os) (12 * n + 12) (h .rows) o .1; slots = s .1; words = w .1; bytes = b .1 };
       good = t .good;
       few = record { objects = omega (arith, l, h .few); values = omega (arith, w .0, h .values); bytes = omega (arith, b .0, h .total) };
+      edition = and-true (isEdition (editionOf (d .objects))) _ (h .rest) .0;
     }
 
 -- what the head's test says of the numbers

@@ -186,27 +186,27 @@ pub record Totals (os : List Obj) (objects : List ℕ) : Type 0 where
   pub values : valuesOf objects ≡ length (allWords os)
   pub bytes : usedOf objects ≡ length (allBytes os)
 
-pub totals : (os : List Obj) (s : List ℕ) → over s 0 (allObjects os) ≡ s → Totals os s
+pub totals : (ed : ℕ) (os : List Obj) (s : List ℕ) → over s 0 (allObjects ed os) ≡ s → Totals os s
 unfolding over
-totals os s e =
+totals ed os s e =
     record { number = sym (ap (λ l. getD l 0 0) e); values = sym (ap (λ l. getD l 1 0) e); bytes = sym (ap (λ l. getD l 2 0) e) }
 
 -- the rows in parts
-pub rows-parts : (xs ys : List Obj) (s : List ℕ) → over s 0 (allObjects (xs ++ ys)) ≡ s
-    → s ≡ (header (xs ++ ys) ++ rowsOf 0 0 xs) ++ (rowsOf (length (allWords xs)) (length (allBytes xs)) ys ++ drop (length (allObjects (xs ++ ys))) s)
-rows-parts xs ys s e =
-    let hd = header (xs ++ ys) in
-    let z = drop (length (allObjects (xs ++ ys))) s in
+pub rows-parts : (ed : ℕ) (xs ys : List Obj) (s : List ℕ) → over s 0 (allObjects ed (xs ++ ys)) ≡ s
+    → s ≡ (header ed (xs ++ ys) ++ rowsOf 0 0 xs) ++ (rowsOf (length (allWords xs)) (length (allBytes xs)) ys ++ drop (length (allObjects ed (xs ++ ys))) s)
+rows-parts ed xs ys s e =
+    let hd = header ed (xs ++ ys) in
+    let z = drop (length (allObjects ed (xs ++ ys))) s in
     let q = rowsOf (length (allWords xs)) (length (allBytes xs)) ys in
-    begins s (allObjects (xs ++ ys)) e
+    begins s (allObjects ed (xs ++ ys)) e
     ∙ ap (λ l. (hd ++ l) ++ z) (rw (zero-add (length (allWords xs)), zero-add (length (allBytes xs))) at (rows-append 0 0 xs ys))
     ∙ ap (λ l. l ++ z) (sym (append-assoc hd (rowsOf 0 0 xs) q))
     ∙ append-assoc (hd ++ rowsOf 0 0 xs) q z
 
 -- an object's first slot is how many values lie before it
-pub first-at : (xs ys : List Obj) (s : List ℕ) → over s 0 (allObjects (xs ++ ys)) ≡ s → 0 < length ys → getD s (12 * length xs + 16) 0 ≡ length (allWords xs)
-first-at xs ys s e h =
-    let hd = header (xs ++ ys) in
+pub first-at : (ed : ℕ) (xs ys : List Obj) (s : List ℕ) → over s 0 (allObjects ed (xs ++ ys)) ≡ s → 0 < length ys → getD s (12 * length xs + 16) 0 ≡ length (allWords xs)
+first-at ed xs ys s e h =
+    let hd = header ed (xs ++ ys) in
     let l : length (hd ++ rowsOf 0 0 xs) ≡ 12 * length xs + 12 = rw (length-append hd (rowsOf 0 0 xs)) (omega (arith, length-rows 0 0 xs)) in
-    ap (λ t. getD t (12 * length xs + 16) 0) (rows-parts xs ys s e)
-    ∙ first-is (hd ++ rowsOf 0 0 xs) (drop (length (allObjects (xs ++ ys))) s) (length (allWords xs)) (length (allBytes xs)) ys (12 * length xs + 16) (omega arith) h
+    ap (λ t. getD t (12 * length xs + 16) 0) (rows-parts ed xs ys s e)
+    ∙ first-is (hd ++ rowsOf 0 0 xs) (drop (length (allObjects ed (xs ++ ys))) s) (length (allWords xs)) (length (allBytes xs)) ys (12 * length xs + 16) (omega arith) h

@@ -12,8 +12,8 @@ use lib.ListN.{length, take, drop, getD, set, length-append, length-set}
 use lib.Seq.{set-at, take-at, drop-at, getD-append-add, set-append-left}
 use Rattle.lists.specs.Lists.{over}
 use Rattle.entry.specs.Model.{Val, Obj, rooms, wordsOf, slotsOf, used, size, rowsOf, allObjects, allSlots, allWords, allBytes}
-use Rattle.entry.specs.Table.{Dict, Lies, modelOf, valAt, valsFrom, objAt, objsFrom, numberOf, countAt, firstAt, defaultAt, typeAt, startAt, roomAt}
-use Rattle.entry.specs.Rules.{valOk, heldOk, valsOk, objOk, objsOk, headOk, isGood, Few}
+use Rattle.entry.specs.Table.{editionOf, Dict, Lies, modelOf, valAt, valsFrom, objAt, objsFrom, numberOf, countAt, firstAt, defaultAt, typeAt, startAt, roomAt}
+use Rattle.entry.specs.Rules.{isEdition, extraOk, valOk, heldOk, valsOk, objOk, objsOk, headOk, isGood, Few}
 use Rattle.entry.specs.Judge.{wellFormed}
 use Rattle.lists.specs.Numbers.{number}
 use Rattle.value.specs.Codec.{isText, sizeOf}
@@ -85,7 +85,7 @@ objs-swap low (x ∷ xs) ys o q i f h =
 module _ (xs : List Obj) (o : Obj) (ys : List Obj) (us vs : List Val) where
   -- the object with y as its value there
   abbrev with-it : Val → Obj
-  with-it y = record { index = o .index; kind = o .kind; access = o .access; default = o .default; name = o .name; values = us ++ (y ∷ vs) }
+  with-it y = record { index = o .index; kind = o .kind; access = o .access; default = o .default; extra = o .extra; name = o .name; values = us ++ (y ∷ vs) }
 
   abbrev all : Val → List Obj
   all y = xs ++ (with-it y ∷ ys)
@@ -149,7 +149,8 @@ module _ (xs : List Obj) (o : Obj) (ys : List Obj) (us vs : List Val) where
           let a = and-true (headOk (o .index) (o .kind) (o .access) (length (us ++ (x ∷ vs)) - o .default) (o .default) (length (o .name))) _ k in
           let b = and-true (leb (o .default) (length (us ++ (x ∷ vs)))) _ (a .1) in
           let c = and-true (isGood (judge (o .name))) _ (b .1) in
-          rw (u, a .0, b .0, c .0) (vals-swap (length (us ++ (x ∷ vs)) - o .default) us vs x y held (c .1))
+          let w = and-true (extraOk (length (us ++ (x ∷ vs)) - o .default) (o .extra)) _ (c .1) in
+          rw (u, a .0, b .0, c .0, w .0) (vals-swap (length (us ++ (x ∷ vs)) - o .default) us vs x y held (w .1))
 
 -- ---- the memory
 lies-front : (l t : List ℕ) → over (l ++ t) 0 l ≡ l ++ t
@@ -221,8 +222,8 @@ module _ (d : Dict) (xs : List Obj) (o : Obj) (ys : List Obj) (us vs : List Val)
           bytes = rw eb (lies-front by tb);
         }
 
-    put-again : length us < length (us ++ (x ∷ vs)) - o .default → objsOk 0 (all xs o ys us vs x) ≡ true → Few (all xs o ys us vs x) → valOk t w (length r) r ≡ true → wellFormed (putAs p t w r d) ≡ true
-    put-again i g f k =
+    put-again : isEdition (editionOf (d .objects)) ≡ true → length us < length (us ++ (x ∷ vs)) - o .default → objsOk 0 (all xs o ys us vs x) ≡ true → Few (all xs o ys us vs x) → valOk t w (length r) r ≡ true → wellFormed (putAs p t w r d) ≡ true
+    put-again ed i g f k =
         let wx = allWords (all xs o ys us vs x) in
         let lw = ap length (words-put xs o ys us vs x y e p q) ∙ length-set wx p w in
         let ln : length (all xs o ys us vs y) ≡ length (all xs o ys us vs x) = length-append xs (with-it xs o ys us vs y ∷ ys) ∙ sym (length-append xs (with-it xs o ys us vs x ∷ ys)) in
@@ -230,7 +231,7 @@ module _ (d : Dict) (xs : List Obj) (o : Obj) (ys : List Obj) (us vs : List Val)
         let h = allBytes xs ++ (o .name ++ rooms us) in
         let lb = ap length (bytes-form xs o ys us vs y) ∙ length-append h (r ++ c) in
         let lb₂ = ap length (bytes-form xs o ys us vs x) ∙ length-append h (x .room ++ c) in
-        complete (all xs o ys us vs y) (putAs p t w r d) put-lies (ok-all xs o ys us vs 0 x y i k g)
+        complete (all xs o ys us vs y) (putAs p t w r d) ed put-lies (ok-all xs o ys us vs 0 x y i k g)
         (record { objects = omega (arith, ln, f .objects); values = omega (arith, lw, f .values); bytes = omega (arith, lb, lb₂, length-append r c, length-append (x .room) c, f .bytes) })
 
 -- ---- element k of row i among all values
@@ -273,14 +274,14 @@ put-kept d i k t w r e hi hk lr v =
     let m : modelOf d ≡ xs ++ (o ∷ ys) = rw (zero-add, zero-add) at (objs-split d n 0 i hi) in
     let ov : o .values ≡ us ++ (x ∷ vs) = vals-split d (c + f) q k (omega arith) in
     let a : modelOf d ≡ all xs o ys us vs x =
-    m ∙ ap (λ ws. xs ++ (record { index = o .index; kind = o .kind; access = o .access; default = o .default; name = o .name; values = ws } ∷ ys)) ov in
+    m ∙ ap (λ ws. xs ++ (record { index = o .index; kind = o .kind; access = o .access; default = o .default; extra = o .extra; name = o .name; values = ws } ∷ ys)) ov in
     let l : Lies (all xs o ys us vs x) d = subst (λ (os : List Obj). Lies os d) a (s .lies) in
     let g : objsOk 0 (all xs o ys us vs x) ≡ true = subst (λ (os : List Obj). objsOk 0 os ≡ true) a (s .good) in
     let few : Few (all xs o ys us vs x) = subst (λ (os : List Obj). Few os) a (s .few) in
     let lu : length us ≡ k = length-vals d k q in
     let la : length (us ++ (x ∷ vs)) ≡ c + f = sym (ap length ov) ∙ length-vals d (c + f) q in
     let lx : length xs ≡ i = length-objs d i 0 in
-    let fa : q ≡ length (allWords xs) = rw lx at (first-at xs (o ∷ ys) (d .objects) (subst (λ (os : List Obj). over (d .objects) 0 (allObjects os) ≡ d .objects) m (s .lies .objects)) (omega arith)) in
+    let fa : q ≡ length (allWords xs) = rw lx at (first-at (editionOf (d .objects)) xs (o ∷ ys) (d .objects) (subst (λ (os : List Obj). over (d .objects) 0 (allObjects (editionOf (d .objects)) os) ≡ d .objects) m (s .lies .objects)) (omega arith)) in
     let pl : q + k ≡ length (allWords xs) + length us = omega arith in
     let z = room-is d xs o ys us vs x l (q + k) pl in
-    put-again d xs o ys us vs x l (q + k) pl t w r (lr ∙ z) (omega arith) g few v
+    put-again d xs o ys us vs x l (q + k) pl t w r (lr ∙ z) (s .edition) (omega arith) g few v

@@ -14,7 +14,7 @@ use lib.Dec.{eqb, leb, ltb}
 use lib.ListN.{length, take, drop, getD}
 use Rattle.value.specs.Codec.{isText, fitsType, takes, textWord}
 use Rattle.entry.specs.Model.{Obj}
-use Rattle.entry.specs.Table.{Dict, modelOf, valAt, objAt, numberOf, valuesOf, usedOf, indexAt, kindAt, countAt, firstAt, typeAt, startAt, roomAt}
+use Rattle.entry.specs.Table.{listCount, Dict, modelOf, valAt, objAt, numberOf, valuesOf, usedOf, indexAt, kindAt, countAt, firstAt, typeAt, startAt, roomAt}
 use Rattle.entry.specs.Rules.{wordOk, valOk, tight, heldOk}
 use Rattle.entry.specs.Judge.{usedAt, wellFormed}
 use Rattle.entry.specs.Find.{Rows, findRow, subAt, onRow, placeOf, objectOf, objectIn, nth}
@@ -31,6 +31,11 @@ pub rows-of : (d : Dict) → wellFormed d ≡ true → Rows (d .objects)
 rows-of d e =
     let h = headed d e in
     record { few = h .few; long = h .rows; firsts = λ i l. omega (arith, row-facts d e i l .values, h .values); rises = rising d e }
+
+-- no more elements of a list are used than it has
+pub list-count-le : (d : Dict) → wellFormed d ≡ true → (i : ℕ) → i < numberOf (d .objects) → listCount (d .objects) i ≤ countAt (d .objects) i
+unfolding listCount
+list-count-le d e i h = omega arith
 
 -- where row i lies
 pub record RowLies (d : Dict) (i : ℕ) : Type 0 where
@@ -91,7 +96,7 @@ element-of d e x sub p q = go (findRow (d .objects) x) refl q
 
     go : (f : Found) → findRow (d .objects) x ≡ f → onRow (d .objects) sub f ≡ Value p → Element d x sub p
     go (At i) f h =
-        at i f (by-sub (eqb (kindAt (d .objects) i) 0) (eqb sub 0) (leb sub (countAt (d .objects) i)) (firstAt (d .objects) i) (countAt (d .objects) i) (firstAt (d .objects) i + (sub - 1)) h)
+        at i f (by-sub (eqb (kindAt (d .objects) i) 0) (eqb sub 0) (leb sub (countAt (d .objects) i)) (firstAt (d .objects) i) (listCount (d .objects) i) (firstAt (d .objects) i + (sub - 1)) h)
     go Nothing f h = let z : _≡_ {A = ℕ} 0 1 = cc in absurd (omega arith)
 
 -- no two indices and sub-indices name the same value

@@ -7,7 +7,7 @@ use mathlib.Core.Option.{Option, none, some}
 use lib.Dec.{eqb, leb}
 use lib.ListN.{length}
 use Rattle.entry.specs.Model.{Val, Obj}
-use Rattle.entry.specs.Table.{Dict, numberOf, rowPlace, indexAt, kindAt, countAt, firstAt, valAt, objAt}
+use Rattle.entry.specs.Table.{Dict, numberOf, rowPlace, indexAt, kindAt, countAt, listCount, firstAt, valAt, objAt}
 use Rattle.entry.specs.Rules.{count}
 use Rattle.entry.specs.declared.Found.{Found}
 use Rattle.entry.specs.declared.Found.the-variants.{At, Nothing}
@@ -29,7 +29,7 @@ subAt objects i sub =
     cond (eqb (kindAt objects i) 0)
     (cond (eqb sub 0) (Value (firstAt objects i)) NoSub)
     (cond (eqb sub 0)
-    (Count (countAt objects i))
+    (Count (listCount objects i))
     (cond (leb sub (countAt objects i)) (Value (firstAt objects i + (sub - 1))) NoSub))
 
 abbrev pub onRow : List ℕ → ℕ → Found → Place
@@ -68,13 +68,17 @@ abbrev pub heldAs : Option Val → Named
 heldAs (some v) = holds v
 heldAs none = no-sub
 
+-- how many elements of a list are used
+abbrev pub listed : Obj → ℕ
+listed o = count o
+
 -- document 01's rule, of an object
 unfoldable pub subOf : Obj → ℕ → Named
 subOf o sub =
     cond (eqb (o .kind) 0)
     (cond (eqb sub 0) (heldAs (nth (o .values) 0)) no-sub)
     (cond (eqb sub 0)
-    (counts (count o))
+    (counts (listed o))
     (cond (leb sub (count o)) (heldAs (nth (o .values) (sub - 1))) no-sub))
 
 abbrev pub onObject : ℕ → Option Obj → Named

@@ -1,14 +1,14 @@
 -- Whether four lent slices are a dictionary: one pass, with running totals. `Sound` says what that means.
 -- Assumes nothing.
-use Prim.Native.Nat.{ℕ, zero, suc, _+_, _*_, _-_, _≤_}
+use Prim.Native.Nat.{ℕ, zero, suc, _+_, _-_, _≤_}
 use mathlib.Core.Path.{_≡_}
 use mathlib.Core.Bool.{Bool, true, false, cond, _&&_}
 use mathlib.Core.List.{List}
 use lib.ListN.{length, take, drop, getD}
 use lib.Dec.{eqb, leb}
 use Rattle.text.specs.Machine.{judge}
-use Rattle.entry.specs.Table.{Dict, Lies, modelOf, numberOf, valuesOf, usedOf, rowPlace, slotPlace, indexAt, kindAt, accessAt, countAt, firstAt, nameAt, nameLenAt, defaultAt, typeAt, startAt, roomAt}
-use Rattle.entry.specs.Rules.{isGood, heldOk, headOk, objsOk, Few}
+use Rattle.entry.specs.Table.{Dict, editionOf, Lies, modelOf, numberOf, valuesOf, usedOf, rowPlace, slotPlace, indexAt, kindAt, accessAt, countAt, firstAt, nameAt, nameLenAt, defaultAt, extraAt, typeAt, startAt, roomAt}
+use Rattle.entry.specs.Rules.{isGood, heldOk, headOk, extraOk, objsOk, Few, isEdition}
 use Rattle.entry.specs.declared.Sum.{Sum}
 use Rattle.entry.specs.declared.Sum.the-variants as sum
 use Rattle.entry.specs.declared.Walk.{Walk}
@@ -19,6 +19,7 @@ pub record Sound (d : Dict) : Type 0 where
   pub lies : Lies (modelOf d) d
   pub good : objsOk 0 (modelOf d) ≡ true
   pub few : Few (modelOf d)
+  pub edition : isEdition (editionOf (d .objects)) ≡ true
 
 -- slot p is right where n elements are left and b bytes lie before its room
 unfoldable pub slotOk : Dict → ℕ → ℕ → ℕ → Bool
@@ -33,17 +34,12 @@ slotsFrom d n (suc k) p b = cond (slotOk d n p b) (slotsFrom d (n - 1) k (suc p)
 abbrev pub usedAt : List ℕ → ℕ → ℕ
 usedAt objects i = countAt objects i + defaultAt objects i
 
--- the words of row i that are kept for later
-unfoldable pub rowReserved : List ℕ → ℕ → Bool
-rowReserved objects i =
-    eqb (getD objects (12 * i + 20) 0) 0 && (eqb (getD objects (12 * i + 21) 0) 0 && (eqb (getD objects (12 * i + 22) 0) 0 && eqb (getD objects (12 * i + 23) 0) 0))
-
 -- row i is right after v values and b bytes, with an index not below low
 unfoldable pub rowOk : List ℕ → ℕ → ℕ → ℕ → ℕ → Bool
 rowOk objects i v b low =
     leb low (indexAt objects i)
     && (headOk (indexAt objects i) (kindAt objects i) (accessAt objects i) (countAt objects i) (defaultAt objects i) (nameLenAt objects i)
-    && (eqb (firstAt objects i) v && (eqb (nameAt objects i) b && rowReserved objects i)))
+    && (eqb (firstAt objects i) v && (eqb (nameAt objects i) b && extraOk (countAt objects i) (extraAt objects i))))
 
 -- its values and its name have their place, and the name is text
 unfoldable pub rowFits : List ℕ → List ℕ → ℕ → ℕ → ℕ → Bool
@@ -64,10 +60,10 @@ rowsFrom d (suc k) i v b low =
     walk.Broken)
     walk.Broken
 
--- the rest of the header: edition 1, and zeros
+-- the rest of the header: the edition, and zeros
 unfoldable pub reserved : List ℕ → Bool
 reserved s =
-    eqb (getD s 3 0) 1 && (eqb (getD s 4 0) 0 && (eqb (getD s 5 0) 0 && (eqb (getD s 6 0) 0 && (eqb (getD s 7 0) 0 && (eqb (getD s 8 0) 0 && (eqb (getD s 9 0) 0 && (eqb (getD s 10 0) 0 && eqb (getD s 11 0) 0)))))))
+    isEdition (getD s 3 0) && (eqb (getD s 4 0) 0 && (eqb (getD s 5 0) 0 && (eqb (getD s 6 0) 0 && (eqb (getD s 7 0) 0 && (eqb (getD s 8 0) 0 && (eqb (getD s 9 0) 0 && (eqb (getD s 10 0) 0 && eqb (getD s 11 0) 0)))))))
 
 -- the header, and that the slices are long enough for it
 unfoldable pub headerOk : Dict → Bool

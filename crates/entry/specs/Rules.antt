@@ -9,6 +9,7 @@ use Rattle.text.specs.Machine.{judge}
 use Rattle.text.specs.declared.Text.{Text}
 use Rattle.text.specs.declared.Text.the-variants.{Good, Bad}
 use Rattle.value.specs.Codec.{isText, fitsType, takes, textWord}
+use Rattle.entry.specs.declared.Extra.{Extra}
 use Rattle.entry.specs.Model.{Val, Obj, used, allWords, allBytes}
 
 abbrev pub isGood : Text → Bool
@@ -41,6 +42,10 @@ unfoldable pub headOk : ℕ → ℕ → ℕ → ℕ → ℕ → ℕ → Bool
 headOk index kind access count flag len =
     ltb index 65536 && (ltb kind 3 && (ltb access 8 && (leb count 254 && ((not (eqb kind 0) || eqb count 1) && (leb flag 1 && leb len 32)))))
 
+-- what a row has beside that, where it has n elements: nothing yet
+unfoldable pub extraOk : ℕ → Extra → Bool
+extraOk n e = eqb (e .kept) 0 && (eqb (e .ranged) 0 && (eqb (e .low) 0 && eqb (e .high) 0))
+
 -- how many elements
 abbrev pub count : Obj → ℕ
 count o = used o - o .default
@@ -48,7 +53,7 @@ count o = used o - o .default
 abbrev pub objOk : Obj → Bool
 objOk o =
     headOk (o .index) (o .kind) (o .access) (count o) (o .default) (length (o .name))
-    && (leb (o .default) (used o) && (isGood (judge (o .name)) && valsOk (count o) (o .values)))
+    && (leb (o .default) (used o) && (isGood (judge (o .name)) && (extraOk (count o) (o .extra) && valsOk (count o) (o .values))))
 
 -- all objects are right, and their indices rise from low on
 unfoldable pub objsOk : ℕ → List Obj → Bool
@@ -60,3 +65,7 @@ pub record Few (os : List Obj) : Type 0 where
   pub objects : length os ≤ 1024
   pub values : length (allWords os) ≤ 6144
   pub bytes : length (allBytes os) ≤ 32768
+
+-- the edition of the rules that a dictionary keeps
+unfoldable pub isEdition : ℕ → Bool
+isEdition e = eqb e 1

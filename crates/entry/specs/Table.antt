@@ -7,6 +7,7 @@ use mathlib.Core.List.{List, [], _∷_}
 use lib.ListN.{take, drop, getD}
 use lib.Dec.{ltb}
 use Rattle.lists.specs.Lists.{over}
+use Rattle.entry.specs.declared.Extra.{Extra}
 use Rattle.entry.specs.Model.{Val, Obj, allObjects, allSlots, allWords, allBytes}
 
 pub record Dict : Type 0 where
@@ -27,6 +28,9 @@ valuesOf objects = getD objects 1 0
 
 abbrev pub usedOf : List ℕ → ℕ
 usedOf objects = getD objects 2 0
+
+abbrev pub editionOf : List ℕ → ℕ
+editionOf objects = getD objects 3 0
 
 -- where row i and slot p begin and end, and their columns that count what lies before
 abbrev pub rowPlace : ℕ → ℕ
@@ -75,6 +79,13 @@ nameLenAt objects i = getD objects (12 * i + 18) 0
 abbrev pub defaultAt : List ℕ → ℕ → ℕ
 defaultAt objects i = getD objects (12 * i + 19) 0
 
+abbrev pub extraAt : List ℕ → ℕ → Extra
+extraAt objects i = record { kept = getD objects (12 * i + 20) 0; ranged = getD objects (12 * i + 21) 0; low = getD objects (12 * i + 22) 0; high = getD objects (12 * i + 23) 0 }
+
+-- how many elements of the list in row i are used
+unfoldable pub listCount : List ℕ → ℕ → ℕ
+listCount objects i = countAt objects i
+
 abbrev pub typeAt : List ℕ → ℕ → ℕ
 typeAt slots p = getD slots (slotPlace p) 0
 
@@ -100,6 +111,7 @@ objAt d i =
       kind = kindAt (d .objects) i;
       access = accessAt (d .objects) i;
       default = defaultAt (d .objects) i;
+      extra = extraAt (d .objects) i;
       name = take (nameLenAt (d .objects) i) (drop (nameAt (d .objects) i) (d .bytes));
       values = valsFrom d (countAt (d .objects) i + defaultAt (d .objects) i) (firstAt (d .objects) i);
     }
@@ -116,7 +128,7 @@ modelOf d = objsFrom d (numberOf (d .objects)) 0
 abbrev pub laid : List Obj → Dict → Dict
 laid os d =
     record {
-      objects = over (d .objects) 0 (allObjects os);
+      objects = over (d .objects) 0 (allObjects (editionOf (d .objects)) os);
       slots = over (d .slots) 0 (allSlots 0 os);
       words = over (d .words) 0 (allWords os);
       bytes = over (d .bytes) 0 (allBytes os);
@@ -124,7 +136,7 @@ laid os d =
 
 -- the memory begins with the canonical layout of os
 pub record Lies (os : List Obj) (d : Dict) : Type 0 where
-  pub objects : over (d .objects) 0 (allObjects os) ≡ d .objects
+  pub objects : over (d .objects) 0 (allObjects (editionOf (d .objects)) os) ≡ d .objects
   pub slots : over (d .slots) 0 (allSlots 0 os) ≡ d .slots
   pub words : over (d .words) 0 (allWords os) ≡ d .words
   pub bytes : over (d .bytes) 0 (allBytes os) ≡ d .bytes

@@ -2,7 +2,8 @@
 ghost use mathlib.Core.Path.{_≡_};
 ghost use Prim.Native.Nat.{_≤_, _<_};
 ghost use lib.ListN.{length};
-ghost use Rattle.entry.specs.Table.{numberOf, valuesOf, usedOf, rowPlace, rowEnd, slotPlace, slotEnd, indexAt, kindAt, accessAt, countAt, firstAt, nameAt, nameLenAt, defaultAt, typeAt, startAt, roomAt};
+ghost use Rattle.entry.specs.Table.{numberOf, valuesOf, usedOf, rowPlace, rowEnd, slotPlace, slotEnd, indexAt, kindAt, accessAt, countAt, listCount, firstAt, nameAt, nameLenAt, defaultAt, extraAt, typeAt, startAt, roomAt};
+use crate::Extra;
 
 // The header: how many objects, values (defaults counted) and bytes there are.
 pub fn number_of(objects: &[u64]) -> u64
@@ -103,6 +104,30 @@ pub fn default_at(objects: &[u64], i: usize) -> u64
     ensures { λ r. ⌜ r ≡ defaultAt (now (objects .entry)) i ⌝ }
 {
     objects[12 * i + 19]
+}
+
+pub fn extra_at(objects: &[u64], i: usize) -> Extra
+    requires { ⌜ (i < 1024) × (rowEnd i ≤ length (now objects)) ⌝ }
+    ensures { λ r. ⌜ r ≡ extraAt (now (objects .entry)) i ⌝ }
+{
+    let kept = objects[12 * i + 20];
+    let ranged = objects[12 * i + 21];
+    let low = objects[12 * i + 22];
+    let high = objects[12 * i + 23];
+    Extra {
+        kept,
+        ranged,
+        low,
+        high,
+    }
+}
+
+// How many elements of the list in row i are used.
+pub fn list_count(objects: &[u64], i: usize) -> u64
+    requires { ⌜ (i < 1024) × (rowEnd i ≤ length (now objects)) ⌝ }
+    ensures { λ r. ⌜ r ≡ listCount (now (objects .entry)) i ⌝ }
+{
+    count_at(objects, i)
 }
 
 // Slot p.

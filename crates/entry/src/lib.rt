@@ -7,9 +7,11 @@ mod put;
 pub use columns::access_at;
 pub use columns::count_at;
 pub use columns::default_at;
+pub use columns::extra_at;
 pub use columns::first_at;
 pub use columns::index_at;
 pub use columns::kind_at;
+pub use columns::list_count;
 pub use columns::name_at;
 pub use columns::name_len_at;
 pub use columns::number_of;
@@ -41,6 +43,14 @@ pub enum Place {
     NoSub,
     Count(u64),
     Value(usize),
+}
+
+// What a row has beside its object's kind, values and name: a kept count, and a range by its type and its ends.
+pub struct Extra {
+    pub kept: u64,
+    pub ranged: u64,
+    pub low: u64,
+    pub high: u64,
 }
 
 // How far the rooms of some slots reach.

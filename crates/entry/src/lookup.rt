@@ -9,6 +9,7 @@ use crate::columns::count_at;
 use crate::columns::first_at;
 use crate::columns::index_at;
 use crate::columns::kind_at;
+use crate::columns::list_count;
 use crate::columns::number_of;
 
 // The first row whose index is not below x: the rows rise, so each look leaves half of them.
@@ -61,7 +62,7 @@ pub fn sub_at(objects: &[u64], i: usize, sub: u8) -> Place
     }
     let count = count_at(objects, i);
     if sub == 0 {
-        return Place::Count(count);
+        return Place::Count(list_count(objects, i));
     }
     if sub as u64 <= count {
         return Place::Value(first + (sub - 1) as usize);

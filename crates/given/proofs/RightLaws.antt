@@ -19,7 +19,7 @@ use Rattle.value.specs.declared.Fault.the-variants.{Value}
 use Rattle.value.specs.declared.Word.the-variants.{Takes, Fails}
 use Rattle.value.proofs.CodecLaws.{size-le, text-taken}
 use Rattle.entry.specs.Model.{Val, used, size}
-use Rattle.entry.specs.Rules.{isGood, wordOk, valOk, tight, heldOk, valsOk, headOk, objOk}
+use Rattle.entry.specs.Rules.{isGood, wordOk, valOk, tight, heldOk, valsOk, headOk, extraOk, objOk}
 use Rattle.entry.proofs.JudgeLaws.{and-true, head-ok}
 use Rattle.entry.proofs.WalkLaws.{and-unit}
 use Rattle.given.specs.Given.{typeIn, roomIn, lengthIn, wordIn, held, roomOf, valIn, given, roomsIn, lengthsIn, countIn, objIn, sized, sizedIn, rightIn, sizeIn, valueOk, valsIn, Values}
@@ -176,7 +176,7 @@ judged true a b true true true v p q e = sym e
 
 pub size-judged : (h : Head) (name vals encodings : List ℕ) → let u = countIn vals in
     sizeIn h name vals encodings ≡ cond (eqb (3 * u) (length vals)) (cond (leb (h .default) u) (cond (headOk (h .index) (h .kind) (h .access) (u - h .default) (h .default) (length name)) (cond (isGood (judge name)) (valsIn vals encodings (u - h .default) u 0 0 (length name)) sz.Bad) sz.Bad) sz.Bad) sz.Bad
-unfolding rightIn
+unfolding rightIn extraOk
 size-judged h name vals encodings =
     let u = countIn vals in
     let c = u - h .default in
@@ -242,12 +242,13 @@ right h name vals encodings e =
     let f = and-true (headOk (h .index) (h .kind) (h .access) (used o - h .default) (h .default) (length name)) _ (c .1) in
     let g = and-true (leb (h .default) (used o)) _ (f .1) in
     let v = and-true (isGood (judge name)) _ (g .1) in
+    let x = and-true (extraOk (used o - h .default) (o .extra)) _ (v .1) in
     let k = head-ok (h .index) (h .kind) (h .access) (used o - h .default) (h .default) (length name) (f .0) in
     let n = given-length vals encodings u 0 0 in
     let w : lengthsIn vals u 0 ≡ length encodings = eqb-true _ _ (b .0) in
     let m : 3 * u ≡ length vals = eqb-true _ _ (a .0) in
     let d : h .default ≤ used o = leb-true _ _ (g .0) in
-    let i = all-fit vals encodings (used o - h .default) u 0 0 (omega arith) (c .0) (v .1) in
+    let i = all-fit vals encodings (used o - h .default) u 0 0 (omega arith) (c .0) (x .1) in
     let few : u ≤ 255 = omega (arith, k .count-small, k .flag-small) in
     record {
       ok = c .1;

@@ -9,7 +9,8 @@ use lib.ListN.{length, take, drop, getD, replicate}
 use lib.Dec.{eqb, leb, ltb}
 use Rattle.lists.specs.Numbers.{number}
 use Rattle.value.specs.Codec.{sizeOf, isText}
-use Rattle.entry.specs.Model.{Val, Obj, size}
+use Rattle.entry.specs.declared.Extra.{Extra}
+use Rattle.entry.specs.Model.{Val, Obj, noExtra, size}
 use Rattle.entry.specs.Rules.{valOk, tight, objOk}
 use Rattle.given.specs.declared.Head.{Head}
 use Rattle.given.specs.declared.Size.{Size}
@@ -50,9 +51,13 @@ given vals encodings (suc k) j t =
 abbrev pub countIn : List ℕ → ℕ
 countIn vals = length vals / 3
 
+-- what it has beside its n elements: nothing yet
+abbrev pub extraIn : Head → ℕ → Extra
+extraIn h n = noExtra
+
 abbrev pub objIn : Head → List ℕ → List ℕ → List ℕ → Obj
 objIn h name vals encodings =
-    record { index = h .index; kind = h .kind; access = h .access; default = h .default; name = name; values = given vals encodings (countIn vals) 0 0 }
+    record { index = h .index; kind = h .kind; access = h .access; default = h .default; extra = extraIn h (countIn vals - h .default); name = name; values = given vals encodings (countIn vals) 0 0 }
 
 -- ---- BadValue
 -- R3.4: "a fixed type's byte count is not its size"

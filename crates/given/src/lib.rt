@@ -4,7 +4,8 @@ ghost use mathlib.Core.Bool.{true, false};
 ghost use Prim.Native.Nat.{_+_, _*_, _<_, _≤_};
 ghost use lib.ListN.{length, take, drop};
 ghost use Rattle.value.specs.Codec.{isText};
-ghost use Rattle.given.specs.Given.{typeIn, roomIn, lengthIn, valueOk, valsIn, sizeIn};
+ghost use Rattle.given.specs.Given.{typeIn, roomIn, lengthIn, extraIn, valueOk, valsIn, sizeIn};
+use entry::Extra;
 use value::Word;
 
 // What an insertion is given beside its name and its values. With a default (1, else 0) the last of the values is the default.
@@ -41,6 +42,18 @@ pub fn length_in(vals: &[u64], j: usize) -> u64
     ensures { λ r. ⌜ r ≡ lengthIn (now (vals .entry)) j ⌝ }
 {
     vals[3 * j + 2]
+}
+
+// What a given object has beside its values, where it has so many elements.
+pub fn extra_in(head: Head, count: u64) -> Extra
+    ensures { λ r. ⌜ r ≡ extraIn head count ⌝ }
+{
+    Extra {
+        kept: 0,
+        ranged: 0,
+        low: 0,
+        high: 0,
+    }
 }
 
 // A string of type t: within its room, and good over its length. As the default it has just its bytes.

@@ -9,7 +9,7 @@ use native.Mathlib.Omega.{arith}
 use borrow.Author.Tests.{leb-true, ltb-true}
 use Rattle.answers.specs.declared.Refusal.the-variants.{Malformed, BadValue, Occupied, Full}
 use Rattle.entry.specs.Model.{Obj, used, size}
-use Rattle.entry.specs.Table.{Dict, modelOf, numberOf}
+use Rattle.entry.specs.Table.{Dict, editionOf, modelOf, numberOf}
 use Rattle.entry.specs.Judge.{wellFormed}
 use Rattle.entry.specs.Find.{objectOf}
 use Rattle.given.specs.Given.{objIn, rightIn, sizeIn}
@@ -121,7 +121,7 @@ module _ (h : Head) (name vals encodings : List ℕ) (d : Dict) where
       let a = done-by h name vals encodings d e in
       let u = sound d (a .formed) in
       let r = room-is d (h .index) (used (objIn h name vals encodings)) (size (objIn h name vals encodings)) (a .fits) in
-      let n = totals (modelOf d) (d .objects) (u .lies .objects) in
+      let n = totals (editionOf (d .objects)) (modelOf d) (d .objects) (u .lies .objects) in
       kept (objIn h name vals encodings) d u (right h name vals encodings (a .right) .ok) (a .free) (omega (arith, n .number, r .few)) (omega (arith, n .values, r .values)) (omega (arith, n .bytes, r .total))
 
   -- a refusal, or the object inserted

@@ -14,8 +14,8 @@ use lib.ListN.{length, take, drop, length-append, take-append-drop}
 use lib.Seq.{drop-append-seam}
 use Rattle.lists.specs.Lists.{over}
 use Rattle.entry.specs.Model.{Obj, used, size, wordsOf, bytesOf, allObjects, allSlots, allWords, allBytes, insertAt}
-use Rattle.entry.specs.Table.{Dict, Lies, laid, modelOf}
-use Rattle.entry.specs.Rules.{objOk, objsOk, Few}
+use Rattle.entry.specs.Table.{Dict, Lies, editionOf, laid, modelOf}
+use Rattle.entry.specs.Rules.{objOk, objsOk, Few, isEdition}
 use Rattle.entry.specs.Judge.{Sound, wellFormed}
 use Rattle.entry.specs.Find.{objectOf}
 use Rattle.placing.specs.Place.{inserted}
@@ -56,8 +56,14 @@ unfolding over
 lies-laid s l = rw (zero-add (length l)) (ap (λ k. l ++ k) (drop-append-seam l (drop (length l) s)))
 
 pub laid-lies : (os : List Obj) (d : Dict) → Lies os (laid os d)
+unfolding over
 laid-lies os d =
-    record { objects = lies-laid (d .objects) (allObjects os); slots = lies-laid (d .slots) (allSlots 0 os); words = lies-laid (d .words) (allWords os); bytes = lies-laid (d .bytes) (allBytes os) }
+    record { objects = lies-laid (d .objects) (allObjects (editionOf (d .objects)) os); slots = lies-laid (d .slots) (allSlots 0 os); words = lies-laid (d .words) (allWords os); bytes = lies-laid (d .bytes) (allBytes os) }
+
+-- and under the edition that it had
+pub laid-edition : (os : List Obj) (d : Dict) → isEdition (editionOf (d .objects)) ≡ true → isEdition (editionOf (laid os d .objects)) ≡ true
+unfolding over
+laid-edition os d e = e
 
 -- ---- the theorem: after an insertion the memory holds the objects that it held, and the new one among them, and is well-formed
 pub record Kept (i : ℕ) (o : Obj) (d : Dict) : Type 0 where
@@ -92,7 +98,7 @@ kept o d s h t a b c =
     let i = below (o .index) os in
     let g = insert-ok 0 o os (s .good) h (omega arith) t in
     let l = laid-lies (insertAt i o os) d in
-    record { holds = read-back (insertAt i o os) (inserted i o d) l g; again = complete (insertAt i o os) (inserted i o d) l g (few-more i o os a b c) }
+    record { holds = read-back (insertAt i o os) (inserted i o d) l g; again = complete (insertAt i o os) (inserted i o d) (laid-edition (insertAt i o os) d (s .edition)) l g (few-more i o os a b c) }
 
 -- ---- the others are found as they were, and so is the new one
 pub other : (i : ℕ) (o : Obj) (os : List Obj) (x : ℕ) → (o .index ≡ x → ⊥) → objectOf x (insertAt i o os) ≡ objectOf x os

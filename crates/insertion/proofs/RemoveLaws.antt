@@ -10,7 +10,7 @@ use lib.Seq.{slice, length-take-le}
 use Rattle.lists.specs.Lists.{over, fallen}
 use Rattle.lists.proofs.SpliceLaws.{taken-out, laid-other, laid-parts}
 use Rattle.entry.specs.Model.{Obj, wordsOf, slotsOf, used, size, bytesOf, row, rowsOf, header, allObjects, allSlots, allWords, allBytes}
-use Rattle.entry.specs.Table.{Dict, Lies, numberOf, valuesOf, usedOf, before}
+use Rattle.entry.specs.Table.{Dict, Lies, editionOf, numberOf, valuesOf, usedOf, before}
 use Rattle.entry.proofs.ModelLaws.{length-rows, length-slots, length-wordsOf, length-slotsOf, words-append, bytes-append, rows-append, slots-append, begins, totals}
 use Rattle.insertion.specs.Replace.{removeAt}
 use Rattle.placing.proofs.PlaceLaws.{place}
@@ -56,16 +56,16 @@ module _ (xs ys : List Obj) (o : Obj) where
       ∙ ap (over s 0) (sym (rw (← t) at (rw zero-add at (slots-append 0 xs ys)))))
 
   -- the rows, still under the old header
-  rows-removed : (s : List ℕ) (i n v b u g : ℕ) → over s 0 (allObjects all) ≡ s → i ≡ length xs → n ≡ length all → v ≡ length (allWords xs) → b ≡ length (allBytes xs) → u ≡ used o → g ≡ size o
-      → fallen 12 g (n - (i + 1)) (12 * i + 17) (fallen 12 u (n - (i + 1)) (12 * i + 16) (over s (12 * i + 12) (slice (12 * i + 24) (12 * n + 12) s))) ≡ over s 0 (header all ++ rowsOf 0 0 (xs ++ ys))
+  rows-removed : (ed : ℕ) (s : List ℕ) (i n v b u g : ℕ) → over s 0 (allObjects ed all) ≡ s → i ≡ length xs → n ≡ length all → v ≡ length (allWords xs) → b ≡ length (allBytes xs) → u ≡ used o → g ≡ size o
+      → fallen 12 g (n - (i + 1)) (12 * i + 17) (fallen 12 u (n - (i + 1)) (12 * i + 16) (over s (12 * i + 12) (slice (12 * i + 24) (12 * n + 12) s))) ≡ over s 0 (header ed all ++ rowsOf 0 0 (xs ++ ys))
   unfolding rowsOf
-  rows-removed s i n v b u g h p q r t k j =
-      let hd = header all in
+  rows-removed ed s i n v b u g h p q r t k j =
+      let hd = header ed all in
       let ls = hd ++ rowsOf 0 0 xs in
       let cs = rowsOf (v + used o) (b + size o) ys in
       let ds = rowsOf v (b + size o) ys in
       let bs = rowsOf v b ys in
-      let f : allObjects all ≡ ls ++ (row v b o ++ cs) = rw (r, t) (ap (λ l. hd ++ l) (rw (zero-add (length (allWords xs)), zero-add (length (allBytes xs))) at (rows-append 0 0 xs (o ∷ ys))) ∙ sym (append-assoc hd (rowsOf 0 0 xs) (rowsOf (length (allWords xs)) (length (allBytes xs)) (o ∷ ys)))) in
+      let f : allObjects ed all ≡ ls ++ (row v b o ++ cs) = rw (r, t) (ap (λ l. hd ++ l) (rw (zero-add (length (allWords xs)), zero-add (length (allBytes xs))) at (rows-append 0 0 xs (o ∷ ys))) ∙ sym (append-assoc hd (rowsOf 0 0 xs) (rowsOf (length (allWords xs)) (length (allBytes xs)) (o ∷ ys)))) in
       let lx = length-rows 0 0 xs in
       let lc = length-rows (v + used o) (b + size o) ys in
       let lb = length-rows v b ys in
@@ -80,15 +80,15 @@ module _ (xs ys : List Obj) (o : Obj) where
       ∙ laid-other s ls cs bs (omega arith)
       ∙ ap (over s 0) (append-assoc hd (rowsOf 0 0 xs) bs ∙ rw (r, t) (ap (λ l. hd ++ l) (sym (rw (zero-add (length (allWords xs)), zero-add (length (allBytes xs))) at (rows-append 0 0 xs ys))))))
 
-  objects-removed : (s l : List ℕ) (i n m k v b u g : ℕ) → over s 0 (allObjects all) ≡ s → i ≡ length xs → n ≡ length all → m ≡ length (allWords all) → k ≡ length (allBytes all) → v ≡ length (allWords xs) → b ≡ length (allBytes xs) → u ≡ used o → g ≡ size o
+  objects-removed : (ed : ℕ) (s l : List ℕ) (i n m k v b u g : ℕ) → over s 0 (allObjects ed all) ≡ s → i ≡ length xs → n ≡ length all → m ≡ length (allWords all) → k ≡ length (allBytes all) → v ≡ length (allWords xs) → b ≡ length (allBytes xs) → u ≡ used o → g ≡ size o
       → l ≡ fallen 12 g (n - (i + 1)) (12 * i + 17) (fallen 12 u (n - (i + 1)) (12 * i + 16) (over s (12 * i + 12) (slice (12 * i + 24) (12 * n + 12) s)))
-      → set (set (set l 0 (n - 1)) 1 (m - u)) 2 (k - g) ≡ over s 0 (allObjects (xs ++ ys))
+      → set (set (set l 0 (n - 1)) 1 (m - u)) 2 (k - g) ≡ over s 0 (allObjects ed (xs ++ ys))
   unfolding over allWords allBytes
-  objects-removed s l i n m k v b u g e p q q₂ q₃ r w ue ge f =
+  objects-removed ed s l i n m k v b u g e p q q₂ q₃ r w ue ge f =
       let a : n - 1 ≡ length (xs ++ ys) = rw (length-append xs ys) (omega (arith, length-append xs (o ∷ ys))) in
       let c : m - u ≡ length (allWords (xs ++ ys)) = rw (words-append xs ys, length-append (allWords xs) (allWords ys)) (omega (arith, ap length (words-append xs (o ∷ ys)), length-append (allWords xs) (wordsOf (o .values) ++ allWords ys), length-append (wordsOf (o .values)) (allWords ys), length-wordsOf (o .values))) in
       let d : k - g ≡ length (allBytes (xs ++ ys)) = rw (bytes-append xs ys, length-append (allBytes xs) (allBytes ys)) (omega (arith, ap length (bytes-append xs (o ∷ ys)), length-append (allBytes xs) (bytesOf o ++ allBytes ys), length-append (bytesOf o) (allBytes ys))) in
-      rw (f, rows-removed s i n v b u g e p q r w ue ge, a, c, d)
+      rw (f, rows-removed ed s i n v b u g e p q r w ue ge, a, c, d)
 
 -- ---- object i of os
 record Split (i : ℕ) (os : List Obj) : Type 0 where
@@ -124,14 +124,14 @@ record Where (xs ys : List Obj) (o : Obj) (d : Dict) (i n m w v e b f : ℕ) : T
   b-is : b ≡ length (allBytes xs)
   f-is : f ≡ b + size o
 
-spot : (xs ys : List Obj) (o : Obj) (d : Dict) (i n m w v e b f : ℕ) → over (d .objects) 0 (allObjects (xs ++ (o ∷ ys))) ≡ d .objects → i ≡ length xs → Spot d i n m w v e b f → Where xs ys o d i n m w v e b f
+spot : (xs ys : List Obj) (o : Obj) (d : Dict) (i n m w v e b f : ℕ) → over (d .objects) 0 (allObjects (editionOf (d .objects)) (xs ++ (o ∷ ys))) ≡ d .objects → i ≡ length xs → Spot d i n m w v e b f → Where xs ys o d i n m w v e b f
 unfolding allWords allBytes
 spot xs ys o d i n m w v e b f l p s =
-    let t = totals (xs ++ (o ∷ ys)) (d .objects) l in
-    let q = place xs (o ∷ ys) (d .objects) i p l in
+    let t = totals (editionOf (d .objects)) (xs ++ (o ∷ ys)) (d .objects) l in
+    let q = place (editionOf (d .objects)) xs (o ∷ ys) (d .objects) i p l in
     let a : (xs ++ (o ∷ [])) ++ ys ≡ xs ++ (o ∷ ys) = append-assoc xs (o ∷ []) ys in
     let j : i + 1 ≡ length (xs ++ (o ∷ [])) = rw (length-append xs (o ∷ [])) (omega arith) in
-    let k = place (xs ++ (o ∷ [])) ys (d .objects) (i + 1) j (rw a l) in
+    let k = place (editionOf (d .objects)) (xs ++ (o ∷ [])) ys (d .objects) (i + 1) j (rw a l) in
     let x : length (allWords (xs ++ (o ∷ []))) ≡ length (allWords xs) + used o =
     ap length (words-append xs (o ∷ [])) ∙ length-append (allWords xs) (wordsOf (o .values) ++ []) ∙ rw (append-nil, length-wordsOf) in
     let y : length (allBytes (xs ++ (o ∷ []))) ≡ length (allBytes xs) + size o =
@@ -157,7 +157,7 @@ pub record Within (v e m b f w : ℕ) : Type 0 where
 
 module _ (os : List Obj) (d : Dict) (l : Lies os d) (i n m w v e b f : ℕ) (h : i < numberOf (d .objects)) (s : Spot d i n m w v e b f) where
   small : i < length os
-  small = omega (arith, h, totals os (d .objects) (l .objects) .number)
+  small = omega (arith, h, totals (editionOf (d .objects)) os (d .objects) (l .objects) .number)
 
   abbrev k : Split i os
   k = split i os small
@@ -192,7 +192,7 @@ module _ (os : List Obj) (d : Dict) (l : Lies os d) (i n m w v e b f : ℕ) (h :
   pub slots-gone : fallen 3 (f - b) (m - e) (3 * v + 1) (over (d .slots) (3 * v) (slice (3 * e) (3 * m) (d .slots))) ≡ over (d .slots) 0 (allSlots 0 (removeAt i 1 os))
   slots-gone = slots-removed (take i os) (drop (i + 1) os) (k .o) (d .slots) v e m b (f - b) (rw (k .whole) (l .slots)) (there .v-is) (there .e-is) (there .m-is) (there .b-is) (omega (arith, there .f-is))
 
-  pub objects-gone : set (set (set (fallen 12 (f - b) (n - (i + 1)) (12 * i + 17) (fallen 12 (e - v) (n - (i + 1)) (12 * i + 16) (over (d .objects) (12 * i + 12) (slice (12 * i + 24) (12 * n + 12) (d .objects))))) 0 (n - 1)) 1 (valuesOf (d .objects) - (e - v))) 2 (usedOf (d .objects) - (f - b)) ≡ over (d .objects) 0 (allObjects (removeAt i 1 os))
+  pub objects-gone : set (set (set (fallen 12 (f - b) (n - (i + 1)) (12 * i + 17) (fallen 12 (e - v) (n - (i + 1)) (12 * i + 16) (over (d .objects) (12 * i + 12) (slice (12 * i + 24) (12 * n + 12) (d .objects))))) 0 (n - 1)) 1 (valuesOf (d .objects) - (e - v))) 2 (usedOf (d .objects) - (f - b)) ≡ over (d .objects) 0 (allObjects (editionOf (d .objects)) (removeAt i 1 os))
   objects-gone =
       rw (← s .values, ← s .bytes)
-      (objects-removed (take i os) (drop (i + 1) os) (k .o) (d .objects) (fallen 12 (f - b) (n - (i + 1)) (12 * i + 17) (fallen 12 (e - v) (n - (i + 1)) (12 * i + 16) (over (d .objects) (12 * i + 12) (slice (12 * i + 24) (12 * n + 12) (d .objects))))) i n m w v b (e - v) (f - b) (rw (k .whole) (l .objects)) (there .at) (there .n-is) (there .m-is) (there .w-is) (there .v-is) (there .b-is) (omega (arith, there .e-is)) (omega (arith, there .f-is)) refl)
+      (objects-removed (take i os) (drop (i + 1) os) (k .o) (editionOf (d .objects)) (d .objects) (fallen 12 (f - b) (n - (i + 1)) (12 * i + 17) (fallen 12 (e - v) (n - (i + 1)) (12 * i + 16) (over (d .objects) (12 * i + 12) (slice (12 * i + 24) (12 * n + 12) (d .objects))))) i n m w v b (e - v) (f - b) (rw (k .whole) (l .objects)) (there .at) (there .n-is) (there .m-is) (there .w-is) (there .v-is) (there .b-is) (omega (arith, there .e-is)) (omega (arith, there .f-is)) refl)

@@ -10,9 +10,10 @@ use borrow.Author.Tests.{leb-true, le-leb}
 use lib.Dec.{leb}
 use lib.ListN.{length, take, drop, length-append, take-append-drop}
 use lib.Seq.{take-at, drop-at, length-take-le}
+use Rattle.lists.specs.Lists.{over}
 use Rattle.lists.proofs.SpliceLaws.{over-longer}
 use Rattle.entry.specs.Model.{Obj, rowsOf, wordsOf, bytesOf, header, allObjects, allSlots, allWords, allBytes, insertAt}
-use Rattle.entry.specs.Table.{Dict, Lies, modelOf, laid, numberOf}
+use Rattle.entry.specs.Table.{Dict, Lies, editionOf, modelOf, laid, numberOf}
 use Rattle.entry.specs.Rules.{objOk, objsOk, Few}
 use Rattle.entry.specs.Judge.{Sound, wellFormed}
 use Rattle.entry.proofs.JudgeLaws.{and-true, length-objs}
@@ -22,7 +23,7 @@ use Rattle.entry.proofs.BackLaws.{read-back, complete}
 use Rattle.placing.specs.Place.{inserted}
 use Rattle.insertion.specs.Replace.{removeAt, replaceAt, without, replaced, RoomIn}
 use Rattle.placing.proofs.ActLaws.{dict-is}
-use Rattle.insertion.proofs.KeepLaws.{laid-lies}
+use Rattle.insertion.proofs.KeepLaws.{laid-lies, laid-edition}
 
 -- ---- fewer objects keep the rules
 from-lower : (a b : ℕ) (os : List Obj) → a ≤ b → objsOk b os ≡ true → objsOk a os ≡ true
@@ -83,16 +84,17 @@ module _ (d : Dict) (s : Sound d) (i k : ℕ) where
     slots-more : (xs ys : List Obj) → length (allSlots 0 (xs ++ ys)) ≤ length (allSlots 0 (xs ++ (o ∷ ys)))
     slots-more xs ys = omega (arith, length-slots 0 (xs ++ ys), length-slots 0 (xs ++ (o ∷ ys)), words-more xs ys)
 
-    rows-more : (xs ys : List Obj) → length (allObjects (xs ++ ys)) ≤ length (allObjects (xs ++ (o ∷ ys)))
+    rows-more : (xs ys : List Obj) → length (allObjects (editionOf (d .objects)) (xs ++ ys)) ≤ length (allObjects (editionOf (d .objects)) (xs ++ (o ∷ ys)))
     rows-more xs ys =
-        omega (arith, length-append (header (xs ++ ys)) (rowsOf 0 0 (xs ++ ys)), length-append (header (xs ++ (o ∷ ys))) (rowsOf 0 0 (xs ++ (o ∷ ys))), length-rows 0 0 (xs ++ ys), length-rows 0 0 (xs ++ (o ∷ ys)), length-append xs ys, length-append xs (o ∷ ys))
+        omega (arith, length-append (header (editionOf (d .objects)) (xs ++ ys)) (rowsOf 0 0 (xs ++ ys)), length-append (header (editionOf (d .objects)) (xs ++ (o ∷ ys))) (rowsOf 0 0 (xs ++ (o ∷ ys))), length-rows 0 0 (xs ++ ys), length-rows 0 0 (xs ++ (o ∷ ys)), length-append xs ys, length-append xs (o ∷ ys))
 
     pub replaced-is : inserted i o (without i k d) ≡ replaced i k o d
+    unfolding over
     replaced-is =
         let xs = take i (modelOf d) in
         let ys = drop (i + k) (modelOf d) in
         ap (λ os. laid (insertAt i o os) (without i k d)) held ∙ ap (λ os. laid os (without i k d)) together
-        ∙ dict-is (over-longer (d .objects) (allObjects (xs ++ ys)) (allObjects (xs ++ (o ∷ ys))) (rows-more xs ys)) (over-longer (d .slots) (allSlots 0 (xs ++ ys)) (allSlots 0 (xs ++ (o ∷ ys))) (slots-more xs ys))
+        ∙ dict-is (over-longer (d .objects) (allObjects (editionOf (d .objects)) (xs ++ ys)) (allObjects (editionOf (d .objects)) (xs ++ (o ∷ ys))) (rows-more xs ys)) (over-longer (d .slots) (allSlots 0 (xs ++ ys)) (allSlots 0 (xs ++ (o ∷ ys))) (slots-more xs ys))
         (over-longer (d .words) (allWords (xs ++ ys)) (allWords (xs ++ (o ∷ ys))) (words-more xs ys)) (over-longer (d .bytes) (allBytes (xs ++ ys)) (allBytes (xs ++ (o ∷ ys))) (bytes-more xs ys))
 
 -- ---- nothing removed
@@ -113,4 +115,4 @@ pub replaced-kept : (xs : List Obj) (o q : Obj) (ys : List Obj) (d : Dict) → S
 replaced-kept xs o q ys d s m i g f =
     let h = objs-swap 0 xs ys o q i (λ k. g) (rw m at (s .good)) in
     let l = laid-lies (xs ++ (q ∷ ys)) d in
-    (read-back (xs ++ (q ∷ ys)) (laid (xs ++ (q ∷ ys)) d) l h, complete (xs ++ (q ∷ ys)) (laid (xs ++ (q ∷ ys)) d) l h f)
+    (read-back (xs ++ (q ∷ ys)) (laid (xs ++ (q ∷ ys)) d) l h, complete (xs ++ (q ∷ ys)) (laid (xs ++ (q ∷ ys)) d) (laid-edition (xs ++ (q ∷ ys)) d (s .edition)) l h f)

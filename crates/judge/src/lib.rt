@@ -7,13 +7,15 @@ ghost use lib.ListN.{length, take, drop, getD};
 ghost use Rattle.text.specs.Machine.{judge};
 ghost use Rattle.value.specs.Codec.{isText, takes, textWord};
 ghost use Rattle.entry.specs.Table.{numberOf, valuesOf, usedOf, rowEnd, slotPlace, slotEnd, countAt, defaultAt, typeAt, startAt, roomAt, dict};
-ghost use Rattle.entry.specs.Rules.{isGood, valOk, tight, headOk};
-ghost use Rattle.entry.specs.Judge.{reserved, rowReserved, slotsFrom, rowOk, rowFits, rowsFrom, headerOk, wellFormed, Long};
+ghost use Rattle.entry.specs.Rules.{isGood, valOk, tight, headOk, extraOk};
+ghost use Rattle.entry.specs.Judge.{reserved, slotsFrom, rowOk, rowFits, rowsFrom, headerOk, wellFormed, Long};
+use entry::Extra;
 use entry::Sum;
 use entry::Walk;
 use entry::access_at;
 use entry::count_at;
 use entry::default_at;
+use entry::extra_at;
 use entry::first_at;
 use entry::index_at;
 use entry::kind_at;
@@ -106,16 +108,11 @@ fn reserved(objects: &[u64]) -> bool
                             & ((objects[9] == 0) & ((objects[10] == 0) & (objects[11] == 0))))))))
 }
 
-// The four words of a row that are kept for later.
-fn row_reserved(objects: &[u64], i: usize) -> bool
-    requires { ⌜ (i < 1024) × (rowEnd i ≤ length (now objects)) ⌝ }
-    ensures { λ r. ⌜ r ≡ rowReserved (now (objects .entry)) i ⌝ }
+// Whether what a row has beside its head keeps the rules, where the object has so many elements.
+fn extra_ok(count: u64, extra: Extra) -> bool
+    ensures { λ r. ⌜ r ≡ extraOk count extra ⌝ }
 {
-    let a = objects[12 * i + 20];
-    let b = objects[12 * i + 21];
-    let c = objects[12 * i + 22];
-    let d = objects[12 * i + 23];
-    (a == 0) & ((b == 0) & ((c == 0) & (d == 0)))
+    (extra.kept == 0) & ((extra.ranged == 0) & ((extra.low == 0) & (extra.high == 0)))
 }
 
 // A slot that is not the default's: its room lies from b on, within the bytes that are used, and its value is right.
@@ -188,7 +185,8 @@ fn row_ok(objects: &[u64], i: usize, v: usize, b: usize, low: u64) -> bool
     let first = first_at(objects, i);
     let name = name_at(objects, i);
     (low <= index)
-        & (head & ((first == v as u64) & ((name == b as u64) & row_reserved(objects, i))))
+        & (head
+            & ((first == v as u64) & ((name == b as u64) & extra_ok(count, extra_at(objects, i)))))
 }
 
 fn row_fits(objects: &[u64], bytes: &[u8], i: usize, v: usize, b: usize) -> bool

@@ -21,4 +21,4 @@ made a os = record { answer = a; objects = os }
 
 -- the header of no object; where the rows cannot hold it: Full
 abbrev pub newOf : List ℕ → Made
-newOf objects = cond (ltb (length objects) (rowPlace 0)) (made (Refused Full) objects) (made Done (over objects 0 (header [])))
+newOf objects = cond (ltb (length objects) (rowPlace 0)) (made (Refused Full) objects) (made Done (over objects 0 (header 1 [])))

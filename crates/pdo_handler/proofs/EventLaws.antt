@@ -7,13 +7,13 @@ use native.Mathlib.Omega.{arith}
 use lib.Dec.{eqb}
 use lib.ListN.{length, length-append, length-take, drop}
 use Rattle.value.specs.declared.Fault.the-variants as fault
-use Rattle.entry.specs.Table.{kindAt, countAt, firstAt, typeAt}
+use Rattle.entry.specs.Table.{kindAt, listCount, firstAt, typeAt}
 use Rattle.entry.specs.Find.{findRow}
 use Rattle.entry.specs.Judge.{wellFormed}
 use Rattle.entry.specs.Put.{Contents}
 use Rattle.entry.specs.declared.Found.{Found}
 use Rattle.entry.specs.declared.Found.the-variants.{At, Nothing}
-use Rattle.entry.proofs.ValueLaws.{found-lies}
+use Rattle.entry.proofs.ValueLaws.{found-lies, list-count-le}
 use Rattle.pdo_step.specs.declared.Outcome.{Outcome}
 use Rattle.pdo_step.specs.declared.Outcome.the-variants as outcome
 use Rattle.pdo_channel.specs.Channel.{firstMatch, expectedOf, rightVersion}
@@ -56,7 +56,7 @@ received-few f c w version true = channel (firstMatch (held f c) (f .sender))
         list = listIn (f .objects) (c .words) r
 
         few : length list ≤ 254
-        few = omega (arith, length-take (countAt (f .objects) r) (drop (firstAt (f .objects) r) (c .words)), found-lies (held f c) w x r q .few)
+        few = omega (arith, length-take (listCount (f .objects) r) (drop (firstAt (f .objects) r) (c .words)), list-count-le (held f c) w r (found-lies (held f c) w x r q .below), found-lies (held f c) w x r q .few)
 
         kind : (b : Bool) → length (cond b (ran c []) (runFrom f (firstAt (f .objects) r) list 0 c) .events) ≤ 254
         kind true = omega arith

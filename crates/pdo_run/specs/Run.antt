@@ -7,7 +7,7 @@ use lib.ListN.{length, take, drop, set}
 use Rattle.lists.specs.Lists.{over}
 use Rattle.value.specs.declared.Fault.{Fault}
 use Rattle.value.specs.declared.Fault.the-variants as fault
-use Rattle.entry.specs.Table.{Dict, dict, kindAt, countAt, firstAt, typeAt}
+use Rattle.entry.specs.Table.{Dict, dict, kindAt, listCount, firstAt, typeAt}
 use Rattle.entry.specs.declared.Found.{Found}
 use Rattle.entry.specs.declared.Found.the-variants.{At, Nothing}
 use Rattle.entry.specs.Put.{Contents, contents}
@@ -118,7 +118,7 @@ runFrom f p (w ∷ ws) j c =
 
 -- R11.4: the words of the list in row r, "gathered before the first write"
 abbrev pub listIn : List ℕ → List ℕ → ℕ → List ℕ
-listIn objects words r = take (countAt objects r) (drop (firstAt objects r) words)
+listIn objects words r = take (listCount objects r) (drop (firstAt objects r) words)
 
 abbrev pub runIn : Frame → Contents → ℕ → Ran
 runIn f c r = runFrom f (firstAt (f .objects) r) (listIn (f .objects) (c .words) r) 0 c

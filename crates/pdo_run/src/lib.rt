@@ -184,7 +184,7 @@ fn run_row(
     ensures { λ n. ⌜ logged (contents (now (words .exit)) (now (bytes .exit))) (now (log .exit)) n ≡ finished (runIn (frame (now (objects .entry)) (now (slots .entry)) (now (payload .entry)) sender number) (contents (now (words .entry)) (now (bytes .entry))) r) (now (log .entry)) begun ⌝ }
 {
     let first = entry::first_at(objects, r) as usize;
-    let n = entry::count_at(objects, r) as usize;
+    let n = entry::list_count(objects, r) as usize;
     let list = gather(words, first, n);
     run(
         objects,

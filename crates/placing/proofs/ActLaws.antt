@@ -10,7 +10,7 @@ use lib.Seq.{length-take-le}
 use Rattle.lists.specs.Lists.{over, grown, spliced}
 use Rattle.entry.specs.Model.{Obj, used, size, row, wordsOf, rooms, allObjects, allSlots, allWords, allBytes, insertAt}
 use Rattle.given.specs.Given.{given, slotsIn, roomsIn, countIn, objIn}
-use Rattle.entry.specs.Table.{Dict, dict, Lies, numberOf, valuesOf, usedOf, before}
+use Rattle.entry.specs.Table.{Dict, dict, Lies, editionOf, numberOf, valuesOf, usedOf, before}
 use Rattle.placing.specs.Place.{rowIn}
 use Rattle.given.specs.declared.Head.{Head}
 use Rattle.given.proofs.GivenLaws.{given-slots, given-length, size-is}
@@ -27,11 +27,14 @@ pub record Read (d : Dict) (i n m w x y : ℕ) : Type 0 where
   pub start : y ≡ before (d .objects) i 17 2
 
 module _ (os : List Obj) (d : Dict) (l : Lies os d) (i : ℕ) (h : i ≤ numberOf (d .objects)) where
+  abbrev ed : ℕ
+  ed = editionOf (d .objects)
+
   joined : take i os ++ drop i os ≡ os
   joined = take-append-drop i os
 
   total : Totals os (d .objects)
-  total = totals os (d .objects) (l .objects)
+  total = totals ed os (d .objects) (l .objects)
 
   at : i ≡ length (take i os)
   at = sym (length-take-le i os (omega (arith, total .number)))
@@ -40,7 +43,7 @@ module _ (os : List Obj) (d : Dict) (l : Lies os d) (i : ℕ) (h : i ≤ numberO
   split f s e = rw joined e
 
   there : Place (take i os) (drop i os) (d .objects) i
-  there = place (take i os) (drop i os) (d .objects) i at (split allObjects (d .objects) (l .objects))
+  there = place ed (take i os) (drop i os) (d .objects) i at (split (allObjects ed) (d .objects) (l .objects))
 
   words-two : length (allWords os) ≡ length (allWords (take i os)) + length (allWords (drop i os))
   words-two = ap (λ k. length (allWords k)) (sym joined) ∙ ap length (words-append (take i os) (drop i os)) ∙ length-append (allWords (take i os)) (allWords (drop i os))
@@ -100,11 +103,11 @@ module _ (os : List Obj) (d : Dict) (l : Lies os d) (i : ℕ) (h : i ≤ numberO
 
       objects-left : let n = numberOf (d .objects) in
           set (set (set (spliced (12 * i + 12) (12 * n + 12) (rowIn hd v b (length name) (countIn vals)) (grown 12 g (n - i) (12 * i + 17) (grown 12 (countIn vals) (n - i) (12 * i + 16) (d .objects)))) 0 (n + 1)) 1 (valuesOf (d .objects) + countIn vals)) 2 (usedOf (d .objects) + g)
-          ≡ over (d .objects) 0 (allObjects (insertAt i o os))
+          ≡ over (d .objects) 0 (allObjects ed (insertAt i o os))
       objects-left =
           rw sized
           (rw (given-length vals encodings (countIn vals) 0 0) at
-          (objects-inserted (take i os) (drop i os) o (d .objects) (spliced (12 * i + 12) (12 * numberOf (d .objects) + 12) (row v b o) (grown 12 (size o) (numberOf (d .objects) - i) (12 * i + 17) (grown 12 (used o) (numberOf (d .objects) - i) (12 * i + 16) (d .objects)))) i (numberOf (d .objects)) (valuesOf (d .objects)) (usedOf (d .objects)) v b (split allObjects (d .objects) (l .objects)) at
+          (objects-inserted (take i os) (drop i os) o ed (d .objects) (spliced (12 * i + 12) (12 * numberOf (d .objects) + 12) (row v b o) (grown 12 (size o) (numberOf (d .objects) - i) (12 * i + 17) (grown 12 (used o) (numberOf (d .objects) - i) (12 * i + 16) (d .objects)))) i (numberOf (d .objects)) (valuesOf (d .objects)) (usedOf (d .objects)) v b (split (allObjects ed) (d .objects) (l .objects)) at
           (total .number ∙ ap length (sym joined)) (total .values ∙ ap (λ k. length (allWords k)) (sym joined)) (total .bytes ∙ ap (λ k. length (allBytes k)) (sym joined)) (there .values) (there .bytes) refl))
 
       module _ (n m w x y : ℕ) (f : Read d i n m w x y) where
@@ -118,7 +121,7 @@ module _ (os : List Obj) (d : Dict) (l : Lies os d) (i : ℕ) (h : i ≤ numberO
         bytes-read = rw (f .bytes, f .start) bytes-left
 
         pub objects-read : set (set (set (spliced (12 * i + 12) (12 * n + 12) (rowIn hd x y (length name) (countIn vals)) (grown 12 g (n - i) (12 * i + 17) (grown 12 (countIn vals) (n - i) (12 * i + 16) (d .objects)))) 0 (n + 1)) 1 (valuesOf (d .objects) + countIn vals)) 2 (usedOf (d .objects) + g)
-            ≡ over (d .objects) 0 (allObjects (insertAt i o os))
+            ≡ over (d .objects) 0 (allObjects ed (insertAt i o os))
         objects-read = rw (f .number, f .first, f .start) objects-left
 
 pub dict-is : {a b c e a′ b′ c′ e′ : List ℕ} → a ≡ a′ → b ≡ b′ → c ≡ c′ → e ≡ e′ → dict a b c e ≡ dict a′ b′ c′ e′

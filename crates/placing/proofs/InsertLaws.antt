@@ -56,16 +56,16 @@ module _ (xs ys : List Obj) (o : Obj) where
       ∙ ap (over s 0) (sym (rw (← r) at (rw zero-add at (slots-append 0 xs (o ∷ ys)))))
 
   -- the rows, still under the old header
-  rows-between : (s : List ℕ) (i n v b : ℕ) → over s 0 (allObjects (xs ++ ys)) ≡ s → i ≡ length xs → n ≡ length (xs ++ ys) → v ≡ length (allWords xs) → b ≡ length (allBytes xs)
-      → spliced (12 * i + 12) (12 * n + 12) (row v b o) (grown 12 (size o) (n - i) (12 * i + 17) (grown 12 (used o) (n - i) (12 * i + 16) s)) ≡ over s 0 (header (xs ++ ys) ++ rowsOf 0 0 (xs ++ (o ∷ ys)))
+  rows-between : (ed : ℕ) (s : List ℕ) (i n v b : ℕ) → over s 0 (allObjects ed (xs ++ ys)) ≡ s → i ≡ length xs → n ≡ length (xs ++ ys) → v ≡ length (allWords xs) → b ≡ length (allBytes xs)
+      → spliced (12 * i + 12) (12 * n + 12) (row v b o) (grown 12 (size o) (n - i) (12 * i + 17) (grown 12 (used o) (n - i) (12 * i + 16) s)) ≡ over s 0 (header ed (xs ++ ys) ++ rowsOf 0 0 (xs ++ (o ∷ ys)))
   unfolding rowsOf
-  rows-between s i n v b e p q r t =
-      let hd = header (xs ++ ys) in
+  rows-between ed s i n v b e p q r t =
+      let hd = header ed (xs ++ ys) in
       let ls = hd ++ rowsOf 0 0 xs in
       let bs = rowsOf v b ys in
       let ds = rowsOf (v + used o) b ys in
       let cs = rowsOf (v + used o) (b + size o) ys in
-      let f : allObjects (xs ++ ys) ≡ ls ++ bs = rw (r, t) (ap (λ l. hd ++ l) (rw (zero-add (length (allWords xs)), zero-add (length (allBytes xs))) at (rows-append 0 0 xs ys)) ∙ sym (append-assoc hd (rowsOf 0 0 xs) (rowsOf (length (allWords xs)) (length (allBytes xs)) ys))) in
+      let f : allObjects ed (xs ++ ys) ≡ ls ++ bs = rw (r, t) (ap (λ l. hd ++ l) (rw (zero-add (length (allWords xs)), zero-add (length (allBytes xs))) at (rows-append 0 0 xs ys)) ∙ sym (append-assoc hd (rowsOf 0 0 xs) (rowsOf (length (allWords xs)) (length (allBytes xs)) ys))) in
       let h = rw f at e in
       let z = drop (length (ls ++ bs)) s in
       let lx = length-rows 0 0 xs in
@@ -80,13 +80,13 @@ module _ (xs ys : List Obj) (o : Obj) where
       let w : ls ++ (row v b o ++ cs) ≡ hd ++ rowsOf 0 0 (xs ++ (o ∷ ys)) = rw (r, t) (append-assoc hd (rowsOf 0 0 xs) _ ∙ ap (λ l. hd ++ l) (sym (rw (zero-add (length (allWords xs)), zero-add (length (allBytes xs))) at (rows-append 0 0 xs (o ∷ ys))))) in
       put-in s ls bs cs (row v b o) _ (12 * i + 12) (12 * n + 12) h (omega arith) (omega arith) (rw (length-append ls bs) (omega arith)) g₂ ∙ ap (over s 0) w
 
-  pub objects-inserted : (s t : List ℕ) (i n m k v b : ℕ) → over s 0 (allObjects (xs ++ ys)) ≡ s → i ≡ length xs → n ≡ length (xs ++ ys) → m ≡ length (allWords (xs ++ ys)) → k ≡ length (allBytes (xs ++ ys)) → v ≡ length (allWords xs) → b ≡ length (allBytes xs)
+  pub objects-inserted : (ed : ℕ) (s t : List ℕ) (i n m k v b : ℕ) → over s 0 (allObjects ed (xs ++ ys)) ≡ s → i ≡ length xs → n ≡ length (xs ++ ys) → m ≡ length (allWords (xs ++ ys)) → k ≡ length (allBytes (xs ++ ys)) → v ≡ length (allWords xs) → b ≡ length (allBytes xs)
       → t ≡ spliced (12 * i + 12) (12 * n + 12) (row v b o) (grown 12 (size o) (n - i) (12 * i + 17) (grown 12 (used o) (n - i) (12 * i + 16) s))
-      → set (set (set t 0 (n + 1)) 1 (m + used o)) 2 (k + size o) ≡ over s 0 (allObjects (xs ++ (o ∷ ys)))
+      → set (set (set t 0 (n + 1)) 1 (m + used o)) 2 (k + size o) ≡ over s 0 (allObjects ed (xs ++ (o ∷ ys)))
   unfolding over allWords allBytes
-  objects-inserted s t i n m k v b e p q q₂ q₃ r w f =
+  objects-inserted ed s t i n m k v b e p q q₂ q₃ r w f =
       let ns = xs ++ (o ∷ ys) in
       let a : n + 1 ≡ length ns = rw (length-append xs (o ∷ ys)) (omega (arith, length-append xs ys)) in
       let c : m + used o ≡ length (allWords ns) = rw (words-append xs (o ∷ ys), length-append (allWords xs) (wordsOf (o .values) ++ allWords ys), length-append (wordsOf (o .values)) (allWords ys), length-wordsOf (o .values)) (omega (arith, ap length (words-append xs ys), length-append (allWords xs) (allWords ys))) in
       let d : k + size o ≡ length (allBytes ns) = rw (bytes-append xs (o ∷ ys), length-append (allBytes xs) (bytesOf o ++ allBytes ys), length-append (bytesOf o) (allBytes ys)) (omega (arith, ap length (bytes-append xs ys), length-append (allBytes xs) (allBytes ys))) in
-      rw (f, rows-between s i n v b e p q r w, a, c, d)
+      rw (f, rows-between ed s i n v b e p q r w, a, c, d)

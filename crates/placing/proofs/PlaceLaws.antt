@@ -29,16 +29,16 @@ pub record Place (xs ys : List Obj) (s : List ℕ) (i : ℕ) : Type 0 where
   pub first : (u j : ℕ) → j < numberOf s - i → getD s (12 * i + 16 + 12 * j) 0 ≤ length (allWords (xs ++ ys))
   pub name : (u j : ℕ) → j < numberOf s - i → getD (grown 12 u (numberOf s - i) (12 * i + 16) s) (12 * i + 17 + 12 * j) 0 ≤ length (allBytes (xs ++ ys))
 
-pub place : (xs ys : List Obj) (s : List ℕ) (i : ℕ) → i ≡ length xs → over s 0 (allObjects (xs ++ ys)) ≡ s → Place xs ys s i
-place xs ys s i p e =
-    let t = totals (xs ++ ys) s e in
+pub place : (ed : ℕ) (xs ys : List Obj) (s : List ℕ) (i : ℕ) → i ≡ length xs → over s 0 (allObjects ed (xs ++ ys)) ≡ s → Place xs ys s i
+place ed xs ys s i p e =
+    let t = totals ed (xs ++ ys) s e in
     let n : numberOf s ≡ length xs + length ys = t .number ∙ length-append xs ys in
-    let f = rows-parts xs ys s e in
-    let ls = header (xs ++ ys) ++ rowsOf 0 0 xs in
-    let l : length ls ≡ 12 * i + 12 = rw (length-append (header (xs ++ ys)) (rowsOf 0 0 xs)) (omega (arith, length-rows 0 0 xs)) in
+    let f = rows-parts ed xs ys s e in
+    let ls = header ed (xs ++ ys) ++ rowsOf 0 0 xs in
+    let l : length ls ≡ 12 * i + 12 = rw (length-append (header ed (xs ++ ys)) (rowsOf 0 0 xs)) (omega (arith, length-rows 0 0 xs)) in
     let w : length (allWords (xs ++ ys)) ≡ length (allWords xs) + length (allWords ys) = ap length (words-append xs ys) ∙ length-append (allWords xs) (allWords ys) in
     let b : length (allBytes (xs ++ ys)) ≡ length (allBytes xs) + length (allBytes ys) = ap length (bytes-append xs ys) ∙ length-append (allBytes xs) (allBytes ys) in
-    let z = drop (length (allObjects (xs ++ ys))) s in
+    let z = drop (length (allObjects ed (xs ++ ys))) s in
     let va = length (allWords xs) in
     let ba = length (allBytes xs) in
     record {

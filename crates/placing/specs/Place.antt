@@ -5,6 +5,7 @@ use lib.ListN.{length}
 use Rattle.entry.specs.Model.{Obj, insertAt}
 use Rattle.entry.specs.Table.{Dict, modelOf, laid, numberOf, valuesOf, usedOf, rowEnd, slotPlace}
 use Rattle.rows.specs.Rows.{rowOf}
+use Rattle.given.specs.Given.{extraIn}
 use Rattle.given.specs.declared.Head.{Head}
 
 -- the memory with the object o as the one at place i: R6.6
@@ -13,7 +14,7 @@ inserted i o d = laid (insertAt i o (modelOf d)) d
 
 -- its row
 abbrev pub rowIn : Head → ℕ → ℕ → ℕ → ℕ → List ℕ
-rowIn h v b len u = rowOf (h .index) (h .kind) (h .access) (u - h .default) v b len (h .default)
+rowIn h v b len u = rowOf (h .index) (h .kind) (h .access) (u - h .default) v b len (h .default) (extraIn h (u - h .default))
 
 -- there is room for one object more, of u values and g bytes
 pub record Room (objects slots words bytes : List ℕ) (i u g : ℕ) : Type 0 where

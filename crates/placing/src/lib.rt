@@ -131,6 +131,25 @@ fn insert_bytes(
     fill_rooms(bytes, b + name.len(), vals, encodings, u);
 }
 
+// Its row, of u values, with v values and b bytes before them.
+fn row_in(head: Head, v: usize, b: usize, len: usize, u: usize) -> [u64; 12]
+    requires { ⌜ head .default ≤ u ⌝ }
+    ensures { λ r. ⌜ r ≡ rowIn head v b len u ⌝ }
+{
+    let count = u as u64 - head.default;
+    rows::row_of(
+        head.index as u64,
+        head.kind,
+        head.access,
+        count,
+        v as u64,
+        b as u64,
+        len as u64,
+        head.default,
+        given::extra_in(head, count),
+    )
+}
+
 // The row and the header's totals.
 fn insert_object(
     objects: &mut [u64],
@@ -151,16 +170,7 @@ fn insert_object(
 {
     let m = entry::values_of(objects);
     let used = entry::used_of(objects);
-    let row = rows::row_of(
-        head.index as u64,
-        head.kind,
-        head.access,
-        u as u64 - head.default,
-        v as u64,
-        b as u64,
-        len as u64,
-        head.default,
-    );
+    let row = row_in(head, v, b, len, u);
     rows::insert_row(objects, i, n, &row, u as u64, g as u64);
     rows::set_totals(objects, (n + 1) as u64, m + u as u64, used + g as u64);
 }

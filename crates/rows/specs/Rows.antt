@@ -4,6 +4,7 @@ use Prim.Native.Nat.{ℕ, _+_, _*_}
 use mathlib.Core.List.{List, [], _∷_}
 use lib.ListN.{set}
 use Rattle.lists.specs.Lists.{grown, fallen}
+use Rattle.entry.specs.declared.Extra.{Extra}
 use Rattle.entry.specs.Table.{firstPlace, namePlace, slotPlace, startPlace}
 
 -- u values and g bytes more, or less, before k rows from row i on
@@ -21,9 +22,9 @@ abbrev pub startsFallen : ℕ → ℕ → ℕ → List ℕ → List ℕ
 startsFallen v k g slots = fallen 3 g k (startPlace v) slots
 
 -- a row's words
-abbrev pub rowOf : ℕ → ℕ → ℕ → ℕ → ℕ → ℕ → ℕ → ℕ → List ℕ
-rowOf index kind access count first name len default =
-    index ∷ kind ∷ access ∷ count ∷ first ∷ name ∷ len ∷ default ∷ 0 ∷ 0 ∷ 0 ∷ 0 ∷ []
+abbrev pub rowOf : ℕ → ℕ → ℕ → ℕ → ℕ → ℕ → ℕ → ℕ → Extra → List ℕ
+rowOf index kind access count first name len default extra =
+    index ∷ kind ∷ access ∷ count ∷ first ∷ name ∷ len ∷ default ∷ extra .kept ∷ extra .ranged ∷ extra .low ∷ extra .high ∷ []
 
 -- the header's totals, and slot p, written
 abbrev pub totalled : ℕ → ℕ → ℕ → List ℕ → List ℕ

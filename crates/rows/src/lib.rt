@@ -8,13 +8,14 @@ ghost use Rattle.lists.specs.Lists.{over, grown, spliced};
 ghost use Rattle.entry.specs.Model.{header};
 ghost use Rattle.entry.specs.Table.{valuesOf, usedOf, rowPlace, rowEnd, firstPlace, namePlace, slotPlace, slotEnd, startPlace};
 ghost use Rattle.rows.specs.Rows.{rowOf, rowsGrown, rowsFallen, startsGrown, startsFallen, totalled, slotted};
+use entry::Extra;
 use entry::used_of;
 use entry::values_of;
 
 // The header of a dictionary without objects.
 pub fn lay_header(objects: &mut [u64])
     requires { ⌜ rowPlace 0 ≤ length (now objects) ⌝ }
-    ensures { λ _. ⌜ now (objects .exit) ≡ over (now (objects .entry)) 0 (header []) ⌝ }
+    ensures { λ _. ⌜ now (objects .exit) ≡ over (now (objects .entry)) 0 (header 1 []) ⌝ }
 {
     let words = [0, 0, 0, 1, 0, 0, 0, 0, 0, 0, 0, 0];
     lists::lay_words(objects, 0, &words);
@@ -40,8 +41,9 @@ pub fn row_of(
     name: u64,
     len: u64,
     default: u64,
+    extra: Extra,
 ) -> [u64; 12]
-    ensures { λ r. ⌜ r ≡ rowOf index kind access count first name len default ⌝ }
+    ensures { λ r. ⌜ r ≡ rowOf index kind access count first name len default extra ⌝ }
 {
     [
         index,
@@ -52,10 +54,10 @@ pub fn row_of(
         name,
         len,
         default,
-        0,
-        0,
-        0,
-        0,
+        extra.kept,
+        extra.ranged,
+        extra.low,
+        extra.high,
     ]
 }
 

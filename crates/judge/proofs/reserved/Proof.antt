@@ -1,5 +1,6 @@
 -- `judge::reserved` meets its contract. Assumes nothing.
 use mathlib.Core.Path.{refl}
+use Rattle.entry.specs.Rules.{isEdition}
 use Rattle.entry.specs.Judge.{reserved}
 use borrow.Author.Needs.{needs}
 use Rattle.judge.proofs.reserved.Statement.{statement}
@@ -33,7 +34,7 @@ shared-slice-read-result-9 : tie.Need-shared-slice-read-result-9
 shared-slice-read-result-9 c = search needs
 
 returns : tie.Need-returns
-unfolding reserved
+unfolding reserved isEdition
 returns c = refl
 
 pub reserved-spec : {M : Type 1} → statement M

@@ -31,12 +31,15 @@ first-at-requires c κs = search needs
 name-at-requires : tie.Need-name-at-requires
 name-at-requires c κs = search needs
 
-row-reserved-requires : tie.Need-row-reserved-requires
-row-reserved-requires c κs = search needs
+extra-at-requires : tie.Need-extra-at-requires
+extra-at-requires c κs = search needs
+
+extra-ok-requires : tie.Need-extra-ok-requires
+extra-ok-requires c κs = search needs
 
 returns : tie.Need-returns
 unfolding rowOk
-returns c = rw (c .row-reserved .ensures, c .before .name-at .ensures, c .before .before .first-at .ensures, c .before .before .before .head-ok .ensures, c .before .before .before .before .name-len-at .ensures, c .before .before .before .before .before .default-at .ensures, c .before .before .before .before .before .before .access-at .ensures, c .before .before .before .before .before .before .before .kind-at .ensures, c .before .before .before .before .before .before .before .before .count-at .ensures, c .before .before .before .before .before .before .before .before .before .index-at .ensures)
+returns c = rw (c .extra-ok .ensures, c .before .extra-at .ensures, c .before .before .name-at .ensures, c .before .before .before .first-at .ensures, c .before .before .before .before .head-ok .ensures, c .before .before .before .before .before .name-len-at .ensures, c .before .before .before .before .before .before .default-at .ensures, c .before .before .before .before .before .before .before .access-at .ensures, c .before .before .before .before .before .before .before .before .kind-at .ensures, c .before .before .before .before .before .before .before .before .before .count-at .ensures, c .before .before .before .before .before .before .before .before .before .before .index-at .ensures)
 
 pub row-ok-spec : {M : Type 1} → statement M
 row-ok-spec =
@@ -51,5 +54,6 @@ row-ok-spec =
     head-ok-requires
     first-at-requires
     name-at-requires
-    row-reserved-requires
+    extra-at-requires
+    extra-ok-requires
     returns)

@@ -8,7 +8,7 @@ use Rattle.entry.specs.Table.{Dict, dict, valuesOf}
 use Rattle.entry.specs.Put.{contents}
 use Rattle.entry.proofs.JudgeLaws.{headed}
 use Rattle.entry.proofs.FactLaws.{row-facts}
-use Rattle.entry.proofs.ValueLaws.{row-lies}
+use Rattle.entry.proofs.ValueLaws.{list-count-le, row-lies}
 use Rattle.pdo_run.specs.Run.{frame, runFrom, finished}
 use native.Mathlib.Omega.{arith}
 use borrow.Author.Needs.{needs}
@@ -18,25 +18,25 @@ use Rattle.pdo_run.proofs.run_row.Tie as tie
 abbrev D : tie.Start → Dict
 D s = dict (now (s .args .objects)) (now (s .args .slots)) (now (s .args .words)) (now (s .args .bytes))
 
-abbrev start : tie.After-count-at → tie.Start
+abbrev start : tie.After-list-count → tie.Start
 start c = c .before .before .before .before .before .before .before .before
 
-few : (c : tie.After-count-at) → c .count-at .result ≤ 254
-few c = let s = start c in omega (arith, c .count-at .ensures, row-lies (D s) (s .pre .0) (s .args .r) (s .pre .1 .0) .few)
+few : (c : tie.After-list-count) → c .list-count .result ≤ 254
+few c = let s = start c in omega (arith, c .list-count .ensures, list-count-le (D s) (s .pre .0) (s .args .r) (s .pre .1 .0), row-lies (D s) (s .pre .0) (s .args .r) (s .pre .1 .0) .few)
 
-inside : (c : tie.After-count-at) → c .before .first-at .result + c .count-at .result ≤ valuesOf (now (start c .args .objects))
+inside : (c : tie.After-list-count) → c .before .first-at .result + c .list-count .result ≤ valuesOf (now (start c .args .objects))
 inside c =
     let s = start c in
-    omega (arith, c .before .first-at .ensures, c .count-at .ensures, row-facts (D s) (s .pre .0) (s .args .r) (s .pre .1 .0) .values)
+    omega (arith, c .before .first-at .ensures, c .list-count .ensures, list-count-le (D s) (s .pre .0) (s .args .r) (s .pre .1 .0), row-facts (D s) (s .pre .0) (s .args .r) (s .pre .1 .0) .values)
 
-as-long : (g : tie.After-gather) → length (take (g .before .before .count-at .result) (g .gather .result)) ≡ g .before .before .count-at .result
+as-long : (g : tie.After-gather) → length (take (g .before .before .list-count .result) (g .gather .result)) ≡ g .before .before .list-count .result
 as-long g = length-take-le _ _ (omega (arith, g .gather .ensures .0, few (g .before .before)))
 
 first-at-requires : tie.Need-first-at-requires
 first-at-requires c κs = let s = c .before .before .before .before .before .before in let r = row-lies (D s) (s .pre .0) (s .args .r) (s .pre .1 .0) in (r .small, r .inside)
 
-count-at-requires : tie.Need-count-at-requires
-count-at-requires c κs = let s = c .before .before .before .before .before .before .before in let r = row-lies (D s) (s .pre .0) (s .args .r) (s .pre .1 .0) in (r .small, r .inside)
+list-count-requires : tie.Need-list-count-requires
+list-count-requires c κs = let s = c .before .before .before .before .before .before .before in let r = row-lies (D s) (s .pre .0) (s .args .r) (s .pre .1 .0) in (r .small, r .inside)
 
 gather-requires : tie.Need-gather-requires
 gather-requires c κs = let n = c .before in let s = start n in (few n, omega (arith, inside n, headed (D s) (s .pre .0) .words))
@@ -72,14 +72,14 @@ returns c =
     let f = frame (now (a .objects)) (now (a .slots)) (now (a .payload)) (a .sender) (a .number) in
     let k = contents (now (a .words)) (now (a .bytes)) in
     u .run .ensures ∙ ap (λ l. finished (runFrom f (n .before .first-at .result) l 0 k) (now (a .log)) (a .begun)) (g .gather .ensures .1)
-    ∙ ap₂ (λ p m. finished (runFrom f p (take m (drop p (now (a .words)))) 0 k) (now (a .log)) (a .begun)) (n .before .first-at .ensures) (n .count-at .ensures)
+    ∙ ap₂ (λ p m. finished (runFrom f p (take m (drop p (now (a .words)))) 0 k) (now (a .log)) (a .begun)) (n .before .first-at .ensures) (n .list-count .ensures)
 
 pub run-row-spec : {M : Type 1} → statement M
 run-row-spec =
     tie.close
     (tie.spec
     first-at-requires
-    count-at-requires
+    list-count-requires
     gather-requires
     array-share-prefix-list
     slice-aggregate-run

@@ -10,14 +10,8 @@ values-of-requires c κs = search needs
 used-of-requires : tie.Need-used-of-requires
 used-of-requires c κs = search needs
 
-cast-row-of : tie.Need-cast-row-of
-cast-row-of c = search needs
-
-sub-row-of : tie.Need-sub-row-of
-sub-row-of c = search needs
-
-row-of-requires : tie.Need-row-of-requires
-row-of-requires c κs = search needs
+row-in-requires : tie.Need-row-in-requires
+row-in-requires c κs = search needs
 
 insert-row-requires : tie.Need-insert-row-requires
 insert-row-requires c κs = search needs
@@ -42,7 +36,7 @@ returns c =
     let r = c .before .before .before .before .before .before in
     let w = r .before .before .before in
     c .before .before .set-totals .ensures
-    ∙ rw (r .insert-row .ensures, w .row-of .ensures, w .before .before .before .used-of .ensures, w .before .before .before .before .before .values-of .ensures)
+    ∙ rw (r .insert-row .ensures, w .row-in .ensures, w .before .used-of .ensures, w .before .before .before .values-of .ensures)
 
 pub insert-object-spec : {M : Type 1} → statement M
 insert-object-spec =
@@ -50,9 +44,7 @@ insert-object-spec =
     (tie.spec
     values-of-requires
     used-of-requires
-    cast-row-of
-    sub-row-of
-    row-of-requires
+    row-in-requires
     insert-row-requires
     add-set-totals
     add-set-totals-2

@@ -3,7 +3,7 @@ use mathlib.Core.Path.{_≡_, sym, ap, ap₂, _∙_}
 use mathlib.Core.Bool.{_||_}
 use denote.Ref.{now}
 use lib.Dec.{eqb}
-use Rattle.entry.specs.Table.{Dict, dict, kindAt, countAt}
+use Rattle.entry.specs.Table.{Dict, dict, kindAt, listCount}
 use Rattle.entry.specs.Find.{findRow}
 use Rattle.entry.specs.declared.Found.{Found}
 use Rattle.entry.proofs.ValueLaws.{RowLies, rows-of, found-lies}
@@ -25,9 +25,9 @@ lies : (r : tie.After-r) → RowLies (D (start (r .before .before))) (r .r .give
 lies r = let f = r .before .before in let s = start f in found-lies (D s) (s .pre) (s .args .index) _ (sym (f .find .ensures) ∙ r .r .given .1)
 
 -- no list, or an empty one
-tested : (n : tie.After-count-at) → let r = n .before .before .before in let o = now (start (r .before .before) .args .objects) in
-    (eqb (kindAt o (r .r .given .0 .0)) 0 || eqb (countAt o (r .r .given .0 .0)) 0) ≡ (eqb (n .before .kind-at .result) 0 || eqb (n .count-at .result) 0)
-tested n = sym (ap₂ (λ a b. eqb a 0 || eqb b 0) (n .before .kind-at .ensures) (n .count-at .ensures))
+tested : (n : tie.After-list-count) → let r = n .before .before .before in let o = now (start (r .before .before) .args .objects) in
+    (eqb (kindAt o (r .r .given .0 .0)) 0 || eqb (listCount o (r .r .given .0 .0)) 0) ≡ (eqb (n .before .kind-at .result) 0 || eqb (n .list-count .result) 0)
+tested n = sym (ap₂ (λ a b. eqb a 0 || eqb b 0) (n .before .kind-at .ensures) (n .list-count .ensures))
 
 find-requires : tie.Need-find-requires
 find-requires c κs = let s = c .before .before .before .before in rows-of (D s) (s .pre)
@@ -44,8 +44,8 @@ returns c = listed (c .before .before) _ (c .enum-told .given .1)
 kind-at-requires : tie.Need-kind-at-requires
 kind-at-requires c κs = let l = lies (c .before) in (l .small, l .inside)
 
-count-at-requires : tie.Need-count-at-requires
-count-at-requires c κs = let l = lies (c .before .before) in (l .small, l .inside)
+list-count-requires : tie.Need-list-count-requires
+list-count-requires c κs = let l = lies (c .before .before) in (l .small, l .inside)
 
 returns-2 : tie.Need-returns-2
 returns-2 c =
@@ -74,7 +74,7 @@ check-list-spec =
     enum-told
     returns
     kind-at-requires
-    count-at-requires
+    list-count-requires
     returns-2
     check-elements-requires
     returns-3)

@@ -31,20 +31,24 @@ returns-2 c = simp (eq-eqb _ _ (sym (c .before .before .before .kind-at .ensures
 count-at-requires : tie.Need-count-at-requires
 count-at-requires c κs = within (c .before .before .before .before)
 
+list-count-requires : tie.Need-list-count-requires
+list-count-requires c κs = within (c .before .before .before .before .before .before)
+
 returns-3 : tie.Need-returns-3
 unfolding subAt
 returns-3 c =
-    let k = c .before .before in
-    simp (ne-eqb _ _ (λ q. k .if1 .left (k .before .before .kind-at .ensures ∙ q)), eq-eqb _ _ (c .if3 .taken)) (ap Count (c .before .count-at .ensures))
+    let z = c .before in
+    let k = z .before .before in
+    simp (ne-eqb _ _ (λ q. k .if1 .left (k .before .before .kind-at .ensures ∙ q)), eq-eqb _ _ (z .if3 .taken)) (ap Count (c .list-count .ensures))
 
-sub-t10 : tie.Need-sub-t10
-sub-t10 c = search needs
+sub-t11 : tie.Need-sub-t11
+sub-t11 c = search needs
 
-cast-t11 : tie.Need-cast-t11
-cast-t11 c = search needs
+cast-t12 : tie.Need-cast-t12
+cast-t12 c = search needs
 
-add-t12 : tie.Need-add-t12
-add-t12 c =
+add-t13 : tie.Need-add-t13
+add-t13 c =
     let n = c .before .before in
     let f = n .before .before in
     let a = f .before .before .before in
@@ -75,9 +79,10 @@ sub-at-spec =
     returns
     returns-2
     count-at-requires
+    list-count-requires
     returns-3
-    sub-t10
-    cast-t11
-    add-t12
+    sub-t11
+    cast-t12
+    add-t13
     returns-4
     returns-5)
