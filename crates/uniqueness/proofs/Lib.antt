@@ -5,4 +5,6 @@ pub mod Asks
 pub mod AsksC
 pub mod Refused
 pub mod RefusedC
+pub mod Stays
+pub mod StaysC
 pub mod Demanded
