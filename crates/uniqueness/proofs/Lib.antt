@@ -8,3 +8,4 @@ pub mod RefusedC
 pub mod Stays
 pub mod StaysC
 pub mod Demanded
+pub mod DemandedC
