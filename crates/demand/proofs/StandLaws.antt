@@ -1,4 +1,4 @@
--- "Two fields with one target: the later stands": after a payload that is written, a target encodes the last field that is mapped onto it, and
+-- R11.8: "of two fields with one target the later stands": after a payload that is written, a target encodes the last field that is mapped onto it, and
 -- what no element maps is encoded as before. Assumes nothing.
 use mathlib.Core.Path.{_≡_, refl, sym, ap, _∙_, subst}
 use mathlib.Core.Bool.{Bool, true, false}

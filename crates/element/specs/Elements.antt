@@ -29,7 +29,7 @@ ontoTarget n target.NoSub = Faulty fault.NoTarget
 ontoTarget n target.Count = Faulty fault.CountTarget
 ontoTarget n (target.Value t most) = cond (fitsIn t most n) Clean (Faulty fault.WrongLength)
 
--- NotMapping: "the element is not U64"; Misaligned: R4.3; HandOff: "the target's index is 1200h..12FFh". A refusal explains no element.
+-- NotMapping: "the element is not U64"; Misaligned: R4.3; HandOff (R12.2): "the target's index is 1200h..12FFh". A refusal explains no element.
 abbrev pub saidOf : Explained → Verdict
 saidOf (explained.Other t) = Faulty fault.NotMapping
 saidOf (explained.Misaligned x sub offset len t) = Faulty fault.Misaligned
