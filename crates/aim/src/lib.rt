@@ -16,24 +16,11 @@ pub struct Aim {
 // What that makes of the word: not whole bytes, a hand-off, no target, a list's count, or a field and the slot of its value.
 pub enum Class {
     Misaligned,
-    Server {
-        start: usize,
-        len: usize,
-    },
-    Client {
-        start: usize,
-        len: usize,
-    },
+    Server { start: usize, len: usize },
+    Client { start: usize, len: usize },
     NoTarget,
-    Count {
-        start: usize,
-        len: usize,
-    },
-    Value {
-        start: usize,
-        len: usize,
-        p: usize,
-    },
+    Count { start: usize, len: usize },
+    Value { start: usize, len: usize, p: usize },
 }
 
 pub fn aim_of(objects: &[u64], word: u64) -> Aim
