@@ -6,12 +6,13 @@ use answers::Refusal;
 pub use given::Head;
 use given::Size;
 ghost use mathlib.Core.Path.{_≡_};
-ghost use mathlib.Core.Bool.{false, cond};
+ghost use mathlib.Core.Bool.{true, false, cond};
 ghost use Prim.Native.Nat.{_+_, _≤_};
 ghost use lib.Dec.{eqb, ltb};
 ghost use lib.ListN.{length};
 ghost use Rattle.entry.specs.Table.{dict, numberOf, valuesOf, usedOf, rowPlace, indexAt};
 ghost use Rattle.entry.specs.Find.{Rows};
+ghost use Rattle.entry.specs.Judge.{wellFormed};
 ghost use Rattle.insertion.specs.Insert.{fitsIn, placeFrom, answerOf, memoryOf};
 
 pub enum Inserted {
@@ -54,9 +55,8 @@ fn fits(objects: &[u64], slots: &[u64], words: &[u64], bytes: &[u8], u: usize, g
                     & ((m <= words.len()) & ((b <= 32768) & (b <= bytes.len()))))))
 }
 
-// Inserts an object. `vals` has three words a value: type, size of its room, byte count of its encoding; `encodings` has all encodings
-// back to back. A refusal changes nothing.
-pub fn insert(
+// What `insert` does with a dictionary that was judged.
+pub fn insert_judged(
     objects: &mut [u64],
     slots: &mut [u64],
     words: &mut [u64],
@@ -66,12 +66,10 @@ pub fn insert(
     vals: &[u64],
     encodings: &[u8],
 ) -> Inserted
+    requires { ⌜ wellFormed (dict (now objects) (now slots) (now words) (now bytes)) ≡ true ⌝ }
     ensures answer { λ r. ⌜ r ≡ answerOf head (now (name .entry)) (now (vals .entry)) (now (encodings .entry)) (dict (now (objects .entry)) (now (slots .entry)) (now (words .entry)) (now (bytes .entry))) ⌝ }
     ensures memory { λ _. ⌜ dict (now (objects .exit)) (now (slots .exit)) (now (words .exit)) (now (bytes .exit)) ≡ memoryOf head (now (name .entry)) (now (vals .entry)) (now (encodings .entry)) (dict (now (objects .entry)) (now (slots .entry)) (now (words .entry)) (now (bytes .entry))) ⌝ }
 {
-    if !judge::well_formed(objects, slots, words, bytes) {
-        return Inserted::Refused(Refusal::Malformed);
-    }
     let Size::Upto(g) = given::size_in(head, name, vals, encodings) else {
         return Inserted::Refused(Refusal::BadValue);
     };
@@ -98,4 +96,25 @@ pub fn insert(
         g,
     );
     Inserted::Done
+}
+
+// Inserts an object. `vals` has three words a value: type, size of its room, byte count of its encoding; `encodings` has all encodings
+// back to back. A refusal changes nothing.
+pub fn insert(
+    objects: &mut [u64],
+    slots: &mut [u64],
+    words: &mut [u64],
+    bytes: &mut [u8],
+    head: Head,
+    name: &[u8],
+    vals: &[u64],
+    encodings: &[u8],
+) -> Inserted
+    ensures answer { λ r. ⌜ r ≡ answerOf head (now (name .entry)) (now (vals .entry)) (now (encodings .entry)) (dict (now (objects .entry)) (now (slots .entry)) (now (words .entry)) (now (bytes .entry))) ⌝ }
+    ensures memory { λ _. ⌜ dict (now (objects .exit)) (now (slots .exit)) (now (words .exit)) (now (bytes .exit)) ≡ memoryOf head (now (name .entry)) (now (vals .entry)) (now (encodings .entry)) (dict (now (objects .entry)) (now (slots .entry)) (now (words .entry)) (now (bytes .entry))) ⌝ }
+{
+    if !judge::well_formed(objects, slots, words, bytes) {
+        return Inserted::Refused(Refusal::Malformed);
+    }
+    insert_judged(objects, slots, words, bytes, head, name, vals, encodings)
 }

@@ -3,6 +3,7 @@ mod acting;
 mod restore;
 
 use answers::Refusal;
+pub use restore::restore_judged;
 pub use restore::restore_power_on_values;
 
 pub enum Restored {
