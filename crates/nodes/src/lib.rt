@@ -5,8 +5,9 @@ ghost use Prim.Native.Nat.{_<_, _≤_};
 ghost use lib.ListN.{length, getD};
 ghost use Rattle.lists.specs.Lists.{over};
 ghost use Rattle.entry.specs.Table.{dict, typeAt, slotEnd};
+ghost use Rattle.entry.specs.Find.{Elements};
 ghost use Rattle.entry.specs.Judge.{wellFormed};
-ghost use Rattle.nodes.specs.Nodes.{configured, nodesFrom, Elements, elementsAt, given, cnsOf};
+ghost use Rattle.nodes.specs.Nodes.{configured, nodesFrom, elementsAt, given, cnsOf};
 use answers::Refusal;
 use entry::Found;
 
@@ -80,7 +81,7 @@ fn elements(objects: &[u64], slots: &[u64], words: &[u64], bytes: &[u8]) -> Span
     Span { count: 0, first: 0 }
 }
 
-// Of a dictionary that was judged.
+// Lays the nodes of a dictionary that was judged.
 pub fn get_configured_cns_judged(
     objects: &[u64],
     slots: &[u64],

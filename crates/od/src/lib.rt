@@ -15,11 +15,6 @@ pub use reading::read_u16;
 pub use reading::read_u32;
 pub use reading::read_u64;
 
-pub enum Answer {
-    Done,
-    Refused(Refusal),
-}
-
 // A value's type and word: its number, or the length of a text or of bytes, which start at `start` of the lent bytes.
 pub enum Stored {
     Is { kind: u64, word: u64, start: u64 },

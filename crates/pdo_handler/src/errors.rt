@@ -2,8 +2,8 @@
 ghost use mathlib.Core.Path.{_≡_};
 ghost use Rattle.entry.specs.Table.{dict};
 ghost use Rattle.pdo_handler.specs.Errors.{after, updateOf};
+use answers::Answer;
 use answers::Refusal;
-use od::Answer;
 
 // Sets the bit of a node in the error object at an index; where that has none, nothing happens.
 pub fn update_pdo_error_object(

@@ -7,7 +7,7 @@ use Rattle.lists.specs.Lists.{over}
 use Rattle.entry.specs.Table.{Dict, dict}
 use Rattle.nodes.specs.declared.Listed.the-variants as listed
 use Rattle.nodes.specs.Nodes.{nodesOf, given, cnsOf}
-use Rattle.nodes.proofs.NodeLaws.{elements-lie}
+use Rattle.nodes.proofs.NodeLaws.{nodes-lie}
 use borrow.Author.Needs.{needs}
 use Rattle.nodes.proofs.get_configured_cns_judged.Statement.{statement}
 use Rattle.nodes.proofs.get_configured_cns_judged.Tie as tie
@@ -30,7 +30,7 @@ elements-requires : tie.Need-elements-requires
 elements-requires c κs = c .before .before .before .before .before .pre
 
 count-nodes-requires : tie.Need-count-nodes-requires
-count-nodes-requires c κs = rw (c .elements .ensures) (elements-lie (D (start c)) (start c .pre))
+count-nodes-requires c κs = rw (c .elements .ensures) (nodes-lie (D (start c)) (start c .pre))
 
 returns : tie.Need-returns
 unfolding cnsOf
@@ -41,7 +41,7 @@ lay-nodes-requires c κs =
     let e = c .before in
     let n = e .before in
     let f = n .before in
-    (rw (f .elements .ensures) (elements-lie (D (start f)) (start f .pre)), rw (n .count-nodes .ensures) at (e .if1 .left))
+    (rw (f .elements .ensures) (nodes-lie (D (start f)) (start f .pre)), rw (n .count-nodes .ensures) at (e .if1 .left))
 
 returns-2 : tie.Need-returns-2
 unfolding cnsOf

@@ -3,9 +3,9 @@ use mathlib.Core.Path.{_≡_, sym, ap, _∙_}
 use mathlib.Core.Bool.{true}
 use denote.Ref.{now}
 use borrow.Author.Tests.{not-true, not-false}
+use Rattle.answers.specs.declared.Answer.the-variants.{Done}
 use Rattle.entry.specs.Table.{Dict, dict}
 use Rattle.entry.specs.Judge.{wellFormed}
-use Rattle.od.specs.declared.Answer.the-variants.{Done}
 use Rattle.pdo_handler.specs.Errors.{after, updateOf}
 use borrow.Author.Needs.{needs}
 use Rattle.pdo_handler.proofs.errors.update_pdo_error_object.Statement.{statement}
