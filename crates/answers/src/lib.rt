@@ -1,4 +1,4 @@
-// The refusals that every call of the library answers with, and their numbers.
+// The answers that calls share: done, and the refusals with their numbers.
 ghost use mathlib.Core.Path.{_≡_};
 ghost use Rattle.answers.specs.Numbers.{numberOf};
 
@@ -21,6 +21,11 @@ pub enum Refusal {
     Occupied,
     Full,
     StoreFull,
+}
+
+pub enum Answer {
+    Done,
+    Refused(Refusal),
 }
 
 pub fn number(r: Refusal) -> u64

@@ -1,7 +1,7 @@
 // What every call for C answers: a number of document 01, and results in what was lent.
 ghost use mathlib.Core.Path.{_≡_};
 ghost use Rattle.c_answers.specs.Answers.{answerNumber};
-use od::Answer;
+use answers::Answer;
 
 pub fn number_of(a: Answer) -> u64
     ensures { λ r. ⌜ r ≡ answerNumber a ⌝ }

@@ -47,6 +47,23 @@ fn check_each(objects: &[u64], slots: &[u64], words: &[u64], bytes: &[u8], out: 
     n
 }
 
+// Checks every channel of a dictionary that was judged.
+pub fn check_all_judged(
+    objects: &[u64],
+    slots: &[u64],
+    words: &[u64],
+    bytes: &[u8],
+    out: &mut [u64],
+) -> CheckedAll
+    requires { ⌜ wellFormed (dict (now objects) (now slots) (now words) (now bytes)) ≡ true ⌝ }
+    ensures { λ r. ⌜ after r (now (out .exit)) ≡ checkAllOf (dict (now (objects .entry)) (now (slots .entry)) (now (words .entry)) (now (bytes .entry))) (now (out .entry)) ⌝ }
+{
+    if out.len() < 768 {
+        return CheckedAll::Refused(Refusal::BufferTooShort);
+    }
+    CheckedAll::Done(check_each(objects, slots, words, bytes, out))
+}
+
 // Checks every channel that has a record 1400h+i: three numbers each, the channel, its answer and the element.
 pub fn check_all(
     objects: &[u64],
@@ -60,8 +77,5 @@ pub fn check_all(
     if !judge::well_formed(objects, slots, words, bytes) {
         return CheckedAll::Refused(Refusal::Malformed);
     }
-    if out.len() < 768 {
-        return CheckedAll::Refused(Refusal::BufferTooShort);
-    }
-    CheckedAll::Done(check_each(objects, slots, words, bytes, out))
+    check_all_judged(objects, slots, words, bytes, out)
 }

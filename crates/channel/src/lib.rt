@@ -5,8 +5,10 @@ mod numbers;
 
 use answers::Refusal;
 pub use checking::check;
+pub use checking::check_judged;
 use element::Fault;
 pub use every::check_all;
+pub use every::check_all_judged;
 pub use numbers::named;
 pub use numbers::number;
 

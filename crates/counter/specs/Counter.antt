@@ -4,6 +4,8 @@ use mathlib.Core.Bool.{cond}
 use mathlib.Core.List.{List}
 use lib.Dec.{eqb}
 use lib.ListN.{getD, set}
+use Rattle.answers.specs.declared.Answer.{Answer}
+use Rattle.answers.specs.declared.Answer.the-variants.{Done, Refused}
 use Rattle.answers.specs.declared.Refusal.the-variants.{Malformed}
 use Rattle.entry.specs.Table.{Dict, kindAt, typeAt}
 use Rattle.entry.specs.Find.{findRow, subAt}
@@ -12,8 +14,6 @@ use Rattle.entry.specs.declared.Found.{Found}
 use Rattle.entry.specs.declared.Found.the-variants.{At, Nothing}
 use Rattle.entry.specs.declared.Place.{Place}
 use Rattle.entry.specs.declared.Place.the-variants.{NoObject, NoSub, Count, Value}
-use Rattle.od.specs.declared.Answer.{Answer}
-use Rattle.od.specs.declared.Answer.the-variants.{Done, Refused}
 
 -- R8.4: "A U32 Variable at sub-index 0, or a Record's U32 element"; "never an Array's"
 abbrev pub ofU32 : Dict → Place → Found

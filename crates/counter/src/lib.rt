@@ -4,10 +4,10 @@ ghost use mathlib.Core.Bool.{true};
 ghost use Rattle.entry.specs.Table.{dict};
 ghost use Rattle.entry.specs.Judge.{wellFormed};
 ghost use Rattle.counter.specs.Counter.{counterAt, after, counterOf};
+use answers::Answer;
 use answers::Refusal;
 use entry::Found;
 use entry::Place;
-use od::Answer;
 
 // The value that is a counter: a U32 that is a Variable or a Record's element.
 fn counter_at(
@@ -27,16 +27,33 @@ fn counter_at(
     if entry::kind_at(objects, i) == 1 {
         return Found::Nothing;
     }
-    match entry::sub_at(objects, i, sub) {
-        Place::NoObject => Found::Nothing,
-        Place::NoSub => Found::Nothing,
-        Place::Count(_) => Found::Nothing,
-        Place::Value(p) => if entry::type_at(slots, p) == 7 {
-            Found::At(p)
-        } else {
-            Found::Nothing
-        },
+    let Place::Value(p) = entry::sub_at(objects, i, sub) else {
+        return Found::Nothing;
+    };
+    if entry::type_at(slots, p) == 7 {
+        return Found::At(p);
     }
+    Found::Nothing
+}
+
+// Adds 1 to a counter of a dictionary that was judged.
+pub fn increment_counter_judged(
+    objects: &[u64],
+    slots: &[u64],
+    words: &mut [u64],
+    bytes: &[u8],
+    index: u16,
+    sub: u8,
+) -> Answer
+    requires { ⌜ wellFormed (dict (now objects) (now slots) (now words) (now bytes)) ≡ true ⌝ }
+    ensures { λ r. ⌜ after r (now (words .exit)) ≡ counterOf (dict (now (objects .entry)) (now (slots .entry)) (now (words .entry)) (now (bytes .entry))) index sub ⌝ }
+{
+    let Found::At(p) = counter_at(objects, slots, words, bytes, index, sub) else {
+        return Answer::Done;
+    };
+    let value = words[p] as u32;
+    words[p] = std::num::wrapping_add_u32(value, 1) as u64;
+    Answer::Done
 }
 
 // Adds 1 to a counter, modulo 2^32; elsewhere nothing happens.
@@ -53,10 +70,5 @@ pub fn increment_counter(
     if !judge::well_formed(objects, slots, words, bytes) {
         return Answer::Refused(Refusal::Malformed);
     }
-    let Found::At(p) = counter_at(objects, slots, words, bytes, index, sub) else {
-        return Answer::Done;
-    };
-    let value = words[p] as u32;
-    words[p] = std::num::wrapping_add_u32(value, 1) as u64;
-    Answer::Done
+    increment_counter_judged(objects, slots, words, bytes, index, sub)
 }

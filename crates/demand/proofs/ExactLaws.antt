@@ -17,9 +17,8 @@ use Rattle.entry.specs.Judge.{wellFormed}
 use Rattle.entry.specs.Put.{Contents, contents}
 use Rattle.entry.specs.declared.Found.{Found}
 use Rattle.entry.specs.declared.Found.the-variants.{At, Nothing}
-use Rattle.entry.proofs.ValueLaws.{list-count-le, found-lies}
+use Rattle.entry.proofs.ValueLaws.{list-count-le, found-lies, elements-lie}
 use Rattle.pdo_validator.specs.Counting.{endsFrom}
-use Rattle.pdo_validator.proofs.CountLaws.{elements-lie}
 use Rattle.pdo_channel.specs.Channel.{u8At, matchesIn, commIndex, channelFrom, firstMatch, orZero, expectedOf}
 use Rattle.pdo_run.specs.Run.{Frame, frame, listIn}
 use Rattle.channel.specs.declared.Checked.{Checked}

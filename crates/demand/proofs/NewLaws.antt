@@ -7,6 +7,7 @@ use native.Mathlib.Omega.{arith}
 use borrow.Author.Tests.{ltb-false}
 use lib.Dec.{ltb}
 use lib.ListN.{length}
+use Rattle.answers.specs.declared.Answer.the-variants.{Done, Refused}
 use Rattle.lists.specs.Lists.{over}
 use Rattle.lists.proofs.ListLaws.{length-over, over-none, over-read, over-same}
 use Rattle.answers.specs.declared.Refusal.the-variants.{Full}
@@ -15,7 +16,6 @@ use Rattle.entry.specs.Table.{dict}
 use Rattle.entry.specs.Rules.{objsOk, isEdition}
 use Rattle.entry.specs.Judge.{wellFormed}
 use Rattle.entry.proofs.BackLaws.{complete}
-use Rattle.od.specs.declared.Answer.the-variants.{Done, Refused}
 use Rattle.od.specs.New.{made, newOf}
 
 -- laid twice is laid once

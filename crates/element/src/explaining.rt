@@ -4,11 +4,10 @@ ghost use mathlib.Core.Bool.{true};
 ghost use Prim.Native.Nat.{ℕ, _<_, _≤_};
 ghost use lib.ListN.{length};
 ghost use Rattle.entry.specs.Table.{dict, slotEnd};
-ghost use Rattle.entry.specs.Find.{findRow};
 ghost use Rattle.entry.specs.Judge.{wellFormed};
 ghost use Rattle.entry.specs.declared.Place.the-variants.{Value};
 ghost use Rattle.pdo_step.specs.Outcomes.{Shape};
-ghost use Rattle.element.specs.Explain.{holds, targetOf, ofWord, ofList, explainOf};
+ghost use Rattle.element.specs.Explain.{holds, targetOf, ofWord, explainOf};
 use crate::Explained;
 use crate::Target;
 use answers::Refusal;
@@ -81,18 +80,19 @@ pub fn of_word(objects: &[u64], slots: &[u64], word: u64) -> Explained
     }
 }
 
-fn explain_judged(
+// Explains an element of a dictionary that was judged.
+pub fn explain_judged(
     objects: &[u64],
     slots: &[u64],
     words: &[u64],
     bytes: &[u8],
-    index: u16,
+    channel: u8,
     element: u8,
 ) -> Explained
     requires { ⌜ wellFormed (dict (now objects) (now slots) (now words) (now bytes)) ≡ true ⌝ }
-    ensures { λ r. ⌜ r ≡ ofList (dict (now (objects .entry)) (now (slots .entry)) (now (words .entry)) (now (bytes .entry))) element (findRow (now (objects .entry)) index) ⌝ }
+    ensures { λ r. ⌜ r ≡ explainOf (dict (now (objects .entry)) (now (slots .entry)) (now (words .entry)) (now (bytes .entry))) channel element ⌝ }
 {
-    let Found::At(r) = entry::find(objects, index) else {
+    let Found::At(r) = entry::find(objects, 0x1600 + channel as u16) else {
         return Explained::Refused(Refusal::ObjectNotFound);
     };
     if entry::kind_at(objects, r) == 0 {
@@ -122,12 +122,5 @@ pub fn explain(
     if !judge::well_formed(objects, slots, words, bytes) {
         return Explained::Refused(Refusal::Malformed);
     }
-    explain_judged(
-        objects,
-        slots,
-        words,
-        bytes,
-        0x1600 + channel as u16,
-        element,
-    )
+    explain_judged(objects, slots, words, bytes, channel, element)
 }

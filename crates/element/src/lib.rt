@@ -6,6 +6,7 @@ mod numbers;
 use answers::Refusal;
 pub use elements::word_verdict;
 pub use explaining::explain;
+pub use explaining::explain_judged;
 pub use numbers::explained_numbers;
 pub use numbers::fault_number;
 

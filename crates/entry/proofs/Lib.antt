@@ -11,3 +11,4 @@ pub mod LookupLaws
 pub mod KeepLaws
 pub mod ChangeLaws
 pub mod EncodeLaws
+pub mod PlaceLaws

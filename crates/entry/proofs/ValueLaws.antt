@@ -17,7 +17,7 @@ use Rattle.entry.specs.Model.{Obj}
 use Rattle.entry.specs.Table.{listCount, Dict, modelOf, valAt, objAt, numberOf, valuesOf, usedOf, indexAt, kindAt, countAt, firstAt, typeAt, startAt, roomAt}
 use Rattle.entry.specs.Rules.{wordOk, valOk, tight, heldOk}
 use Rattle.entry.specs.Judge.{usedAt, wellFormed}
-use Rattle.entry.specs.Find.{Rows, findRow, subAt, onRow, placeOf, objectOf, objectIn, nth}
+use Rattle.entry.specs.Find.{Rows, Elements, findRow, subAt, onRow, placeOf, objectOf, objectIn, nth}
 use Rattle.entry.specs.declared.Found.{Found}
 use Rattle.entry.specs.declared.Found.the-variants.{At, Nothing}
 use Rattle.entry.specs.declared.Place.the-variants.{NoSub, Count, Value}
@@ -51,6 +51,19 @@ row-lies d e i h =
 
 pub found-lies : (d : Dict) → wellFormed d ≡ true → (x i : ℕ) → findRow (d .objects) x ≡ At i → RowLies d i
 found-lies d e x i q = row-lies d e i (omega (arith, found-row (d .objects) x (numberOf (d .objects)) 0 i q .below))
+
+-- the first n of its elements
+pub elements-lie : (d : Dict) → wellFormed d ≡ true → (i n : ℕ) → i < numberOf (d .objects) → n ≤ countAt (d .objects) i → Elements (d .slots) (d .words) n (firstAt (d .objects) i)
+elements-lie d w i n h l =
+    let g = headed d w in
+    let r = row-facts d w i h in
+    let c = head-ok _ _ _ _ _ _ (r .head) .count-small in
+    record {
+      few = omega (arith, l, c);
+      low = omega (arith, l, r .values, g .values);
+      slotted = omega (arith, l, r .values, g .slots);
+      worded = omega (arith, l, r .values, g .words);
+    }
 
 -- ---- the element that an index and a sub-index name
 pub record Element (d : Dict) (x sub p : ℕ) : Type 0 where
@@ -210,6 +223,9 @@ value-facts d e i k h l =
 pub element-facts : (d : Dict) → wellFormed d ≡ true → {x sub p : ℕ} → Element d x sub p → ValueFacts d p
 element-facts d e o =
     rw (o .place) (value-facts d e (o .row) (o .k) (o .below) (omega (arith, o .inside)))
+
+pub value-lies : (d : Dict) → wellFormed d ≡ true → (x sub i p : ℕ) → findRow (d .objects) x ≡ At i → subAt (d .objects) i sub ≡ Value p → ValueFacts d p
+value-lies d w x sub i p e q = element-facts d w (element-of d w x sub p (ap (onRow (d .objects) sub) e ∙ q))
 
 -- every value is one of a row's
 pub every-value : (d : Dict) → wellFormed d ≡ true → (p : ℕ) → p < valuesOf (d .objects) → ValueFacts d p

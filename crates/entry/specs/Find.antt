@@ -7,7 +7,7 @@ use mathlib.Core.Option.{Option, none, some}
 use lib.Dec.{eqb, leb}
 use lib.ListN.{length}
 use Rattle.entry.specs.Model.{Val, Obj}
-use Rattle.entry.specs.Table.{Dict, numberOf, rowPlace, indexAt, kindAt, countAt, listCount, firstAt, valAt, objAt}
+use Rattle.entry.specs.Table.{Dict, numberOf, rowPlace, slotPlace, indexAt, kindAt, countAt, listCount, firstAt, valAt, objAt}
 use Rattle.entry.specs.Rules.{count}
 use Rattle.entry.specs.declared.Found.{Found}
 use Rattle.entry.specs.declared.Found.the-variants.{At, Nothing}
@@ -107,3 +107,10 @@ pub record Lower (objects : List ℕ) (x r : ℕ) : Type 0 where
   pub within : r ≤ numberOf objects
   pub before : (i : ℕ) → i < r → indexAt objects i < x
   pub behind : (i : ℕ) → r ≤ i → i < numberOf objects → x ≤ indexAt objects i
+
+-- ---- what walking over some elements needs, of which the first lies at slot `first`
+pub record Elements (slots words : List ℕ) (count first : ℕ) : Type 0 where
+  pub few : count ≤ 254
+  pub low : first + count ≤ 6144
+  pub slotted : slotPlace (first + count) ≤ length slots
+  pub worded : first + count ≤ length words

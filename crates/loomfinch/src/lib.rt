@@ -1,5 +1,6 @@
 // The public calls. None has a `requires`: each judges its own input and refuses what breaks a rule. The crates c_* have the same
 // calls for C.
+pub use answers::Answer;
 pub use channel::Checked;
 pub use channel::CheckedAll;
 pub use channel::check;
@@ -28,7 +29,6 @@ pub use nodes::Listed;
 pub use nodes::get_configured_cns;
 pub use object_value::decode;
 pub use object_value::encode;
-pub use od::Answer;
 pub use od::Number;
 pub use od::Stored;
 pub use od::new;

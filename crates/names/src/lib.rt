@@ -64,6 +64,26 @@ fn first_named(objects: &[u64], slots: &[u64], words: &[u64], bytes: &[u8], name
     ByName::Refused(Refusal::ObjectNotFound)
 }
 
+// The lowest index of that name in a dictionary that was judged.
+pub fn find_by_name_judged(
+    objects: &[u64],
+    slots: &[u64],
+    words: &[u64],
+    bytes: &[u8],
+    name: &[u8],
+) -> ByName
+    requires { ⌜ wellFormed (dict (now objects) (now slots) (now words) (now bytes)) ≡ true ⌝ }
+    ensures { λ r. ⌜ r ≡ byNameOf (dict (now (objects .entry)) (now (slots .entry)) (now (words .entry)) (now (bytes .entry))) (now (name .entry)) ⌝ }
+{
+    if name.len() > 32 {
+        return ByName::Refused(Refusal::BadValue);
+    }
+    match text::text_ok(name) {
+        Text::Good => first_named(objects, slots, words, bytes, name),
+        Text::Bad(_) => ByName::Refused(Refusal::BadValue),
+    }
+}
+
 // The lowest index of that name.
 pub fn find_by_name(
     objects: &[u64],
@@ -77,11 +97,5 @@ pub fn find_by_name(
     if !judge::well_formed(objects, slots, words, bytes) {
         return ByName::Refused(Refusal::Malformed);
     }
-    if name.len() > 32 {
-        return ByName::Refused(Refusal::BadValue);
-    }
-    match text::text_ok(name) {
-        Text::Good => first_named(objects, slots, words, bytes, name),
-        Text::Bad(_) => ByName::Refused(Refusal::BadValue),
-    }
+    find_by_name_judged(objects, slots, words, bytes, name)
 }

@@ -9,15 +9,13 @@ use lib.Dec.{eqb}
 use lib.ListN.{length, getD, set, length-set}
 use Rattle.lists.specs.Lists.{over}
 use Rattle.lists.proofs.ListLaws.{over-first}
-use Rattle.entry.proofs.JudgeLaws.{head-ok, headed}
-use Rattle.entry.proofs.ValueLaws.{found-lies}
 use Rattle.entry.specs.Table.{Dict, kindAt, countAt, firstAt, typeAt}
-use Rattle.entry.specs.Find.{findRow}
+use Rattle.entry.specs.Find.{findRow, Elements}
 use Rattle.entry.specs.Judge.{wellFormed}
 use Rattle.entry.specs.declared.Found.{Found}
 use Rattle.entry.specs.declared.Found.the-variants.{At, Nothing}
-use Rattle.entry.proofs.FactLaws.{row-facts}
-use Rattle.nodes.specs.Nodes.{configured, nodesFrom, elementsOn, elementsAt, Elements}
+use Rattle.entry.proofs.ValueLaws.{found-lies, elements-lie}
+use Rattle.nodes.specs.Nodes.{configured, nodesFrom, elementsOn, elementsAt}
 
 -- what is found from element k of n on
 abbrev pub rest : List ℕ → List ℕ → ℕ → ℕ → ℕ → List ℕ
@@ -103,23 +101,15 @@ laid-no slots words n p lent out m k out′ m′ w h e o q =
     }
 
 -- ---- where they lie
-pub elements-lie : (d : Dict) → wellFormed d ≡ true → let e = elementsAt (d .objects) in Elements (d .slots) (d .words) (e .count) (e .first)
+pub nodes-lie : (d : Dict) → wellFormed d ≡ true → let e = elementsAt (d .objects) in Elements (d .slots) (d .words) (e .count) (e .first)
 unfolding elementsAt
-elements-lie d w = row (findRow (d .objects) 0x1F81) refl
+nodes-lie d w = row (findRow (d .objects) 0x1F81) refl
   where
     none : Elements (d .slots) (d .words) 0 0
     none = record { few = omega arith; low = omega arith; slotted = omega arith; worded = omega arith }
 
     array : (i : ℕ) → findRow (d .objects) 0x1F81 ≡ At i → Elements (d .slots) (d .words) (countAt (d .objects) i) (firstAt (d .objects) i)
-    array i f =
-        let h = headed d w in
-        let r = row-facts d w i (found-lies d w 0x1F81 i f .below) in
-        record {
-          few = head-ok _ _ _ _ _ _ (r .head) .count-small;
-          low = omega (arith, r .values, h .values);
-          slotted = omega (arith, r .values, h .slots);
-          worded = omega (arith, r .values, h .words);
-        }
+    array i f = elements-lie d w i _ (found-lies d w 0x1F81 i f .below) (omega arith)
 
     kind : (i : ℕ) → findRow (d .objects) 0x1F81 ≡ At i → (b : Bool) → eqb (kindAt (d .objects) i) 1 ≡ b → let e = elementsOn (d .objects) (At i) in Elements (d .slots) (d .words) (e .count) (e .first)
     kind i f true q = rw q (array i f)

@@ -1,12 +1,12 @@
 -- get_configured_cns: RULES.md 7. Assumes nothing.
-use Prim.Native.Nat.{ℕ, zero, suc, _+_, _/_, _%_, _≤_}
+use Prim.Native.Nat.{ℕ, zero, suc, _+_, _/_, _%_}
 use mathlib.Core.Bool.{Bool, cond, _&&_}
 use mathlib.Core.List.{List, [], _∷_}
 use lib.Dec.{eqb, ltb}
 use lib.ListN.{length, getD}
 use Rattle.lists.specs.Lists.{over}
 use Rattle.answers.specs.declared.Refusal.the-variants.{Malformed, BufferTooShort}
-use Rattle.entry.specs.Table.{Dict, kindAt, countAt, firstAt, typeAt, slotPlace}
+use Rattle.entry.specs.Table.{Dict, kindAt, countAt, firstAt, typeAt}
 use Rattle.entry.specs.Find.{findRow}
 use Rattle.entry.specs.Judge.{wellFormed}
 use Rattle.entry.specs.declared.Found.{Found}
@@ -55,10 +55,3 @@ cnsOf d out =
     (given (listed.Refused BufferTooShort) out)
     (given (listed.Numbers (length (nodesOf d))) (over out 0 (nodesOf d))))
     (given (listed.Refused Malformed) out)
-
--- what walking over the elements needs
-pub record Elements (slots words : List ℕ) (count first : ℕ) : Type 0 where
-  pub few : count ≤ 254
-  pub low : first + count ≤ 6144
-  pub slotted : slotPlace (first + count) ≤ length slots
-  pub worded : first + count ≤ length words

@@ -5,8 +5,9 @@ ghost use Prim.Native.Nat.{_<_, _≤_};
 ghost use lib.ListN.{length, getD};
 ghost use Rattle.lists.specs.Lists.{over};
 ghost use Rattle.entry.specs.Table.{dict, typeAt, slotEnd};
+ghost use Rattle.entry.specs.Find.{Elements};
 ghost use Rattle.entry.specs.Judge.{wellFormed};
-ghost use Rattle.nodes.specs.Nodes.{configured, nodesFrom, Elements, elementsAt, given, cnsOf};
+ghost use Rattle.nodes.specs.Nodes.{configured, nodesFrom, elementsAt, given, cnsOf};
 use answers::Refusal;
 use entry::Found;
 
@@ -80,6 +81,28 @@ fn elements(objects: &[u64], slots: &[u64], words: &[u64], bytes: &[u8]) -> Span
     Span { count: 0, first: 0 }
 }
 
+// Lays the nodes of a dictionary that was judged.
+pub fn get_configured_cns_judged(
+    objects: &[u64],
+    slots: &[u64],
+    words: &[u64],
+    bytes: &[u8],
+    out: &mut [u8],
+) -> Listed
+    requires { ⌜ wellFormed (dict (now objects) (now slots) (now words) (now bytes)) ≡ true ⌝ }
+    ensures { λ r. ⌜ given r (now (out .exit)) ≡ cnsOf (dict (now (objects .entry)) (now (slots .entry)) (now (words .entry)) (now (bytes .entry))) (now (out .entry)) ⌝ }
+{
+    let span = elements(objects, slots, words, bytes);
+    let count = span.count;
+    let first = span.first;
+    let m = count_nodes(slots, words, count, first);
+    if out.len() < m {
+        return Listed::Refused(Refusal::BufferTooShort);
+    }
+    lay_nodes(slots, words, count, first, out);
+    Listed::Numbers(m)
+}
+
 // Lays the numbers of the configured nodes, rising, over `out`.
 pub fn get_configured_cns(
     objects: &[u64],
@@ -93,13 +116,5 @@ pub fn get_configured_cns(
     if !judge::well_formed(objects, slots, words, bytes) {
         return Listed::Refused(Refusal::Malformed);
     }
-    let span = elements(objects, slots, words, bytes);
-    let count = span.count;
-    let first = span.first;
-    let m = count_nodes(slots, words, count, first);
-    if out.len() < m {
-        return Listed::Refused(Refusal::BufferTooShort);
-    }
-    lay_nodes(slots, words, count, first, out);
-    Listed::Numbers(m)
+    get_configured_cns_judged(objects, slots, words, bytes, out)
 }

@@ -1,5 +1,4 @@
--- What a value that was found, and a text or bytes that were read, lie within.
--- Assumes nothing.
+-- What a text or bytes that were read lie within. Assumes nothing.
 use mathlib.Core.Path.{_≡_, refl, sym, ap, _∙_}
 use mathlib.Core.Bool.{Bool, true, false, cond}
 use Prim.Native.Nat.{ℕ, _+_, _≤_}
@@ -8,17 +7,13 @@ use lib.ListN.{length, getD}
 use Rattle.answers.specs.declared.Refusal.the-variants.{Malformed}
 use Rattle.value.specs.Codec.{isText}
 use Rattle.entry.specs.Table.{Dict, typeAt, startAt}
-use Rattle.entry.specs.Find.{findRow, subAt, onRow, placeOf}
+use Rattle.entry.specs.Find.{placeOf}
 use Rattle.entry.specs.Judge.{wellFormed}
-use Rattle.entry.specs.declared.Found.the-variants.{At}
 use Rattle.entry.specs.declared.Place.{Place}
 use Rattle.entry.specs.declared.Place.the-variants.{NoObject, NoSub, Count, Value}
-use Rattle.entry.proofs.ValueLaws.{ValueFacts, element-of, element-facts}
+use Rattle.entry.proofs.ValueLaws.{element-of, element-facts}
 use Rattle.od.specs.declared.Stored.the-variants as stored
 use Rattle.od.specs.Read.{readAt, readOf}
-
-pub value-lies : (d : Dict) → wellFormed d ≡ true → (x sub i p : ℕ) → findRow (d .objects) x ≡ At i → subAt (d .objects) i sub ≡ Value p → ValueFacts d p
-value-lies d w x sub i p e q = element-facts d w (element-of d w x sub p (ap (onRow (d .objects) sub) e ∙ q))
 
 pub record PartLies (d : Dict) (word start : ℕ) : Type 0 where
   pub inside : start + word ≤ length (d .bytes)

@@ -4,12 +4,12 @@ use mathlib.Core.Bool.{cond}
 use mathlib.Core.List.{List, []}
 use lib.Dec.{ltb}
 use lib.ListN.{length}
+use Rattle.answers.specs.declared.Answer.{Answer}
+use Rattle.answers.specs.declared.Answer.the-variants.{Done, Refused}
 use Rattle.lists.specs.Lists.{over}
 use Rattle.answers.specs.declared.Refusal.the-variants.{Full}
 use Rattle.entry.specs.Model.{header}
 use Rattle.entry.specs.Table.{rowPlace}
-use Rattle.od.specs.declared.Answer.{Answer}
-use Rattle.od.specs.declared.Answer.the-variants.{Done, Refused}
 
 -- an answer, and the lent rows after it
 pub record Made : Type 0 where

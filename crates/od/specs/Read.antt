@@ -4,7 +4,6 @@ use mathlib.Core.Bool.{cond}
 use mathlib.Core.List.{List, []}
 use lib.Dec.{eqb}
 use lib.ListN.{getD, take, drop}
-use Rattle.answers.specs.declared.Refusal.{Refusal}
 use Rattle.answers.specs.declared.Refusal.the-variants.{Malformed, ObjectNotFound, SubObjectNotFound, TypeMismatch}
 use Rattle.value.specs.Codec.{isText}
 use Rattle.entry.specs.Table.{Dict, typeAt, startAt}
@@ -36,7 +35,3 @@ partIn bytes (stored.Refused r) = []
 abbrev pub ofType : ℕ → Stored → Number
 ofType t (stored.Is kind word start) = cond (eqb kind t) (number.Is word) (number.Refused TypeMismatch)
 ofType t (stored.Refused r) = number.Refused r
-
-abbrev pub refusalIn : Stored → Refusal
-refusalIn (stored.Is kind word start) = ObjectNotFound
-refusalIn (stored.Refused r) = r

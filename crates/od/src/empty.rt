@@ -1,7 +1,7 @@
 // An empty dictionary.
 ghost use mathlib.Core.Path.{_≡_};
 ghost use Rattle.od.specs.New.{made, newOf};
-use crate::Answer;
+use answers::Answer;
 use answers::Refusal;
 
 // Lays the header of an empty dictionary; the other slices may hold anything.

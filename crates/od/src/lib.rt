@@ -5,17 +5,15 @@ mod reading;
 use answers::Refusal;
 pub use empty::new;
 pub use reading::read;
+pub use reading::read_judged;
 pub use reading::read_number;
+pub use reading::read_number_judged;
 pub use reading::read_part;
+pub use reading::read_part_judged;
 pub use reading::read_u8;
 pub use reading::read_u16;
 pub use reading::read_u32;
 pub use reading::read_u64;
-
-pub enum Answer {
-    Done,
-    Refused(Refusal),
-}
 
 // A value's type and word: its number, or the length of a text or of bytes, which start at `start` of the lent bytes.
 pub enum Stored {

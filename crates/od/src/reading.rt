@@ -1,14 +1,16 @@
 // Reading a value.
 ghost use mathlib.Core.Path.{_≡_};
+ghost use mathlib.Core.Bool.{true};
 ghost use Rattle.entry.specs.Table.{dict};
-ghost use Rattle.od.specs.Read.{readOf, partIn, refusalIn, ofType};
+ghost use Rattle.entry.specs.Judge.{wellFormed};
+ghost use Rattle.od.specs.Read.{readOf, partIn, ofType};
 use crate::Number;
 use crate::Stored;
 use answers::Refusal;
 use entry::Place;
 
-// The value at an index and a sub-index; a list's sub-index 0 is the count of its elements.
-pub fn read(
+// The value at an index and a sub-index of a dictionary that was judged.
+pub fn read_judged(
     objects: &[u64],
     slots: &[u64],
     words: &[u64],
@@ -16,11 +18,9 @@ pub fn read(
     index: u16,
     sub: u8,
 ) -> Stored
+    requires { ⌜ wellFormed (dict (now objects) (now slots) (now words) (now bytes)) ≡ true ⌝ }
     ensures { λ r. ⌜ r ≡ readOf (dict (now (objects .entry)) (now (slots .entry)) (now (words .entry)) (now (bytes .entry))) index sub ⌝ }
 {
-    if !judge::well_formed(objects, slots, words, bytes) {
-        return Stored::Refused(Refusal::Malformed);
-    }
     match entry::locate(objects, index, sub) {
         Place::NoObject => Stored::Refused(Refusal::ObjectNotFound),
         Place::NoSub => Stored::Refused(Refusal::SubObjectNotFound),
@@ -37,6 +37,47 @@ pub fn read(
     }
 }
 
+// The value at an index and a sub-index; a list's sub-index 0 is the count of its elements.
+pub fn read(
+    objects: &[u64],
+    slots: &[u64],
+    words: &[u64],
+    bytes: &[u8],
+    index: u16,
+    sub: u8,
+) -> Stored
+    ensures { λ r. ⌜ r ≡ readOf (dict (now (objects .entry)) (now (slots .entry)) (now (words .entry)) (now (bytes .entry))) index sub ⌝ }
+{
+    if !judge::well_formed(objects, slots, words, bytes) {
+        return Stored::Refused(Refusal::Malformed);
+    }
+    read_judged(objects, slots, words, bytes, index, sub)
+}
+
+// The part of the lent bytes that holds a text or bytes of a dictionary that was judged.
+pub fn read_part_judged<'a>(
+    objects: &[u64],
+    slots: &[u64],
+    words: &[u64],
+    bytes: &'a [u8],
+    index: u16,
+    sub: u8,
+) -> &'a [u8]
+    requires { ⌜ wellFormed (dict (now objects) (now slots) (now words) (now bytes)) ≡ true ⌝ }
+    ensures { λ r. ⌜ now r ≡ partIn (now (bytes .entry)) (readOf (dict (now (objects .entry)) (now (slots .entry)) (now (words .entry)) (now (bytes .entry))) index sub) ⌝ }
+{
+    let Stored::Is { kind, word, start } = read_judged(objects, slots, words, bytes, index, sub)
+    else {
+        return &bytes[0..0];
+    };
+    if value::is_text(kind) {
+        let from = start as usize;
+        let end = from + word as usize;
+        return &bytes[from..end];
+    }
+    &bytes[0..0]
+}
+
 // The part of the lent bytes that holds a text or bytes; the empty part where a number or nothing is read.
 pub fn read_part<'a>(
     objects: &[u64],
@@ -48,45 +89,43 @@ pub fn read_part<'a>(
 ) -> &'a [u8]
     ensures { λ r. ⌜ now r ≡ partIn (now (bytes .entry)) (readOf (dict (now (objects .entry)) (now (slots .entry)) (now (words .entry)) (now (bytes .entry))) index sub) ⌝ }
 {
-    let Stored::Is { kind, word, start } = read(objects, slots, words, bytes, index, sub) else {
+    if !judge::well_formed(objects, slots, words, bytes) {
         return &bytes[0..0];
-    };
-    if value::is_text(kind) {
-        let from = start as usize;
-        let end = from + word as usize;
-        return &bytes[from..end];
     }
-    &bytes[0..0]
-}
-
-fn refusal_in(r: Stored) -> Refusal
-    ensures { λ x. ⌜ x ≡ refusalIn r ⌝ }
-{
-    match r {
-        Stored::Is {
-            kind: _,
-            word: _,
-            start: _,
-        } => Refusal::ObjectNotFound,
-        Stored::Refused(x) => x,
-    }
+    read_part_judged(objects, slots, words, bytes, index, sub)
 }
 
 fn of_type(found: Stored, t: u64) -> Number
     ensures { λ r. ⌜ r ≡ ofType t found ⌝ }
 {
-    let Stored::Is {
-        kind,
-        word,
-        start: _,
-    } = found
-    else {
-        return Number::Refused(refusal_in(found));
-    };
-    if kind == t {
-        return Number::Is(word);
+    match found {
+        Stored::Is {
+            kind,
+            word,
+            start: _,
+        } => if kind == t {
+            Number::Is(word)
+        } else {
+            Number::Refused(Refusal::TypeMismatch)
+        },
+        Stored::Refused(r) => Number::Refused(r),
     }
-    Number::Refused(Refusal::TypeMismatch)
+}
+
+// The number of type t at an index and a sub-index of a dictionary that was judged.
+pub fn read_number_judged(
+    objects: &[u64],
+    slots: &[u64],
+    words: &[u64],
+    bytes: &[u8],
+    index: u16,
+    sub: u8,
+    t: u64,
+) -> Number
+    requires { ⌜ wellFormed (dict (now objects) (now slots) (now words) (now bytes)) ≡ true ⌝ }
+    ensures { λ r. ⌜ r ≡ ofType t (readOf (dict (now (objects .entry)) (now (slots .entry)) (now (words .entry)) (now (bytes .entry))) index sub) ⌝ }
+{
+    of_type(read_judged(objects, slots, words, bytes, index, sub), t)
 }
 
 // The number of type t at an index and a sub-index.
@@ -101,7 +140,10 @@ pub fn read_number(
 ) -> Number
     ensures { λ r. ⌜ r ≡ ofType t (readOf (dict (now (objects .entry)) (now (slots .entry)) (now (words .entry)) (now (bytes .entry))) index sub) ⌝ }
 {
-    of_type(read(objects, slots, words, bytes, index, sub), t)
+    if !judge::well_formed(objects, slots, words, bytes) {
+        return Number::Refused(Refusal::Malformed);
+    }
+    read_number_judged(objects, slots, words, bytes, index, sub, t)
 }
 
 pub fn read_u8(

@@ -48,16 +48,13 @@ pub fn u8_in(
     requires { ⌜ findRow (now objects) index ≡ At i ⌝ }
     ensures { λ r. ⌜ r ≡ u8At (dict (now (objects .entry)) (now (slots .entry)) (now (words .entry)) (now (bytes .entry))) index sub ⌝ }
 {
-    match entry::sub_at(objects, i, sub) {
-        Place::NoObject => Found::Nothing,
-        Place::NoSub => Found::Nothing,
-        Place::Count(_) => Found::Nothing,
-        Place::Value(p) => if entry::type_at(slots, p) == 5 {
-            Found::At(words[p] as usize)
-        } else {
-            Found::Nothing
-        },
+    let Place::Value(p) = entry::sub_at(objects, i, sub) else {
+        return Found::Nothing;
+    };
+    if entry::type_at(slots, p) == 5 {
+        return Found::At(words[p] as usize);
     }
+    Found::Nothing
 }
 
 fn is_sender(sender: u8, v: usize) -> bool

@@ -2,11 +2,11 @@
 use Prim.Native.Nat.{ℕ}
 use mathlib.Core.Bool.{cond}
 use mathlib.Core.List.{List}
+use Rattle.answers.specs.declared.Answer.{Answer}
+use Rattle.answers.specs.declared.Answer.the-variants.{Done, Refused}
 use Rattle.answers.specs.declared.Refusal.the-variants.{Malformed}
 use Rattle.entry.specs.Table.{Dict}
 use Rattle.entry.specs.Judge.{wellFormed}
-use Rattle.od.specs.declared.Answer.{Answer}
-use Rattle.od.specs.declared.Answer.the-variants.{Done, Refused}
 use Rattle.pdo_step.specs.Bits.{markedIn}
 
 -- an answer, and the bytes after it

@@ -4,8 +4,8 @@ ghost use mathlib.Core.Bool.{true};
 ghost use Rattle.entry.specs.Table.{dict};
 ghost use Rattle.entry.specs.Judge.{wellFormed};
 ghost use Rattle.pdo_handler.specs.Errors.{after, updateOf};
+use answers::Answer;
 use answers::Refusal;
-use od::Answer;
 
 // Sets the bit in a dictionary that was judged.
 pub fn update_pdo_error_object_judged(

@@ -1,7 +1,6 @@
--- The walk over the mapping words, and where they lie.
--- Assumes nothing.
+-- The walk over the mapping words. Assumes nothing.
 use mathlib.Core.Path.{_≡_}
-use mathlib.Core.Bool.{true, cond}
+use mathlib.Core.Bool.{cond}
 use mathlib.Core.List.{List}
 use Prim.Native.Nat.{ℕ, suc, _+_, _-_, _<_, _≤_}
 use native.Mathlib.Omega.{arith}
@@ -9,11 +8,7 @@ use borrow.Author.Tests.{lt-ltb, le-ltb}
 use lib.Dec.{eqb}
 use lib.ListN.{getD}
 use Rattle.mapping.specs.Word.{entryOf, endOf}
-use Rattle.entry.specs.Table.{Dict, numberOf, countAt, firstAt, typeAt}
-use Rattle.entry.specs.Judge.{wellFormed}
-use Rattle.entry.proofs.JudgeLaws.{head-ok, headed}
-use Rattle.entry.proofs.FactLaws.{row-facts}
-use Rattle.nodes.specs.Nodes.{Elements}
+use Rattle.entry.specs.Table.{typeAt}
 use Rattle.pdo_validator.specs.declared.Mapped.{Mapped}
 use Rattle.pdo_validator.specs.declared.Mapped.the-variants.{Upto, Missing}
 use Rattle.pdo_validator.specs.Counting.{most, endsFrom}
@@ -45,16 +40,3 @@ rest-all slots words n p k e a b =
     let x : n - 0 ≡ n = omega arith in
     let y : p + 0 ≡ p = omega arith in
     rw (a, b, x, y)
-
--- the first n of a row's elements lie in the dictionary
-pub elements-lie : (d : Dict) → wellFormed d ≡ true → (i n : ℕ) → i < numberOf (d .objects) → n ≤ countAt (d .objects) i → Elements (d .slots) (d .words) n (firstAt (d .objects) i)
-elements-lie d w i n h l =
-    let g = headed d w in
-    let r = row-facts d w i h in
-    let c = head-ok _ _ _ _ _ _ (r .head) .count-small in
-    record {
-      few = omega (arith, l, c);
-      low = omega (arith, l, r .values, g .values);
-      slotted = omega (arith, l, r .values, g .slots);
-      worded = omega (arith, l, r .values, g .words);
-    }

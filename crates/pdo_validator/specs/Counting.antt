@@ -4,6 +4,8 @@ use mathlib.Core.Bool.{Bool, cond, not, _&&_, _||_}
 use mathlib.Core.List.{List}
 use lib.Dec.{eqb, leb, ltb}
 use lib.ListN.{getD}
+use Rattle.answers.specs.declared.Answer.{Answer}
+use Rattle.answers.specs.declared.Answer.the-variants.{Done, Refused}
 use Rattle.answers.specs.declared.Refusal.the-variants.{Malformed, ObjectNotFound, MissingEntries, PdoMapOverrun}
 use Rattle.mapping.specs.Word.{entryOf, endOf}
 use Rattle.entry.specs.Table.{Dict, kindAt, countAt, firstAt, typeAt}
@@ -13,8 +15,6 @@ use Rattle.entry.specs.declared.Found.{Found}
 use Rattle.entry.specs.declared.Found.the-variants.{At, Nothing}
 use Rattle.entry.specs.declared.Place.{Place}
 use Rattle.entry.specs.declared.Place.the-variants.{NoObject, NoSub, Count, Value}
-use Rattle.od.specs.declared.Answer.{Answer}
-use Rattle.od.specs.declared.Answer.the-variants.{Done, Refused}
 use Rattle.pdo_validator.specs.declared.Mapped.{Mapped}
 use Rattle.pdo_validator.specs.declared.Mapped.the-variants.{Upto, Missing}
 

@@ -3,15 +3,15 @@ ghost use mathlib.Core.Path.{_≡_};
 ghost use mathlib.Core.Bool.{true};
 ghost use Prim.Native.Nat.{_<_};
 ghost use Rattle.entry.specs.Table.{dict, numberOf};
+ghost use Rattle.entry.specs.Find.{Elements};
 ghost use Rattle.entry.specs.Judge.{wellFormed};
 ghost use Rattle.entry.specs.declared.Found.the-variants.{At};
-ghost use Rattle.nodes.specs.Nodes.{Elements};
 ghost use Rattle.pdo_validator.specs.Counting.{sends, isMapping, limitOf, endsFrom, within, countOn, countOf, validOf};
+use answers::Answer;
 use answers::Refusal;
 use entry::Found;
 use entry::Place;
 use mapping::PdoMappingEntry;
-use od::Answer;
 
 // The largest end of some mapping words in bytes, or that one of them is none.
 pub enum Mapped {
@@ -38,16 +38,13 @@ fn limit(objects: &[u64], slots: &[u64], words: &[u64], bytes: &[u8], index: u16
     ensures { λ r. ⌜ r ≡ limitOf (dict (now (objects .entry)) (now (slots .entry)) (now (words .entry)) (now (bytes .entry))) index ⌝ }
 {
     let sub = if is_sent(index) { 1 } else { 2 };
-    match entry::locate(objects, 0x1F98, sub) {
-        Place::NoObject => 1490,
-        Place::NoSub => 1490,
-        Place::Count(_) => 1490,
-        Place::Value(p) => if entry::type_at(slots, p) == 6 {
-            words[p]
-        } else {
-            1490
-        },
+    let Place::Value(p) = entry::locate(objects, 0x1F98, sub) else {
+        return 1490;
+    };
+    if entry::type_at(slots, p) == 6 {
+        return words[p];
     }
+    1490
 }
 
 // The largest end of n mapping words, of which the first lies at slot `first`.

@@ -6,6 +6,8 @@ use Prim.Native.Nat.{ℕ}
 use native.Mathlib.Omega.{arith}
 use lib.Dec.{ltb}
 use lib.ListN.{length, replicate}
+use Rattle.answers.specs.declared.Answer.{Answer}
+use Rattle.answers.specs.declared.Answer.the-variants as answer
 use Rattle.answers.specs.declared.Refusal.{Refusal}
 use Rattle.answers.specs.declared.Refusal.the-variants as refusal
 use Rattle.value.specs.declared.Encoded.{Encoded}
@@ -18,8 +20,6 @@ use Rattle.entry.specs.Put.{contents}
 use Rattle.given.specs.declared.Head.{Head}
 use Rattle.insertion.specs.declared.Inserted.the-variants as inserting
 use Rattle.insertion.specs.Insert.{answerOf, memoryOf}
-use Rattle.od.specs.declared.Answer.{Answer}
-use Rattle.od.specs.declared.Answer.the-variants as od
 use Rattle.od.specs.New.{Made, made, newOf}
 use Rattle.nodes.specs.declared.Listed.{Listed}
 use Rattle.nodes.specs.declared.Listed.the-variants as listing
@@ -66,37 +66,37 @@ either answer said same true x y p q = p
 either answer said same false x y p q = q
 
 -- ---- the dictionary
-pub new-refused : (objects : List ℕ) → Refuses Made Answer (λ y. y .answer) od.Refused (λ a. made a objects) (newOf objects)
-new-refused objects = join (ltb (length objects) 12) _ _ (λ r e. ap same e) (λ r (e : od.Done ≡ od.Refused r). let z : _≡_ {A = ℕ} 0 1 = cc in absurd (omega arith))
+pub new-refused : (objects : List ℕ) → Refuses Made Answer (λ y. y .answer) answer.Refused (λ a. made a objects) (newOf objects)
+new-refused objects = join (ltb (length objects) 12) _ _ (λ r e. ap same e) (λ r (e : answer.Done ≡ answer.Refused r). let z : _≡_ {A = ℕ} 0 1 = cc in absurd (omega arith))
   where
     same : Answer → Made
     same a = made a objects
 
-    join : (b : Bool) (x y : Made) → Refuses Made Answer (λ y. y .answer) od.Refused same x → Refuses Made Answer (λ y. y .answer) od.Refused same y → Refuses Made Answer (λ y. y .answer) od.Refused same (cond b x y)
-    join = either (λ (y : Made). y .answer) od.Refused same
+    join : (b : Bool) (x y : Made) → Refuses Made Answer (λ y. y .answer) answer.Refused same x → Refuses Made Answer (λ y. y .answer) answer.Refused same y → Refuses Made Answer (λ y. y .answer) answer.Refused same (cond b x y)
+    join = either (λ (y : Made). y .answer) answer.Refused same
 
 pub insert-refused : (h : Head) (name vals encodings : List ℕ) (d : Dict) (r : Refusal) → answerOf h name vals encodings d ≡ inserting.Refused r → memoryOf h name vals encodings d ≡ d
 insert-refused h name vals encodings d r e = rw e
 
-pub counter-refused : (d : Dict) (x sub : ℕ) → Refuses counter.Counted Answer (λ y. y .answer) od.Refused (λ a. counter.after a (d .words)) (counterOf d x sub)
+pub counter-refused : (d : Dict) (x sub : ℕ) → Refuses counter.Counted Answer (λ y. y .answer) answer.Refused (λ a. counter.after a (d .words)) (counterOf d x sub)
 unfolding counterOf
-counter-refused d x sub = join (wellFormed d) _ _ (λ r (e : od.Done ≡ od.Refused r). let z : _≡_ {A = ℕ} 0 1 = cc in absurd (omega arith)) (λ r e. ap same e)
+counter-refused d x sub = join (wellFormed d) _ _ (λ r (e : answer.Done ≡ answer.Refused r). let z : _≡_ {A = ℕ} 0 1 = cc in absurd (omega arith)) (λ r e. ap same e)
   where
     same : Answer → counter.Counted
     same a = counter.after a (d .words)
 
-    join : (b : Bool) (x y : counter.Counted) → Refuses counter.Counted Answer (λ y. y .answer) od.Refused same x → Refuses counter.Counted Answer (λ y. y .answer) od.Refused same y → Refuses counter.Counted Answer (λ y. y .answer) od.Refused same (cond b x y)
-    join = either (λ (y : counter.Counted). y .answer) od.Refused same
+    join : (b : Bool) (x y : counter.Counted) → Refuses counter.Counted Answer (λ y. y .answer) answer.Refused same x → Refuses counter.Counted Answer (λ y. y .answer) answer.Refused same y → Refuses counter.Counted Answer (λ y. y .answer) answer.Refused same (cond b x y)
+    join = either (λ (y : counter.Counted). y .answer) answer.Refused same
 
-pub update-refused : (d : Dict) (x n : ℕ) → Refuses errors.After Answer (λ y. y .answer) od.Refused (λ a. errors.after a (d .bytes)) (updateOf d x n)
+pub update-refused : (d : Dict) (x n : ℕ) → Refuses errors.After Answer (λ y. y .answer) answer.Refused (λ a. errors.after a (d .bytes)) (updateOf d x n)
 unfolding updateOf
-update-refused d x n = join (wellFormed d) _ _ (λ r (e : od.Done ≡ od.Refused r). let z : _≡_ {A = ℕ} 0 1 = cc in absurd (omega arith)) (λ r e. ap same e)
+update-refused d x n = join (wellFormed d) _ _ (λ r (e : answer.Done ≡ answer.Refused r). let z : _≡_ {A = ℕ} 0 1 = cc in absurd (omega arith)) (λ r e. ap same e)
   where
     same : Answer → errors.After
     same a = errors.after a (d .bytes)
 
-    join : (b : Bool) (x y : errors.After) → Refuses errors.After Answer (λ y. y .answer) od.Refused same x → Refuses errors.After Answer (λ y. y .answer) od.Refused same y → Refuses errors.After Answer (λ y. y .answer) od.Refused same (cond b x y)
-    join = either (λ (y : errors.After). y .answer) od.Refused same
+    join : (b : Bool) (x y : errors.After) → Refuses errors.After Answer (λ y. y .answer) answer.Refused same x → Refuses errors.After Answer (λ y. y .answer) answer.Refused same y → Refuses errors.After Answer (λ y. y .answer) answer.Refused same (cond b x y)
+    join = either (λ (y : errors.After). y .answer) answer.Refused same
 
 pub cns-refused : (d : Dict) (out : List ℕ) → Refuses Given Listed (λ y. y .answer) listing.Refused (λ a. given a out) (cnsOf d out)
 unfolding cnsOf

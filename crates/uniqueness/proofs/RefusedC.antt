@@ -7,6 +7,8 @@ use Prim.Native.Nat.{ℕ, _<_}
 use native.Mathlib.Omega.{arith}
 use lib.Dec.{ltb}
 use lib.ListN.{length}
+use Rattle.answers.specs.declared.Answer.{Answer}
+use Rattle.answers.specs.declared.Answer.the-variants as answer
 use Rattle.lists.specs.Lists.{over}
 use Rattle.answers.specs.Numbers.{numberOf}
 use Rattle.answers.specs.declared.Refusal.{Refusal}
@@ -24,8 +26,6 @@ use Rattle.given.specs.declared.Head.{Head}
 use Rattle.insertion.specs.declared.Inserted.{Inserted}
 use Rattle.insertion.specs.declared.Inserted.the-variants as inserted
 use Rattle.insertion.specs.Insert.{answerOf, memoryOf}
-use Rattle.od.specs.declared.Answer.{Answer}
-use Rattle.od.specs.declared.Answer.the-variants as od
 use Rattle.od.specs.declared.Stored.{Stored}
 use Rattle.od.specs.declared.Stored.the-variants as stored
 use Rattle.od.specs.declared.Number.{Number}
@@ -142,9 +142,9 @@ pub c-from-u64-refused : (word : ℕ) (ns : List ℕ) → RefusedLent ns (result
 c-from-u64-refused word ns = results-refused (entryNumbers word) ns
 
 -- ---- the dictionary
-refused-answer : (a : Answer) (r : Refusal) → answerNumber a ≡ numberOf r → (k : Refusal) × (a ≡ od.Refused k)
-refused-answer od.Done r e = no-refusal r e
-refused-answer (od.Refused k) r e = (k, refl)
+refused-answer : (a : Answer) (r : Refusal) → answerNumber a ≡ numberOf r → (k : Refusal) × (a ≡ answer.Refused k)
+refused-answer answer.Done r e = no-refusal r e
+refused-answer (answer.Refused k) r e = (k, refl)
 
 pub c-new-refused : (objects : List ℕ) (r : Refusal) → answerNumber (newOf objects .answer) ≡ numberOf r → newOf objects .objects ≡ objects
 c-new-refused objects r e = let k = refused-answer (newOf objects .answer) r e in ap (λ (y : Made). y .objects) (new-refused objects (k .0) (k .1))

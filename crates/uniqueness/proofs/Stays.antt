@@ -9,7 +9,7 @@ use Rattle.value.specs.declared.Encoded.the-variants as encoded
 use Rattle.value.specs.Codec as codec
 use Rattle.entry.specs.Table.{Dict}
 use Rattle.insertion.specs.declared.Inserted.the-variants as inserting
-use Rattle.od.specs.declared.Answer.the-variants as od
+use Rattle.answers.specs.declared.Answer.the-variants as od
 use Rattle.od.specs.New.{Made}
 use Rattle.nodes.specs.declared.Listed.the-variants as listing
 use Rattle.nodes.specs.Nodes.{Given}

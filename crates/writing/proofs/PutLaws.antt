@@ -8,6 +8,8 @@ use native.Mathlib.Omega.{arith}
 use borrow.Author.Tests.{eqb-true, ltb-false}
 use lib.Dec.{eqb, ltb}
 use lib.ListN.{length}
+use Rattle.answers.specs.declared.Answer.{Answer}
+use Rattle.answers.specs.declared.Answer.the-variants as answer
 use Rattle.lists.specs.Numbers.{Bytes}
 use Rattle.answers.specs.declared.Refusal.the-variants.{BadValue, ReadOnly, TypeMismatch, TooLong, NoStorage, BadSignature, CountNotWritable}
 use Rattle.value.specs.Codec.{isText, exact}
@@ -22,8 +24,6 @@ use Rattle.entry.specs.declared.Place.{Place}
 use Rattle.entry.specs.declared.Place.the-variants.{NoObject, NoSub, Count, Value}
 use Rattle.entry.proofs.ValueLaws.{ValueFacts, element-of, element-facts}
 use Rattle.entry.proofs.KeepLaws.{Fits, put-element}
-use Rattle.od.specs.declared.Answer.{Answer}
-use Rattle.od.specs.declared.Answer.the-variants as answer
 use Rattle.pdo_validator.specs.Counting.{isMapping}
 use Rattle.writing.specs.declared.Judged.{Judged}
 use Rattle.writing.specs.declared.Judged.the-variants.{Put, Kept, Save, Restore, Refused}

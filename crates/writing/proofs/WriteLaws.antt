@@ -8,12 +8,12 @@ use borrow.Author.Tests.{eqb-true}
 use lib.Dec.{eqb, ltb}
 use lib.ListN.{length, getD, take, drop}
 use lib.Seq.{take-all}
+use Rattle.answers.specs.declared.Answer.the-variants as answer
 use Rattle.answers.specs.declared.Refusal.the-variants.{TypeMismatch, TooLong}
 use Rattle.value.specs.Codec.{isText, sizeOf, exact}
 use Rattle.value.proofs.CodecLaws.{exact-fixed}
 use Rattle.entry.specs.Table.{Dict, typeAt, roomAt}
 use Rattle.entry.proofs.JudgeLaws.{and-true}
-use Rattle.od.specs.declared.Answer.the-variants as answer
 use Rattle.pdo_validator.specs.Counting.{isMapping, countOf}
 use Rattle.writing.specs.declared.Judged.the-variants.{Put, Refused}
 use Rattle.writing.specs.Judging.{atValue, countFirst}

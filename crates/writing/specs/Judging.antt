@@ -5,6 +5,8 @@ use mathlib.Core.Bool.{Bool, cond, _&&_, _||_}
 use mathlib.Core.List.{List, [], _∷_}
 use lib.Dec.{eqb, ltb}
 use lib.ListN.{getD, length}
+use Rattle.answers.specs.declared.Answer.{Answer}
+use Rattle.answers.specs.declared.Answer.the-variants as answer
 use Rattle.lists.specs.Numbers.{number}
 use Rattle.answers.specs.declared.Refusal.the-variants.{BadValue, ObjectNotFound, SubObjectNotFound, TypeMismatch, ReadOnly, BadSignature, NoStorage, CountNotWritable, TooLong}
 use Rattle.value.specs.Codec.{isText, exact}
@@ -14,8 +16,6 @@ use Rattle.entry.specs.declared.Found.{Found}
 use Rattle.entry.specs.declared.Found.the-variants.{At, Nothing}
 use Rattle.entry.specs.declared.Place.{Place}
 use Rattle.entry.specs.declared.Place.the-variants.{NoObject, NoSub, Count, Value}
-use Rattle.od.specs.declared.Answer.{Answer}
-use Rattle.od.specs.declared.Answer.the-variants as answer
 use Rattle.pdo_validator.specs.Counting.{isMapping, countOf}
 use Rattle.writing.specs.declared.Judged.{Judged}
 use Rattle.writing.specs.declared.Judged.the-variants.{Put, Kept, Save, Restore, Refused}

@@ -10,10 +10,10 @@ ghost use Rattle.entry.specs.Judge.{wellFormed};
 ghost use Rattle.entry.specs.declared.Found.the-variants.{At};
 ghost use Rattle.writing.specs.Judging.{signedBy, commandOf, atValue, inObject, countFirst, judgeOf};
 use crate::Judged;
+use answers::Answer;
 use answers::Refusal;
 use entry::Found;
 use entry::Place;
-use od::Answer;
 
 // The bytes of "save" and of "load".
 const SAVE: u64 = 0x6576_6173;

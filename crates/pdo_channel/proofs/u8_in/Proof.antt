@@ -1,12 +1,12 @@
 -- `pdo_channel::u8_in` meets its contract: each place is a case of the definition. Assumes nothing.
-use mathlib.Core.Path.{_≡_, sym, ap, _∙_}
+use mathlib.Core.Path.{_≡_, refl, sym, ap, _∙_}
 use denote.Ref.{now}
 use borrow.Author.Tests.{eq-eqb, ne-eqb}
 use Rattle.entry.specs.Table.{Dict, dict}
 use Rattle.entry.specs.Find.{onRow}
 use Rattle.entry.specs.declared.Place.{Place}
-use Rattle.entry.proofs.ValueLaws.{ValueFacts, rows-of, found-lies}
-use Rattle.od.proofs.ReadLaws.{value-lies}
+use Rattle.entry.proofs.PlaceLaws.{no-value}
+use Rattle.entry.proofs.ValueLaws.{ValueFacts, rows-of, found-lies, value-lies}
 use Rattle.pdo_channel.specs.Channel.{u8In, u8At}
 use native.Mathlib.Omega.{arith}
 use borrow.Author.Needs.{needs}
@@ -35,45 +35,21 @@ sub-at-requires c κs =
     let l = found-lies (D s) (s .pre .0) (s .args .index) (s .args .i) (s .pre .1) in
     (rows-of (D s) (s .pre .0), l .below)
 
-enum-told : tie.Need-enum-told
-enum-told c = search needs
-
-enum-told-2 : tie.Need-enum-told-2
-enum-told-2 c = search needs
-
-enum-told-3 : tie.Need-enum-told-3
-enum-told-3 c = search needs
-
-enum-known-p : tie.Need-enum-known-p
-enum-known-p c = search needs
+returns : tie.Need-returns
+returns c = let b = c .before in no-value (u8In (D (start b))) refl refl (λ n. refl) (b .sub-at .result) (c .match .keys2) ∙ placed b _ refl
 
 type-at-requires : tie.Need-type-at-requires
 type-at-requires c κs = let f = there (c .before) in (f .low, f .slot)
 
-mul-t14 : tie.Need-mul-t14
-mul-t14 c = omega (arith, there (c .before .before .before) .low)
-
-shared-slice-read-t16 : tie.Need-shared-slice-read-t16
-shared-slice-read-t16 c = there (c .before .before .before .before) .word
-
-returns : tie.Need-returns
-returns c = placed (c .before .before) _ (c .enum-told .given .1)
-
 returns-2 : tie.Need-returns-2
-returns-2 c = placed (c .before .before) _ (c .enum-told2 .given .1)
-
-returns-3 : tie.Need-returns-3
-returns-3 c = placed (c .before .before) _ (c .enum-told3 .given .1)
-
-returns-4 : tie.Need-returns-4
-returns-4 c =
+returns-2 c =
     let i = c .before in
     let t = i .before in
     let p = t .before .before in
     sym (rw (eq-eqb _ 5 (sym (t .type-at .ensures) ∙ i .if1 .taken))) ∙ placed (p .before .before) _ (p .p .given .1)
 
-returns-5 : tie.Need-returns-5
-returns-5 c =
+returns-3 : tie.Need-returns-3
+returns-3 c =
     let t = c .before in
     let p = t .before .before in
     sym (rw (ne-eqb _ 5 (λ z. c .if1 .left (t .type-at .ensures ∙ z)))) ∙ placed (p .before .before) _ (p .p .given .1)
@@ -83,15 +59,10 @@ u8-in-spec =
     tie.close
     (tie.spec
     sub-at-requires
-    enum-told
-    enum-told-2
-    enum-told-3
-    enum-known-p
-    type-at-requires
-    mul-t14
-    shared-slice-read-t16
+    (λ c. search needs)
     returns
+    type-at-requires
+    (λ c. omega (arith, there (c .before .before .before) .low))
+    (λ c. there (c .before .before .before .before) .word)
     returns-2
-    returns-3
-    returns-4
-    returns-5)
+    returns-3)

@@ -7,9 +7,8 @@ use lib.ListN.{length}
 use denote.Ref.{now}
 use borrow.Author.Tests.{eq-eqb, ne-eqb, le-leb, lt-leb}
 use Rattle.entry.specs.Table.{Dict, dict, kindAt, countAt}
-use Rattle.entry.proofs.ValueLaws.{row-lies}
+use Rattle.entry.proofs.ValueLaws.{row-lies, elements-lie}
 use Rattle.pdo_validator.specs.Counting.{within, endsFrom, countOn}
-use Rattle.pdo_validator.proofs.CountLaws.{elements-lie}
 use native.Mathlib.Omega.{arith}
 use borrow.Author.Needs.{needs}
 use Rattle.pdo_validator.proofs.count_in.Statement.{statement}

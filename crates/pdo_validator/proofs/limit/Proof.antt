@@ -1,11 +1,12 @@
 -- `pdo_validator::limit` meets its contract: each place is a case of `u16At`. Assumes nothing.
-use mathlib.Core.Path.{_≡_, sym, ap, _∙_}
+use mathlib.Core.Path.{_≡_, refl, sym, ap, _∙_}
 use mathlib.Core.Bool.{cond}
 use mathlib.Core.Logic.{⊎-elim}
 use denote.Ref.{now}
 use borrow.Author.Tests.{eq-eqb, ne-eqb}
 use Rattle.entry.specs.Table.{Dict, dict}
 use Rattle.entry.specs.Find.{placeOf}
+use Rattle.entry.proofs.PlaceLaws.{no-value}
 use Rattle.entry.proofs.ValueLaws.{rows-of, ValueFacts, element-of, element-facts}
 use Rattle.pdo_validator.specs.Counting.{sends, u16At, limitOf}
 use native.Mathlib.Omega.{arith}
@@ -35,62 +36,35 @@ facts c =
     let s = start (l .before .before) in
     element-facts (D s) (s .pre) (element-of (D s) (s .pre) _ _ _ (sym (place l) ∙ c .p .given .1))
 
-is-sent-requires : tie.Need-is-sent-requires
-is-sent-requires c κs = search needs
-
 locate-requires : tie.Need-locate-requires
-locate-requires c κs =
-    let s = start (c .before) in rows-of (D s) (s .pre)
-
-enum-told : tie.Need-enum-told
-enum-told c = search needs
-
-enum-told-2 : tie.Need-enum-told-2
-enum-told-2 c = search needs
-
-enum-told-3 : tie.Need-enum-told-3
-enum-told-3 c = search needs
-
-enum-known-p : tie.Need-enum-known-p
-enum-known-p c = search needs
-
-type-at-requires : tie.Need-type-at-requires
-type-at-requires c κs =
-    let f = facts (c .before) in (f .low, f .slot)
-
-mul-result : tie.Need-mul-result
-mul-result c =
-    omega (arith, facts (c .before .before .before) .low)
-
-shared-slice-read-result : tie.Need-shared-slice-read-result
-shared-slice-read-result c =
-    omega (arith, facts (c .before .before .before .before) .word)
+locate-requires c κs = let s = start (c .before) in rows-of (D s) (s .pre)
 
 returns : tie.Need-returns
 unfolding limitOf
 returns c =
-    let l = c .before .before in ap (u16At (D (start (l .before .before)))) (sym (c .enum-told .given .1) ∙ place l)
+    let l = c .before in
+    let s = start (l .before .before) in
+    no-value (u16At (D s)) refl refl (λ n. refl) (l .locate .result) (c .match .keys2) ∙ ap (u16At (D s)) (place l)
+
+type-at-requires : tie.Need-type-at-requires
+type-at-requires c κs = let f = facts (c .before) in (f .low, f .slot)
+
+mul-result : tie.Need-mul-result
+mul-result c = omega (arith, facts (c .before .before .before) .low)
+
+shared-slice-read-result : tie.Need-shared-slice-read-result
+shared-slice-read-result c = omega (arith, facts (c .before .before .before .before) .word)
 
 returns-2 : tie.Need-returns-2
 unfolding limitOf
 returns-2 c =
-    let l = c .before .before in ap (u16At (D (start (l .before .before)))) (sym (c .enum-told2 .given .1) ∙ place l)
-
-returns-3 : tie.Need-returns-3
-unfolding limitOf
-returns-3 c =
-    let l = c .before .before in ap (u16At (D (start (l .before .before)))) (sym (c .enum-told3 .given .1) ∙ place l)
-
-returns-4 : tie.Need-returns-4
-unfolding limitOf
-returns-4 c =
     let i = c .before in
     let p = i .before .before .before in
     simp (sym (place (p .before .before)) ∙ p .p .given .1, eq-eqb _ _ (sym (i .before .type-at .ensures) ∙ i .if2 .taken))
 
-returns-5 : tie.Need-returns-5
+returns-3 : tie.Need-returns-3
 unfolding limitOf
-returns-5 c =
+returns-3 c =
     let p = c .before .before .before in
     simp (sym (place (p .before .before)) ∙ p .p .given .1, ne-eqb _ _ (λ q. c .if2 .left (c .before .type-at .ensures ∙ q)))
 
@@ -98,17 +72,12 @@ pub limit-spec : {M : Type 1} → statement M
 limit-spec =
     tie.close
     (tie.spec
-    is-sent-requires
+    (λ c κs. search needs)
     locate-requires
-    enum-told
-    enum-told-2
-    enum-told-3
-    enum-known-p
+    (λ c. search needs)
+    returns
     type-at-requires
     mul-result
     shared-slice-read-result
-    returns
     returns-2
-    returns-3
-    returns-4
-    returns-5)
+    returns-3)

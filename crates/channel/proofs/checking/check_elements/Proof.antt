@@ -4,10 +4,9 @@ use mathlib.Core.Bool.{Bool, cond}
 use denote.Ref.{now}
 use lib.ListN.{take, drop}
 use Rattle.entry.specs.Table.{Dict, dict, firstAt, listCount}
-use Rattle.entry.proofs.ValueLaws.{list-count-le, row-lies}
-use Rattle.nodes.specs.Nodes.{Elements}
+use Rattle.entry.specs.Find.{Elements}
+use Rattle.entry.proofs.ValueLaws.{list-count-le, row-lies, elements-lie}
 use Rattle.pdo_validator.specs.Counting.{endsFrom}
-use Rattle.pdo_validator.proofs.CountLaws.{elements-lie}
 use Rattle.pdo_run.specs.Run.{listIn}
 use Rattle.pdo_step.proofs.OutcomeLaws.{shape-of}
 use Rattle.channel.specs.declared.Checked.the-variants.{Pass, TooFar}

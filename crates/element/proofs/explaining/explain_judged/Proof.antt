@@ -1,17 +1,16 @@
 -- `element::explaining::explain_judged` meets its contract: each way out is a case of the definition. Assumes nothing.
 use mathlib.Core.Path.{_≡_, refl, sym, ap, _∙_}
+use Prim.Native.Nat.{_+_}
 use denote.Ref.{now}
-use lib.Dec.{eqb}
-use lib.ListN.{getD}
-use Rattle.entry.specs.Table.{Dict, dict, typeAt, kindAt}
-use Rattle.entry.specs.Find.{findRow, subAt, placeOf, onRow}
+use Rattle.entry.specs.Table.{Dict, dict}
+use Rattle.entry.specs.Find.{onRow}
 use Rattle.entry.specs.declared.Found.{Found}
 use Rattle.entry.specs.declared.Place.{Place}
-use Rattle.entry.specs.declared.Place.the-variants.{Value}
+use Rattle.entry.proofs.PlaceLaws.{no-value}
 use Rattle.entry.proofs.ValueLaws.{RowLies, rows-of, found-lies, ValueFacts, element-of, element-facts}
 use Rattle.pdo_step.proofs.OutcomeLaws.{shape-of}
-use Rattle.element.specs.Explain.{ofElement, ofPlace, ofList}
-use Rattle.element.proofs.PlaceLaws.{no-element}
+use Rattle.element.specs.declared.Explained.{Explained}
+use Rattle.element.specs.Explain.{ofPlace, ofList, explainOf}
 use borrow.Author.Tests.{eq-eqb, ne-eqb}
 use native.Mathlib.Omega.{arith}
 use borrow.Author.Needs.{needs}
@@ -27,14 +26,18 @@ start c = c .before .before .before .before .before
 abbrev row : tie.After-sub-at → tie.After-r
 row b = b .before .before .before .before
 
-listed : (f : tie.After-find) (x : Found) → f .find .result ≡ x → let s = start f in ofList (D s) (s .args .element) x ≡ ofList (D s) (s .args .element) (findRow (now (s .args .objects)) (s .args .index))
-listed f x e = ap (ofList (D (start f)) (start f .args .element)) (sym e ∙ f .find .ensures)
+abbrev explained : tie.Start → Explained
+explained s = explainOf (D s) (s .args .channel) (s .args .element)
+
+listed : (f : tie.After-find) (x : Found) → f .find .result ≡ x → let s = start f in ofList (D s) (s .args .element) x ≡ explained s
+unfolding explainOf
+listed f x e = let s = start f in ap (ofList (D s) (s .args .element)) (sym e ∙ f .find .ensures) ∙ sym (simp (s .pre))
 
 lies : (r : tie.After-r) → RowLies (D (start (r .before .before))) (r .r .given .0 .0)
-lies r = let f = r .before .before in let s = start f in found-lies (D s) (s .pre) (s .args .index) _ (sym (f .find .ensures) ∙ r .r .given .1)
+lies r = let f = r .before .before in let s = start f in found-lies (D s) (s .pre) (0x1600 + s .args .channel) _ (sym (f .find .ensures) ∙ r .r .given .1)
 
 -- of a list, what its place comes to
-placed : (b : tie.After-sub-at) (q : Place) → b .sub-at .result ≡ q → let f = row b .before .before in let s = start f in ofPlace (D s) q ≡ ofList (D s) (s .args .element) (findRow (now (s .args .objects)) (s .args .index))
+placed : (b : tie.After-sub-at) (q : Place) → b .sub-at .result ≡ q → let f = row b .before .before in let s = start f in ofPlace (D s) q ≡ explained s
 placed b q e =
     let r = row b in
     let f = r .before .before in
@@ -47,16 +50,10 @@ facts p =
     let r = row b in
     let f = r .before .before in
     let s = start f in
-    element-facts (D s) (s .pre) (element-of (D s) (s .pre) (s .args .index) (s .args .element) _ (ap (onRow (now (s .args .objects)) (s .args .element)) (sym (f .find .ensures) ∙ r .r .given .1) ∙ sym (b .sub-at .ensures) ∙ p .p .given .1))
+    element-facts (D s) (s .pre) (element-of (D s) (s .pre) (0x1600 + s .args .channel) (s .args .element) _ (ap (onRow (now (s .args .objects)) (s .args .element)) (sym (f .find .ensures) ∙ r .r .given .1) ∙ sym (b .sub-at .ensures) ∙ p .p .given .1))
 
 find-requires : tie.Need-find-requires
 find-requires c κs = let s = c .before .before .before .before in rows-of (D s) (s .pre)
-
-enum-known-r : tie.Need-enum-known-r
-enum-known-r c = search needs
-
-enum-told : tie.Need-enum-told
-enum-told c = search needs
 
 returns : tie.Need-returns
 returns c = listed (c .before .before) _ (c .enum-told .given .1)
@@ -70,11 +67,8 @@ returns-2 c = let k = c .before in let r = k .before .before in sym (rw (eq-eqb 
 sub-at-requires : tie.Need-sub-at-requires
 sub-at-requires c κs = let r = c .before .before .before in let s = start (r .before .before) in (rows-of (D s) (s .pre), lies r .below)
 
-enum-known-p : tie.Need-enum-known-p
-enum-known-p c = search needs
-
 returns-3 : tie.Need-returns-3
-returns-3 c = let b = c .before in no-element (D (start (row b .before .before))) (b .sub-at .result) (c .match2 .keys2) ∙ placed b _ refl
+returns-3 c = let b = c .before in no-value (ofPlace (D (start (row b .before .before)))) refl refl (λ n. refl) (b .sub-at .result) (c .match2 .keys2) ∙ placed b _ refl
 
 type-at-requires : tie.Need-type-at-requires
 type-at-requires c κs = let f = facts (c .before) in (f .low, f .slot)
@@ -98,14 +92,15 @@ pub explain-judged-spec : {M : Type 1} → statement M
 explain-judged-spec =
     tie.close
     (tie.spec
+    (λ c. search needs)
     find-requires
-    enum-known-r
-    enum-told
+    (λ c. search needs)
+    (λ c. search needs)
     returns
     kind-at-requires
     returns-2
     sub-at-requires
-    enum-known-p
+    (λ c. search needs)
     returns-3
     type-at-requires
     returns-4

@@ -1,7 +1,7 @@
 -- `od::empty::new` meets its contract. Assumes nothing.
 use mathlib.Core.Path.{ap}
 use borrow.Author.Tests.{lt-ltb, le-ltb}
-use Rattle.od.specs.declared.Answer.the-variants.{Done}
+use Rattle.answers.specs.declared.Answer.the-variants.{Done}
 use Rattle.od.specs.New.{made}
 use borrow.Author.Needs.{needs}
 use Rattle.od.proofs.empty.new.Statement.{statement}

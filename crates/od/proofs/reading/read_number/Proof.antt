@@ -1,18 +1,18 @@
--- `od::reading::read_number` meets its contract. Assumes nothing.
-use mathlib.Core.Path.{ap, _∙_}
-use Rattle.od.specs.Read.{ofType}
+-- `od::reading::read_number` meets its contract: the dictionary is judged, then read. Assumes nothing.
+use mathlib.Core.Path.{sym, _∙_}
+use borrow.Author.Tests.{not-true, not-false}
+use Rattle.od.specs.Read.{readOf}
 use borrow.Author.Needs.{needs}
 use Rattle.od.proofs.reading.read_number.Statement.{statement}
 use Rattle.od.proofs.reading.read_number.Tie as tie
 
-read-requires : tie.Need-read-requires
-read-requires c κs = search needs
-
-of-type-requires : tie.Need-of-type-requires
-of-type-requires c κs = search needs
-
 returns : tie.Need-returns
-returns c = c .of-type .ensures ∙ ap (ofType (c .before .before .before .before .before .before .args .t)) (c .before .read .ensures)
+unfolding readOf
+returns c = simp (sym (c .before .well-formed .ensures) ∙ not-true _ (c .if1 .taken))
+
+read-number-judged-requires : tie.Need-read-number-judged-requires
+read-number-judged-requires c κs = sym (c .before .well-formed .ensures) ∙ not-false _ (c .if1 .left)
 
 pub read-number-spec : {M : Type 1} → statement M
-read-number-spec = tie.close (tie.spec read-requires of-type-requires returns)
+read-number-spec =
+    tie.close (tie.spec (λ c κs. search needs) returns read-number-judged-requires (λ c. c .read-number-judged .ensures))

@@ -1,111 +1,29 @@
--- `od::reading::read_part` meets its contract: a text or bytes lie within the lent bytes. Assumes nothing.
-use mathlib.Core.Path.{_≡_, sym, ap, _∙_}
-use mathlib.Core.List.{List, []}
-use Prim.Native.Nat.{ℕ, _+_, _-_}
-use denote.Ref.{now}
-use lib.ListN.{take, drop}
-use Rattle.entry.specs.Table.{Dict, dict}
-use Rattle.od.specs.declared.Stored.the-variants as stored
-use Rattle.od.specs.Read.{partIn}
-use Rattle.od.proofs.ReadLaws.{PartLies, part-lies}
-use native.Mathlib.Omega.{arith}
+-- `od::reading::read_part` meets its contract: the dictionary is judged, then read. Assumes nothing.
+use mathlib.Core.Path.{sym, _∙_}
+use borrow.Author.Tests.{not-true, not-false}
+use Rattle.od.specs.Read.{readOf}
 use borrow.Author.Needs.{needs}
 use Rattle.od.proofs.reading.read_part.Statement.{statement}
 use Rattle.od.proofs.reading.read_part.Tie as tie
 
-abbrev D : tie.After-read → Dict
-D r = let a = r .before .before .before .before .before .args in dict (now (a .objects)) (now (a .slots)) (now (a .words)) (now (a .bytes))
-
-lies : (c : tie.Then1) → let k = c .before .before .before .kind .given .0 in PartLies (D (c .before .before .before .before .before)) (k .1 .0) (k .1 .1 .0)
-lies c =
-    let k = c .before .before .before in
-    let r = k .before .before in
-    part-lies (D r) _ _ _ _ _ (sym (r .read .ensures) ∙ k .kind .given .1) (sym (c .before .is-text .ensures) ∙ c .if1 .taken)
-
-read-requires : tie.Need-read-requires
-read-requires c κs = search needs
-
-enum-known-kind : tie.Need-enum-known-kind
-enum-known-kind c = search needs
-
-enum-told : tie.Need-enum-told
-enum-told c = search needs
-
-sub-result : tie.Need-sub-result
-sub-result c = search needs
-
-part-result-start : tie.Need-part-result-start
-part-result-start c = search needs
-
-part-result-end : tie.Need-part-result-end
-part-result-end c = search needs
-
 returns : tie.Need-returns
-returns c =
-    let r = c .before .before .before in
-    ap (partIn (D r .bytes)) (sym (c .before .enum-told .given .1) ∙ r .read .ensures)
+unfolding readOf
+returns c = let b = c .before in simp (sym (b .before .well-formed .ensures) ∙ not-true _ (b .if1 .taken))
 
-is-text-requires : tie.Need-is-text-requires
-is-text-requires c κs = search needs
-
-add-end : tie.Need-add-end
-add-end c = omega (arith, lies c .small)
-
-sub-result-2 : tie.Need-sub-result-2
-sub-result-2 c = search needs
-
-part-result-start-2 : tie.Need-part-result-start-2
-part-result-start-2 c = search needs
-
-part-result-end-2 : tie.Need-part-result-end-2
-part-result-end-2 c = omega (arith, lies c .inside)
+read-part-judged-requires : tie.Need-read-part-judged-requires
+read-part-judged-requires c κs = sym (c .before .well-formed .ensures) ∙ not-false _ (c .if1 .left)
 
 returns-2 : tie.Need-returns-2
-returns-2 c =
-    let k = c .before .before .before .before in
-    let r = k .before .before in
-    let g = k .kind .given .0 in
-    let e : g .1 .1 .0 + g .1 .0 - g .1 .1 .0 ≡ g .1 .0 = omega arith in
-    let p : take (g .1 .1 .0 + g .1 .0 - g .1 .1 .0) (drop (g .1 .1 .0) (D r .bytes)) ≡ partIn (D r .bytes) (stored.Is (g .0) (g .1 .0) (g .1 .1 .0)) =
-    rw (e, sym (c .before .before .is-text .ensures) ∙ c .before .if1 .taken) in
-    p ∙ ap (partIn (D r .bytes)) (sym (k .kind .given .1) ∙ r .read .ensures)
-
-sub-result-3 : tie.Need-sub-result-3
-sub-result-3 c = search needs
-
-part-result-start-3 : tie.Need-part-result-start-3
-part-result-start-3 c = search needs
-
-part-result-end-3 : tie.Need-part-result-end-3
-part-result-end-3 c = search needs
-
-returns-3 : tie.Need-returns-3
-returns-3 c =
-    let k = c .before .before .before .before in
-    let r = k .before .before in
-    let g = k .kind .given .0 in
-    let p : _≡_ {A = List ℕ} [] (partIn (D r .bytes) (stored.Is (g .0) (g .1 .0) (g .1 .1 .0))) =
-    rw (sym (c .before .before .is-text .ensures) ∙ c .before .if1 .left) in
-    p ∙ ap (partIn (D r .bytes)) (sym (k .kind .given .1) ∙ r .read .ensures)
+returns-2 c = c .read-part-judged .ensures
 
 pub read-part-spec : {M : Type 1} → statement M
 read-part-spec =
     tie.close
     (tie.spec
-    read-requires
-    enum-known-kind
-    enum-told
-    sub-result
-    part-result-start
-    part-result-end
+    (λ c κs. search needs)
+    (λ c. search needs)
+    (λ c. search needs)
+    (λ c. search needs)
     returns
-    is-text-requires
-    add-end
-    sub-result-2
-    part-result-start-2
-    part-result-end-2
-    returns-2
-    sub-result-3
-    part-result-start-3
-    part-result-end-3
-    returns-3)
+    read-part-judged-requires
+    returns-2)

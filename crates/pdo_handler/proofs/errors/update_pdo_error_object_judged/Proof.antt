@@ -1,6 +1,6 @@
 -- `pdo_handler::errors::update_pdo_error_object_judged` meets its contract: the bit is set. Assumes nothing.
 use mathlib.Core.Path.{sym, ap, _∙_}
-use Rattle.od.specs.declared.Answer.the-variants.{Done}
+use Rattle.answers.specs.declared.Answer.the-variants.{Done}
 use Rattle.pdo_handler.specs.Errors.{after, updateOf}
 use borrow.Author.Needs.{needs}
 use Rattle.pdo_handler.proofs.errors.update_pdo_error_object_judged.Statement.{statement}

@@ -8,9 +8,7 @@ use Rattle.entry.specs.Table.{Dict, dict, accessAt}
 use Rattle.entry.specs.Find.{subAt}
 use Rattle.entry.specs.declared.Found.the-variants.{At}
 use Rattle.entry.specs.declared.Place.{Place}
-use Rattle.entry.proofs.ValueLaws.{rows-of}
-use Rattle.entry.proofs.ValueLaws.{RowLies, found-lies}
-use Rattle.od.proofs.ReadLaws.{value-lies}
+use Rattle.entry.proofs.ValueLaws.{rows-of, RowLies, found-lies, value-lies}
 use Rattle.writing.specs.declared.Judged.the-variants.{Kept, Refused}
 use Rattle.writing.specs.Judging.{inPlace, inObject}
 use borrow.Author.Needs.{needs}
