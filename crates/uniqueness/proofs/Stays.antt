@@ -9,7 +9,7 @@ use Rattle.value.specs.declared.Encoded.the-variants as encoded
 use Rattle.value.specs.Codec as codec
 use Rattle.entry.specs.Table.{Dict}
 use Rattle.insertion.specs.declared.Inserted.the-variants as inserting
-use Rattle.answers.specs.declared.Answer.the-variants as od
+use Rattle.answers.specs.declared.Answer.the-variants as answered
 use Rattle.od.specs.New.{Made}
 use Rattle.nodes.specs.declared.Listed.the-variants as listing
 use Rattle.nodes.specs.Nodes.{Given}
@@ -55,7 +55,7 @@ use Rattle.uniqueness.proofs.Refused.{encode-refused, new-refused, inse
 pub encode-stays : Stays 2 encode-kinds.ps encode-kinds.r encode.Post (λ κs. RefusedBy encoded.Refused) (λ κs a. (tt, (tt, (now (a .1 .1 .0), tt))))
 encode-stays κs a z w p r = ap (λ (x : codec.After). (tt, (tt, (x .out, tt)))) (p ∙ encode-refused _ _ _ _ (r .0) (sym (ap (λ (x : codec.After). x .answer) p) ∙ r .1))
 
-pub new-stays : Stays 1 new-kinds.ps new-kinds.r new.Post (λ κs. RefusedBy od.Refused) (λ κs a. (now (a .0), tt))
+pub new-stays : Stays 1 new-kinds.ps new-kinds.r new.Post (λ κs. RefusedBy answered.Refused) (λ κs a. (now (a .0), tt))
 new-stays κs a z w p r = ap (λ (x : Made). (x .objects, tt)) (p ∙ new-refused _ (r .0) (sym (ap (λ (x : Made). x .answer) p) ∙ r .1))
 
 pub insert-stays : Stays 7 insert-kinds.ps insert-kinds.r insert.Post (λ κs. RefusedBy inserting.Refused) (λ κs a. (now (a .0), (now (a .1 .0), (now (a .1 .1 .0), (now (a .1 .1 .1 .0), (tt, (tt, (tt, (tt, tt)))))))))
@@ -64,7 +64,7 @@ insert-stays κs a z w p r = ap (λ (x : Dict). (x .objects, (x .slots, (x .word
 pub get-configured-cns-stays : Stays 5 get-configured-cns-kinds.ps get-configured-cns-kinds.r get-configured-cns.Post (λ κs. RefusedBy listing.Refused) (λ κs a. (tt, (tt, (tt, (tt, (now (a .1 .1 .1 .1 .0), tt))))))
 get-configured-cns-stays κs a z w p r = ap (λ (x : Given). (tt, (tt, (tt, (tt, (x .out, tt)))))) (p ∙ cns-refused _ _ (r .0) (sym (ap (λ (x : Given). x .answer) p) ∙ r .1))
 
-pub increment-counter-stays : Stays 4 increment-counter-kinds.ps increment-counter-kinds.r increment-counter.Post (λ κs. RefusedBy od.Refused) (λ κs a. (tt, (tt, (now (a .1 .1 .0), (tt, (tt, (tt, tt)))))))
+pub increment-counter-stays : Stays 4 increment-counter-kinds.ps increment-counter-kinds.r increment-counter.Post (λ κs. RefusedBy answered.Refused) (λ κs a. (tt, (tt, (now (a .1 .1 .0), (tt, (tt, (tt, tt)))))))
 increment-counter-stays κs a z w p r = ap (λ (x : Counted). (tt, (tt, (x .words, (tt, (tt, (tt, tt))))))) (p ∙ counter-refused _ _ _ (r .0) (sym (ap (λ (x : Counted). x .answer) p) ∙ r .1))
 
 pub write-stays : Stays 6 write-kinds.ps write-kinds.r write.Post (λ κs. RefusedBy wrote.Refused) (λ κs a. (tt, (tt, (now (a .1 .1 .0), (now (a .1 .1 .1 .0), (now (a .1 .1 .1 .1 .0), (tt, (tt, (tt, (tt, tt))))))))))
@@ -76,7 +76,7 @@ restore-stays κs a z w p r = ap (λ (x : restoring.After). (tt, (x .memory .slo
 pub consume-cycle-stays : Stays 7 consume-cycle-kinds.ps consume-cycle-kinds.r consume-cycle.Post (λ κs. RefusedBy cycles.Refused) (λ κs a. (tt, (tt, (now (a .1 .1 .0), (now (a .1 .1 .1 .0), (tt, (tt, (now (a .1 .1 .1 .1 .1 .1 .0), tt))))))))
 consume-cycle-stays κs a z w p r = ap (λ (x : cycle.After). (tt, (tt, (x .contents .words, (x .contents .bytes, (tt, (tt, (x .log, tt)))))))) (p ∙ cycle-refused _ _ _ _ (r .0) (sym (ap (λ (x : cycle.After). x .answer) p) ∙ r .1))
 
-pub update-pdo-error-object-stays : Stays 4 update-pdo-error-object-kinds.ps update-pdo-error-object-kinds.r update-pdo-error-object.Post (λ κs. RefusedBy od.Refused) (λ κs a. (tt, (tt, (tt, (now (a .1 .1 .1 .0), (tt, (tt, tt)))))))
+pub update-pdo-error-object-stays : Stays 4 update-pdo-error-object-kinds.ps update-pdo-error-object-kinds.r update-pdo-error-object.Post (λ κs. RefusedBy answered.Refused) (λ κs a. (tt, (tt, (tt, (now (a .1 .1 .1 .0), (tt, (tt, tt)))))))
 update-pdo-error-object-stays κs a z w p r = ap (λ (x : errors.After). (tt, (tt, (tt, (x .bytes, (tt, (tt, tt))))))) (p ∙ update-refused _ _ _ (r .0) (sym (ap (λ (x : errors.After). x .answer) p) ∙ r .1))
 
 pub check-all-stays : Stays 5 check-all-kinds.ps check-all-kinds.r check-all.Post (λ κs. RefusedBy checked.Refused) (λ κs a. (tt, (tt, (tt, (tt, (now (a .1 .1 .1 .1 .0), tt))))))
