@@ -4,22 +4,22 @@ use Prim.Native.Nat.{ℕ}
 use Rattle.answers.specs.declared.Refusal.{Refusal}
 use Rattle.answers.specs.declared.Refusal.the-variants.{Malformed, BadValue, ObjectNotFound, SubObjectNotFound, TypeMismatch, ReadOnly, BadSignature, NoStorage, CountNotWritable, MissingEntries, PdoMapOverrun, BufferTooShort, TooLong, PayloadTooLong, NoEventRoom, Occupied, Full, StoreFull}
 
-abbrev pub numberOf : Refusal → ℕ
-numberOf Malformed = 1
-numberOf BadValue = 2
-numberOf ObjectNotFound = 3
-numberOf SubObjectNotFound = 4
-numberOf TypeMismatch = 5
-numberOf ReadOnly = 6
-numberOf BadSignature = 7
-numberOf NoStorage = 8
-numberOf CountNotWritable = 9
-numberOf MissingEntries = 10
-numberOf PdoMapOverrun = 11
-numberOf BufferTooShort = 12
-numberOf TooLong = 13
-numberOf PayloadTooLong = 14
-numberOf NoEventRoom = 15
-numberOf Occupied = 16
-numberOf Full = 17
-numberOf StoreFull = 18
+abbrev pub refusalNumber : Refusal → ℕ
+refusalNumber Malformed = 1
+refusalNumber BadValue = 2
+refusalNumber ObjectNotFound = 3
+refusalNumber SubObjectNotFound = 4
+refusalNumber TypeMismatch = 5
+refusalNumber ReadOnly = 6
+refusalNumber BadSignature = 7
+refusalNumber NoStorage = 8
+refusalNumber CountNotWritable = 9
+refusalNumber MissingEntries = 10
+refusalNumber PdoMapOverrun = 11
+refusalNumber BufferTooShort = 12
+refusalNumber TooLong = 13
+refusalNumber PayloadTooLong = 14
+refusalNumber NoEventRoom = 15
+refusalNumber Occupied = 16
+refusalNumber Full = 17
+refusalNumber StoreFull = 18

@@ -1,6 +1,6 @@
 // The answers that calls share: done, and the refusals with their numbers.
 ghost use mathlib.Core.Path.{_≡_};
-ghost use Rattle.answers.specs.Numbers.{numberOf};
+ghost use Rattle.answers.specs.Numbers.{refusalNumber};
 
 pub enum Refusal {
     Malformed,
@@ -29,7 +29,7 @@ pub enum Answer {
 }
 
 pub fn number(r: Refusal) -> u64
-    ensures { λ n. ⌜ n ≡ numberOf r ⌝ }
+    ensures { λ n. ⌜ n ≡ refusalNumber r ⌝ }
 {
     match r {
         Refusal::Malformed => 1,

@@ -7,12 +7,12 @@ use lib.ListN.{length}
 use Rattle.answers.specs.declared.Answer.{Answer}
 use Rattle.answers.specs.declared.Answer.the-variants as answer
 use Rattle.lists.specs.Lists.{over}
-use Rattle.answers.specs.Numbers.{numberOf}
+use Rattle.answers.specs.Numbers.{refusalNumber}
 use Rattle.answers.specs.declared.Refusal.the-variants.{BufferTooShort}
 
 abbrev pub answerNumber : Answer → ℕ
 answerNumber answer.Done = 0
-answerNumber (answer.Refused r) = numberOf r
+answerNumber (answer.Refused r) = refusalNumber r
 
 -- an answer's number, and the one lent number after it
 pub record Told : Type 0 where
@@ -32,7 +32,7 @@ lent a ns = record { answer = a; numbers = ns }
 
 -- results that the lent numbers have room for go there from the first one on; else BufferTooShort
 abbrev pub results : List ℕ → List ℕ → Lent
-results rs ns = cond (ltb (length ns) (length rs)) (lent (numberOf BufferTooShort) ns) (lent 0 (over ns 0 rs))
+results rs ns = cond (ltb (length ns) (length rs)) (lent (refusalNumber BufferTooShort) ns) (lent 0 (over ns 0 rs))
 
 -- an answer's number, what was lent to be written into, and the lent count after it
 pub record Written : Type 0 where

@@ -1,7 +1,7 @@
 -- What the channel check answers for C: RULES.md R12.12, R12.13 and R12.15. Assumes nothing.
 use Prim.Native.Nat.{ℕ}
 use mathlib.Core.List.{List}
-use Rattle.answers.specs.Numbers.{numberOf}
+use Rattle.answers.specs.Numbers.{refusalNumber}
 use Rattle.channel.specs.declared.Checked.{Checked}
 use Rattle.channel.specs.declared.Checked.the-variants as checked
 use Rattle.channel.specs.declared.CheckedAll.{CheckedAll}
@@ -10,7 +10,7 @@ use Rattle.element.specs.declared.Explained.{Explained}
 use Rattle.element.specs.declared.Explained.the-variants as explained
 use Rattle.element.specs.Numbers.{explainedNumbers}
 use Rattle.channel.specs.Numbers.{answerNumber, elementOf}
-use Rattle.channel.specs.All.{After}
+use Rattle.channel.specs.All.{AfterCheckAll}
 use Rattle.c_answers.specs.Answers.{Told, told, Lent, lent, results, Written, wrote}
 
 -- R12.12: "The element goes into a lent number, which Malformed leaves."
@@ -28,9 +28,9 @@ checkedTold a m = told (answerNumber a) (checkedElement a m)
 -- the answer, the lent numbers, and how many were laid
 abbrev pub allNumbers : CheckedAll → List ℕ → ℕ → Written
 allNumbers (all.Done n) out m = wrote 0 out n
-allNumbers (all.Refused r) out m = wrote (numberOf r) out m
+allNumbers (all.Refused r) out m = wrote (refusalNumber r) out m
 
-unfoldable pub checkAllNumbers : After → ℕ → Written
+unfoldable pub checkAllNumbers : AfterCheckAll → ℕ → Written
 checkAllNumbers a m = allNumbers (a .answer) (a .out) m
 
 -- R12.15: "Done: eleven numbers .. fewer than 11 numbers: BufferTooShort (12)"
@@ -38,4 +38,4 @@ unfoldable pub explainNumbers : Explained → List ℕ → Lent
 explainNumbers (explained.Other t) ns = results (explainedNumbers (explained.Other t)) ns
 explainNumbers (explained.Misaligned x sub offset len t) ns = results (explainedNumbers (explained.Misaligned x sub offset len t)) ns
 explainNumbers (explained.Field x sub start n t) ns = results (explainedNumbers (explained.Field x sub start n t)) ns
-explainNumbers (explained.Refused r) ns = lent (numberOf r) ns
+explainNumbers (explained.Refused r) ns = lent (refusalNumber r) ns

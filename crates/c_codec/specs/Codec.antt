@@ -1,7 +1,7 @@
 -- What the calls for C answer of values and mapping words, and what they leave in what was lent. RULES.md 13. Assumes nothing.
 use Prim.Native.Nat.{ℕ}
 use mathlib.Core.List.{List, [], _∷_}
-use Rattle.answers.specs.Numbers.{numberOf}
+use Rattle.answers.specs.Numbers.{refusalNumber}
 use Rattle.answers.specs.declared.Refusal.the-variants.{BadValue}
 use Rattle.value.specs.declared.ObjectValue.{ObjectValue}
 use Rattle.value.specs.declared.Decoded.{Decoded}
@@ -16,20 +16,20 @@ use Rattle.mapping.specs.declared.PdoMappingEntry.{PdoMappingEntry}
 use Rattle.mapping.specs.Word.{entryOf, alignedOf, endOf}
 use Rattle.c_answers.specs.Answers.{Lent, lent, results, Written, wrote}
 
-unfoldable pub given : ObjectValue → List ℕ → Lent
-given v ns = results (wordOf v ∷ fieldsOf v) ns
+unfoldable pub valueNumbers : ObjectValue → List ℕ → Lent
+valueNumbers v ns = results (wordOf v ∷ fieldsOf v) ns
 
 abbrev pub decodedNumbers : Decoded → List ℕ → Lent
-decodedNumbers (Value v) ns = given v ns
-decodedNumbers (Fails f) ns = lent (numberOf (refusalOf f)) ns
-decodedNumbers NoType ns = lent (numberOf BadValue) ns
+decodedNumbers (Value v) ns = valueNumbers v ns
+decodedNumbers (Fails f) ns = lent (refusalNumber (refusalOf f)) ns
+decodedNumbers NoType ns = lent (refusalNumber BadValue) ns
 
 unfoldable pub decodeNumbers : ℕ → List ℕ → List ℕ → Lent
 decodeNumbers t s ns = decodedNumbers (decodeOf t s) ns
 
 abbrev pub encodedNumbers : Encoded → List ℕ → ℕ → Written
 encodedNumbers (Wrote n) out m = wrote 0 out n
-encodedNumbers (Refused r) out m = wrote (numberOf r) out m
+encodedNumbers (Refused r) out m = wrote (refusalNumber r) out m
 
 unfoldable pub encodeNumbers : ℕ → ℕ → List ℕ → List ℕ → ℕ → Written
 encodeNumbers t w part out m = let a = encodeOf t w part out in encodedNumbers (a .answer) (a .out) m
@@ -39,9 +39,9 @@ abbrev pub wholeOf : Aligned → ℕ
 wholeOf (Bytes n) = 1
 wholeOf Misaligned = 0
 
-abbrev pub countOf : Aligned → ℕ
-countOf (Bytes n) = n
-countOf Misaligned = 0
+abbrev pub bytesIn : Aligned → ℕ
+bytesIn (Bytes n) = n
+bytesIn Misaligned = 0
 
 -- a mapping word's parts; its offset and its length in bytes; its end in bytes
 abbrev pub partsOf : PdoMappingEntry → List ℕ
@@ -51,9 +51,9 @@ partsOf e =
     ∷ e .«offset_bits»
     ∷ e .«length_bits»
     ∷ wholeOf (alignedOf (e .«offset_bits»))
-    ∷ countOf (alignedOf (e .«offset_bits»))
+    ∷ bytesIn (alignedOf (e .«offset_bits»))
     ∷ wholeOf (alignedOf (e .«length_bits»))
-    ∷ countOf (alignedOf (e .«length_bits»))
+    ∷ bytesIn (alignedOf (e .«length_bits»))
     ∷ endOf e
     ∷ []
 

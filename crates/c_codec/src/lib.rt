@@ -3,7 +3,7 @@
 ghost use mathlib.Core.Path.{_≡_};
 ghost use Rattle.mapping.specs.Word.{wordOf};
 ghost use Rattle.c_answers.specs.Answers.{lent, wrote, results};
-ghost use Rattle.c_codec.specs.Codec.{given, decodeNumbers, encodeNumbers, entryNumbers, wholeOf, countOf};
+ghost use Rattle.c_codec.specs.Codec.{valueNumbers, decodeNumbers, encodeNumbers, entryNumbers, wholeOf, bytesIn};
 use mapping::Aligned;
 use mapping::PdoMappingEntry;
 use value::Decoded;
@@ -12,7 +12,7 @@ use value::ObjectValue;
 
 // A value's word and its parts.
 fn give(v: ObjectValue, numbers: &mut [u64]) -> u64
-    ensures { λ r. ⌜ lent r (now (numbers .exit)) ≡ given v (now (numbers .entry)) ⌝ }
+    ensures { λ r. ⌜ lent r (now (numbers .exit)) ≡ valueNumbers v (now (numbers .entry)) ⌝ }
 {
     if numbers.len() < 7 {
         return 12;
@@ -65,7 +65,7 @@ fn whole(a: Aligned) -> u64
 
 // The bytes, where they are whole, else 0.
 fn count(a: Aligned) -> u64
-    ensures { λ r. ⌜ r ≡ countOf a ⌝ }
+    ensures { λ r. ⌜ r ≡ bytesIn a ⌝ }
 {
     match a {
         Aligned::Bytes(n) => n as u64,

@@ -70,11 +70,15 @@ pub extern "C" fn loomfinch_read(
     ensures { λ r. ⌜ lent r (now (numbers .exit)) ≡ readNumbers (dict (now (objects .entry)) (now (slots .entry)) (now (words .entry)) (now (bytes .entry))) index «sub_index» (now (numbers .entry)) ⌝ }
 {
     match od::read(objects, slots, words, bytes, index, sub_index) {
-        Stored::Is { kind, word, start } => {
+        Stored::Is {
+            value_type,
+            word,
+            start,
+        } => {
             if numbers.len() < 3 {
                 return 12;
             }
-            let all = [kind, word, start];
+            let all = [value_type, word, start];
             lists::lay_words(numbers, 0, &all);
             0
         }

@@ -9,7 +9,7 @@ use Rattle.lists.proofs.ListLaws.{over-none, over-over}
 use Rattle.entry.specs.Table.{Dict}
 use Rattle.entry.specs.Find.{findRow}
 use Rattle.pdo_channel.specs.Channel.{commIndex}
-use Rattle.channel.specs.All.{onComm, linesFrom, laid, laidOn}
+use Rattle.channel.specs.All.{onComm, linesFrom, laidLines, laidOn}
 
 module _ (d : Dict) (n i : ℕ) where
   pub lines-end : n ≤ i → linesFrom d (n - i) i ≡ []
@@ -21,7 +21,7 @@ module _ (d : Dict) (n i : ℕ) where
   lines-step h = let z : n - i ≡ suc (n - (i + 1)) = omega arith in rw z
 
 module _ (out : List ℕ) (n : ℕ) where
-  pub laid-none : laidOn [] out n ≡ laid out n
+  pub laid-none : laidOn [] out n ≡ laidLines out n
   laid-none = let z : n + 0 ≡ n = omega arith in rw (over-none out n, z)
 
   pub laid-line : (a b c : ℕ) (rest : List ℕ) → n + 3 ≤ length out → laidOn (a ∷ b ∷ c ∷ rest) out n ≡ laidOn rest (over out n (a ∷ b ∷ c ∷ [])) (n + 3)

@@ -36,26 +36,26 @@ pub record Laid : Type 0 where
   pub out : List ℕ
   pub count : ℕ
 
-abbrev pub laid : List ℕ → ℕ → Laid
-laid out n = record { out = out; count = n }
+abbrev pub laidLines : List ℕ → ℕ → Laid
+laidLines out n = record { out = out; count = n }
 
 abbrev pub laidOn : List ℕ → List ℕ → ℕ → Laid
-laidOn ns out n = laid (over out n ns) (n + length ns)
+laidOn ns out n = laidLines (over out n ns) (n + length ns)
 
 -- an answer, and the lent numbers after it
-pub record After : Type 0 where
+pub record AfterCheckAll : Type 0 where
   pub answer : CheckedAll
   pub out : List ℕ
 
-abbrev pub after : CheckedAll → List ℕ → After
-after a out = record { answer = a; out = out }
+abbrev pub afterCheckAll : CheckedAll → List ℕ → AfterCheckAll
+afterCheckAll a out = record { answer = a; out = out }
 
-abbrev pub done : Laid → After
-done l = after (Done (l .count)) (l .out)
+abbrev pub done : Laid → AfterCheckAll
+done l = afterCheckAll (Done (l .count)) (l .out)
 
 -- R12.13: "Malformed (1); under 768 numbers: BufferTooShort (12)"
-unfoldable pub checkAllOf : Dict → List ℕ → After
+unfoldable pub checkAllOf : Dict → List ℕ → AfterCheckAll
 checkAllOf d out =
     cond (wellFormed d)
-    (cond (ltb (length out) 768) (after (Refused BufferTooShort) out) (done (laidOn (linesFrom d 256 0) out 0)))
-    (after (Refused Malformed) out)
+    (cond (ltb (length out) 768) (afterCheckAll (Refused BufferTooShort) out) (done (laidOn (linesFrom d 256 0) out 0)))
+    (afterCheckAll (Refused Malformed) out)

@@ -1,6 +1,6 @@
 -- The numbers of the check's answers: RULES.md R12.12. Assumes nothing.
 use Prim.Native.Nat.{ℕ}
-use Rattle.answers.specs.Numbers.{numberOf}
+use Rattle.answers.specs.Numbers.{refusalNumber}
 use Rattle.element.specs.Numbers.{faultNumber}
 use Rattle.channel.specs.declared.Checked.{Checked}
 use Rattle.channel.specs.declared.Checked.the-variants.{Pass, NoSender, NoList, Element, TooFar, Refused}
@@ -12,7 +12,7 @@ answerNumber NoSender = 31
 answerNumber NoList = 32
 answerNumber (Element k f) = faultNumber f
 answerNumber TooFar = 39
-answerNumber (Refused r) = numberOf r
+answerNumber (Refused r) = refusalNumber r
 
 -- the element that is named, or 0
 abbrev pub elementOf : Checked → ℕ

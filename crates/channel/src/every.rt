@@ -7,7 +7,7 @@ ghost use lib.ListN.{length};
 ghost use Rattle.lists.specs.Lists.{over};
 ghost use Rattle.entry.specs.Table.{dict};
 ghost use Rattle.entry.specs.Judge.{wellFormed};
-ghost use Rattle.channel.specs.All.{linesFrom, laid, laidOn, after, checkAllOf};
+ghost use Rattle.channel.specs.All.{linesFrom, laidLines, laidOn, afterCheckAll, checkAllOf};
 ghost use Rattle.channel.specs.Numbers.{answerNumber, elementOf};
 use crate::Checked;
 use crate::CheckedAll;
@@ -30,7 +30,7 @@ fn lay(out: &mut [u64], at: usize, channel: u64, a: Checked)
 fn check_each(objects: &[u64], slots: &[u64], words: &[u64], bytes: &[u8], out: &mut [u64]) -> usize
     requires { ⌜ wellFormed (dict (now objects) (now slots) (now words) (now bytes)) ≡ true ⌝ }
     requires { ⌜ 768 ≤ length (now out) ⌝ }
-    ensures { λ r. ⌜ laid (now (out .exit)) r ≡ laidOn (linesFrom (dict (now (objects .entry)) (now (slots .entry)) (now (words .entry)) (now (bytes .entry))) 256 0) (now (out .entry)) 0 ⌝ }
+    ensures { λ r. ⌜ laidLines (now (out .exit)) r ≡ laidOn (linesFrom (dict (now (objects .entry)) (now (slots .entry)) (now (words .entry)) (now (bytes .entry))) 256 0) (now (out .entry)) 0 ⌝ }
 {
     let mut n = 0;
     let mut i = 0usize;
@@ -56,7 +56,7 @@ pub fn check_all_judged(
     out: &mut [u64],
 ) -> CheckedAll
     requires { ⌜ wellFormed (dict (now objects) (now slots) (now words) (now bytes)) ≡ true ⌝ }
-    ensures { λ r. ⌜ after r (now (out .exit)) ≡ checkAllOf (dict (now (objects .entry)) (now (slots .entry)) (now (words .entry)) (now (bytes .entry))) (now (out .entry)) ⌝ }
+    ensures { λ r. ⌜ afterCheckAll r (now (out .exit)) ≡ checkAllOf (dict (now (objects .entry)) (now (slots .entry)) (now (words .entry)) (now (bytes .entry))) (now (out .entry)) ⌝ }
 {
     if out.len() < 768 {
         return CheckedAll::Refused(Refusal::BufferTooShort);
@@ -72,7 +72,7 @@ pub fn check_all(
     bytes: &[u8],
     out: &mut [u64],
 ) -> CheckedAll
-    ensures { λ r. ⌜ after r (now (out .exit)) ≡ checkAllOf (dict (now (objects .entry)) (now (slots .entry)) (now (words .entry)) (now (bytes .entry))) (now (out .entry)) ⌝ }
+    ensures { λ r. ⌜ afterCheckAll r (now (out .exit)) ≡ checkAllOf (dict (now (objects .entry)) (now (slots .entry)) (now (words .entry)) (now (bytes .entry))) (now (out .entry)) ⌝ }
 {
     if !judge::well_formed(objects, slots, words, bytes) {
         return CheckedAll::Refused(Refusal::Malformed);

@@ -13,7 +13,7 @@ use Rattle.lists.specs.Lists.{over}
 use Rattle.entry.specs.Table.{Dict}
 use Rattle.entry.proofs.WalkLaws.{and-false}
 use Rattle.image.specs.Image.{Rec, bodies, imageOf, newTable}
-use Rattle.commands.specs.Save.{fits, after, saveOf}
+use Rattle.commands.specs.Save.{fits, afterSave, saveOf}
 use Rattle.commands.specs.declared.Saved.the-variants.{Done, Refused}
 use Rattle.commands.proofs.ImageLaws.{length-image}
 
@@ -40,10 +40,10 @@ module _ (rs : List Rec) (store : List ℕ) where
 
 module _ (d : Dict) (l : ℕ) (store : List ℕ) where
   -- R10.3: "StoreFull (18), judged before the first byte"
-  pub save-full : fits (newTable d l store) store ≡ false → saveOf d store l ≡ after (Refused StoreFull) store
+  pub save-full : fits (newTable d l store) store ≡ false → saveOf d store l ≡ afterSave (Refused StoreFull) store
   unfolding saveOf
   save-full e = rw e
 
-  pub save-done : fits (newTable d l store) store ≡ true → saveOf d store l ≡ after Done (over store 0 (imageOf (newTable d l store)))
+  pub save-done : fits (newTable d l store) store ≡ true → saveOf d store l ≡ afterSave Done (over store 0 (imageOf (newTable d l store)))
   unfolding saveOf
   save-done e = rw e

@@ -10,7 +10,7 @@ use Rattle.lists.specs.Numbers.{number, bytesOf}
 use Rattle.value.specs.Codec.{sizeOf, encoding, exact}
 use Rattle.entry.specs.Table.{Dict, dict}
 use Rattle.image.specs.Image.{inList, offers, subIn, recsIn, offeredFrom, heads, bodies, imageOf, offered}
-use Rattle.commands.specs.Save.{fits, after, saveOf}
+use Rattle.commands.specs.Save.{fits, afterSave, saveOf}
 use Rattle.image.specs.Readable.{placed, headsOk, recsAt, readable, tableOf}
 use Rattle.commands.specs.declared.Saved.the-variants.{Done, Refused}
 
@@ -22,21 +22,21 @@ abbrev pub image : List ℕ
 image = 1 ∷ 0 ∷ 0x00 ∷ 0x60 ∷ 0 ∷ 6 ∷ 0 ∷ 0 ∷ 2 ∷ 0 ∷ 0x34 ∷ 0x12 ∷ []
 
 -- the byte behind the image stays
-pub stored : saveOf d (9 ∷ 9 ∷ 9 ∷ 9 ∷ 9 ∷ 9 ∷ 9 ∷ 9 ∷ 9 ∷ 9 ∷ 9 ∷ 9 ∷ 9 ∷ []) 3 ≡ after Done (1 ∷ 0 ∷ 0x00 ∷ 0x60 ∷ 0 ∷ 6 ∷ 0 ∷ 0 ∷ 2 ∷ 0 ∷ 0x34 ∷ 0x12 ∷ 9 ∷ [])
+pub stored : saveOf d (9 ∷ 9 ∷ 9 ∷ 9 ∷ 9 ∷ 9 ∷ 9 ∷ 9 ∷ 9 ∷ 9 ∷ 9 ∷ 9 ∷ 9 ∷ []) 3 ≡ afterSave Done (1 ∷ 0 ∷ 0x00 ∷ 0x60 ∷ 0 ∷ 6 ∷ 0 ∷ 0 ∷ 2 ∷ 0 ∷ 0x34 ∷ 0x12 ∷ 9 ∷ [])
 unfolding saveOf fits imageOf heads bodies offeredFrom recsIn offers inList subIn over bytesOf encoding sizeOf
 stored = refl
 
 -- a byte less
-pub full : saveOf d (9 ∷ 9 ∷ 9 ∷ 9 ∷ 9 ∷ 9 ∷ 9 ∷ 9 ∷ 9 ∷ 9 ∷ 9 ∷ []) 1 ≡ after (Refused StoreFull) (9 ∷ 9 ∷ 9 ∷ 9 ∷ 9 ∷ 9 ∷ 9 ∷ 9 ∷ 9 ∷ 9 ∷ 9 ∷ [])
+pub full : saveOf d (9 ∷ 9 ∷ 9 ∷ 9 ∷ 9 ∷ 9 ∷ 9 ∷ 9 ∷ 9 ∷ 9 ∷ 9 ∷ []) 1 ≡ afterSave (Refused StoreFull) (9 ∷ 9 ∷ 9 ∷ 9 ∷ 9 ∷ 9 ∷ 9 ∷ 9 ∷ 9 ∷ 9 ∷ 9 ∷ [])
 unfolding saveOf fits imageOf heads bodies offeredFrom recsIn offers inList subIn over bytesOf encoding sizeOf
 full = refl
 
 -- list 2 has none of it, and list 4 nothing: an empty table
-pub outside : saveOf d (9 ∷ 9 ∷ 9 ∷ []) 2 ≡ after Done (0 ∷ 0 ∷ 9 ∷ [])
+pub outside : saveOf d (9 ∷ 9 ∷ 9 ∷ []) 2 ≡ afterSave Done (0 ∷ 0 ∷ 9 ∷ [])
 unfolding saveOf fits imageOf heads bodies offeredFrom recsIn offers inList subIn over bytesOf encoding sizeOf
 outside = refl
 
-pub nothing : saveOf d (9 ∷ 9 ∷ 9 ∷ []) 4 ≡ after Done (0 ∷ 0 ∷ 9 ∷ [])
+pub nothing : saveOf d (9 ∷ 9 ∷ 9 ∷ []) 4 ≡ afterSave Done (0 ∷ 0 ∷ 9 ∷ [])
 unfolding saveOf fits imageOf heads bodies offeredFrom recsIn offers inList subIn over bytesOf encoding sizeOf
 nothing = refl
 

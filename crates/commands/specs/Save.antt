@@ -19,18 +19,18 @@ unfoldable pub fits : List Rec → List ℕ → Bool
 fits rs store = leb (length rs) 2048 && (leb (length (bodies rs)) 16384 && leb (length (imageOf rs)) (length store))
 
 -- an answer, and the lent store after it
-pub record After : Type 0 where
+pub record AfterSave : Type 0 where
   pub answer : Saved
   pub store : List ℕ
 
-abbrev pub after : Saved → List ℕ → After
-after a store = record { answer = a; store = store }
+abbrev pub afterSave : Saved → List ℕ → AfterSave
+afterSave a store = record { answer = a; store = store }
 
 -- "Else the image lies at the store's start and the bytes behind it stay."
-unfoldable pub saveOf : Dict → List ℕ → ℕ → After
+unfoldable pub saveOf : Dict → List ℕ → ℕ → AfterSave
 saveOf d store l =
     let rs = newTable d l store in
-    cond (fits rs store) (after Done (over store 0 (imageOf rs))) (after (Refused StoreFull) store)
+    cond (fits rs store) (afterSave Done (over store 0 (imageOf rs))) (afterSave (Refused StoreFull) store)
 
 -- ---- what the code measures
 abbrev pub sizeIn : List Rec → Size

@@ -3,7 +3,7 @@ ghost use mathlib.Core.Path.{_≡_};
 ghost use mathlib.Core.Bool.{true};
 ghost use Rattle.entry.specs.Table.{dict};
 ghost use Rattle.entry.specs.Judge.{wellFormed};
-ghost use Rattle.commands.specs.Save.{after, saveOf};
+ghost use Rattle.commands.specs.Save.{afterSave, saveOf};
 use crate::Saved;
 use crate::laying::lay_bodies;
 use crate::laying::lay_heads;
@@ -20,7 +20,7 @@ pub fn save(
     store: &mut [u8],
 ) -> Saved
     requires { ⌜ wellFormed (dict (now objects) (now slots) (now words) (now bytes)) ≡ true ⌝ }
-    ensures { λ r. ⌜ after r (now (store .exit)) ≡ saveOf (dict (now (objects .entry)) (now (slots .entry)) (now (words .entry)) (now (bytes .entry))) (now (store .entry)) list ⌝ }
+    ensures { λ r. ⌜ afterSave r (now (store .exit)) ≡ saveOf (dict (now (objects .entry)) (now (slots .entry)) (now (words .entry)) (now (bytes .entry))) (now (store .entry)) list ⌝ }
 {
     let size = measure(objects, slots, words, bytes, list);
     let r = size.records;

@@ -35,12 +35,12 @@ counted words (At p) = set words p ((getD words p 0 + 1) % 2 ^ 32)
 counted words Nothing = words
 
 -- an answer, and the words after it
-pub record Counted : Type 0 where
+pub record AfterIncrement : Type 0 where
   pub answer : Answer
   pub words : List ℕ
 
-abbrev pub after : Answer → List ℕ → Counted
-after a ws = record { answer = a; words = ws }
+abbrev pub afterIncrement : Answer → List ℕ → AfterIncrement
+afterIncrement a ws = record { answer = a; words = ws }
 
-unfoldable pub counterOf : Dict → ℕ → ℕ → Counted
-counterOf d x sub = cond (wellFormed d) (after Done (counted (d .words) (counterAt d x sub))) (after (Refused Malformed) (d .words))
+unfoldable pub counterOf : Dict → ℕ → ℕ → AfterIncrement
+counterOf d x sub = cond (wellFormed d) (afterIncrement Done (counted (d .words) (counterAt d x sub))) (afterIncrement (Refused Malformed) (d .words))

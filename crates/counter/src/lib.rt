@@ -3,7 +3,7 @@ ghost use mathlib.Core.Path.{_≡_};
 ghost use mathlib.Core.Bool.{true};
 ghost use Rattle.entry.specs.Table.{dict};
 ghost use Rattle.entry.specs.Judge.{wellFormed};
-ghost use Rattle.counter.specs.Counter.{counterAt, after, counterOf};
+ghost use Rattle.counter.specs.Counter.{counterAt, afterIncrement, counterOf};
 use answers::Answer;
 use answers::Refusal;
 use entry::Found;
@@ -46,7 +46,7 @@ pub fn increment_counter_judged(
     sub: u8,
 ) -> Answer
     requires { ⌜ wellFormed (dict (now objects) (now slots) (now words) (now bytes)) ≡ true ⌝ }
-    ensures { λ r. ⌜ after r (now (words .exit)) ≡ counterOf (dict (now (objects .entry)) (now (slots .entry)) (now (words .entry)) (now (bytes .entry))) index sub ⌝ }
+    ensures { λ r. ⌜ afterIncrement r (now (words .exit)) ≡ counterOf (dict (now (objects .entry)) (now (slots .entry)) (now (words .entry)) (now (bytes .entry))) index sub ⌝ }
 {
     let Found::At(p) = counter_at(objects, slots, words, bytes, index, sub) else {
         return Answer::Done;
@@ -65,7 +65,7 @@ pub fn increment_counter(
     index: u16,
     sub: u8,
 ) -> Answer
-    ensures { λ r. ⌜ after r (now (words .exit)) ≡ counterOf (dict (now (objects .entry)) (now (slots .entry)) (now (words .entry)) (now (bytes .entry))) index sub ⌝ }
+    ensures { λ r. ⌜ afterIncrement r (now (words .exit)) ≡ counterOf (dict (now (objects .entry)) (now (slots .entry)) (now (words .entry)) (now (bytes .entry))) index sub ⌝ }
 {
     if !judge::well_formed(objects, slots, words, bytes) {
         return Answer::Refused(Refusal::Malformed);

@@ -20,7 +20,7 @@ use Rattle.given.specs.Given.{typeIn, roomIn, lengthIn, held, roomOf, given, co
 use Rattle.placing.specs.Place.{inserted}
 use Rattle.insertion.specs.declared.Inserted.{Inserted}
 use Rattle.insertion.specs.declared.Inserted.the-variants as inserting
-use Rattle.insertion.specs.Insert.{below, answerOf, after, memoryOf}
+use Rattle.insertion.specs.Insert.{below, answerOf, memoryAfter, memoryOf}
 use Rattle.writing.specs.declared.Judged.{Judged}
 use Rattle.writing.specs.declared.Judged.the-variants as judged
 use Rattle.writing.specs.Judging.{judgeOf}
@@ -116,13 +116,13 @@ insert-bytes h name vals encodings d bn be b = go (answerOf h name vals encoding
     laid : Bytes (allBytes (insertAt i o (modelOf d)))
     laid = all-bytes (insertAt i o (modelOf d)) (insert-each i o (modelOf d) object (objects-bytes d b (numberOf (d .objects)) 0))
 
-    go : (a : Inserted) → Bytes (after a (inserted i o d) d .bytes)
+    go : (a : Inserted) → Bytes (memoryAfter a (inserted i o d) d .bytes)
     go inserting.Done = bytes-over (d .bytes) 0 (allBytes (insertAt i o (modelOf d))) (omega arith) b laid
     go (inserting.Refused r) = b
 
 -- ---- a write
 pub write-bytes : (d : Dict) (store : List ℕ) (x sub t : ℕ) (s : List ℕ) → wellFormed d ≡ true → Bytes s → Bytes (d .bytes) → Bytes (writeOf d store x sub t s .bytes)
-unfolding writeOf writing.actOf
+unfolding writeOf writing.writeActOf
 write-bytes d store x sub t s w bs b = rw w (go (judgeOf d (length store) x sub t s) refl)
   where
     put : (p : ℕ) → judgeOf d (length store) x sub t s ≡ judged.Put p → (y : Bool) → isText (typeAt (d .slots) p) ≡ y → Bytes (putIn (d .slots) (contents (d .words) (d .bytes)) p s .bytes)
@@ -131,9 +131,9 @@ write-bytes d store x sub t s w bs b = rw w (go (judgeOf d (length store) x sub 
         rw (ap (λ (c : Contents). c .bytes) (put-text (d .slots) (contents (d .words) (d .bytes)) p s y)) (bytes-over (d .bytes) (startAt (d .slots) p) s (omega (arith, f .within, f .bytes)) b bs i)
     put p q false y i = rw (ap (λ (c : Contents). c .bytes) (put-fixed (d .slots) (contents (d .words) (d .bytes)) p s y)) (b i)
 
-    go : (j : Judged) → judgeOf d (length store) x sub t s ≡ j → Bytes (writing.actOf d store sub s j .bytes)
+    go : (j : Judged) → judgeOf d (length store) x sub t s ≡ j → Bytes (writing.writeActOf d store sub s j .bytes)
     go (judged.Put p) q = put p q (isText (typeAt (d .slots) p)) refl
-    go judged.Kept q = b
+    go judged.Accepted q = b
     go judged.Save q = b
     go judged.Restore q = b
     go (judged.Refused r) q = b
@@ -149,7 +149,7 @@ consume-bytes d payload sender version ready room log w bp b = rw w (go (ltb roo
     c : Contents
     c = contents (d .words) (d .bytes)
 
-    go : (x y : Bool) → Bytes (cond x (consume.after (consumed.Refused NoEventRoom) c log) (cond y (consume.after (consumed.Refused PayloadTooLong) c log) (consume.done (finished (receivedBy f c version ready) log 0))) .contents .bytes)
+    go : (x y : Bool) → Bytes (cond x (consume.afterConsume (consumed.Refused NoEventRoom) c log) (cond y (consume.afterConsume (consumed.Refused PayloadTooLong) c log) (consume.done (finished (receivedBy f c version ready) log 0))) .contents .bytes)
     go true y = b
     go false true = b
     go false false = received-sane f bp c version ready (record { well = w; bytes = b }) .bytes
@@ -169,7 +169,7 @@ cycle-bytes d delivered ps log w bd b = rw w (go (areShaped ps && arePlaced (len
         let x = cycleFrom v (payloadsIn ps) 0 c (length log) in
         subst (λ (y : Contents). Bytes (y .bytes)) (sym (from-turns v (payloadsIn ps) 0 c (length log) .leaves)) (turns-sane v bd 0 (x .consumed) c (record { well = w; bytes = b }) .bytes)
 
-    go : (x y : Bool) → Bytes (cond x (cond y (cycle.done (ended (cycleFrom v (payloadsIn ps) 0 c (length log)) log 0 0)) (cycle.after (cycles.Refused PayloadTooLong) c log)) (cycle.after (cycles.Refused BadValue) c log) .contents .bytes)
+    go : (x y : Bool) → Bytes (cond x (cond y (cycle.done (ended (cycleFrom v (payloadsIn ps) 0 c (length log)) log 0 0)) (cycle.afterCycle (cycles.Refused PayloadTooLong) c log)) (cycle.afterCycle (cycles.Refused BadValue) c log) .contents .bytes)
     go true true = consumed-bytes
     go true false = b
     go false y = b

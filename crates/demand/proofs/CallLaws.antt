@@ -25,7 +25,7 @@ use Rattle.insertion.specs.declared.Inserted.{Inserted}
 use Rattle.insertion.specs.declared.Inserted.the-variants.{Done, Refused}
 use Rattle.given.specs.Given.{objIn}
 use Rattle.placing.specs.Place.{inserted}
-use Rattle.insertion.specs.Insert.{below, taken, answerOf, after, memoryOf}
+use Rattle.insertion.specs.Insert.{below, taken, answerOf, memoryAfter, memoryOf}
 use Rattle.insertion.proofs.AnswerLaws.{done-by, stays, others-stay}
 use Rattle.demand.specs.Lasting.{SameRow, Shaped}
 
@@ -95,7 +95,7 @@ module _ (h : Head) (name vals encodings : List ℕ) (d : Dict) where
   object-stays : (x : ℕ) (o : Obj) → objectOf x (modelOf d) ≡ some o → objectOf x (modelOf (memoryOf h name vals encodings d)) ≡ some o
   object-stays x o e = go (eqb (h .index) x) refl
     where
-      again : h .index ≡ x → (a : Inserted) → answerOf h name vals encodings d ≡ a → objectOf x (modelOf (after a (inserted (below (h .index) (modelOf d)) (objIn h name vals encodings) d) d)) ≡ some o
+      again : h .index ≡ x → (a : Inserted) → answerOf h name vals encodings d ≡ a → objectOf x (modelOf (memoryAfter a (inserted (below (h .index) (modelOf d)) (objIn h name vals encodings) d) d)) ≡ some o
       again q Done a =
           let free = done-by h name vals encodings d a .free in
           let t : taken (h .index) (modelOf d) ≡ true = rw q (taken-there x (modelOf d) o e) in

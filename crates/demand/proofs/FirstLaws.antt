@@ -10,7 +10,7 @@ use lib.ListN.{length, take, drop, getD}
 use Rattle.lists.specs.Numbers.{Bytes}
 use Rattle.entry.specs.Table.{Dict, typeAt}
 use Rattle.entry.specs.Put.{Contents, contents}
-use Rattle.pdo_run.specs.Run.{eventOf, stopsOf, Frame, frame, decided, actOf, Ran, one, runFrom}
+use Rattle.pdo_run.specs.Run.{outcomeEvent, stopsOf, Frame, frame, decided, actOf, Ran, one, runFrom}
 use Rattle.pdo_run.proofs.RunLaws.{run-stops, run-on}
 use Rattle.pdo_handler.specs.Consume.{consumedBy, receivedBy}
 use Rattle.pdo_handler.proofs.ConsumeLaws.{Sane, act-sane}
@@ -96,7 +96,7 @@ module _ (d : Dict) (i k : ℕ) (v : Fault) (n : Never d i k v) (b : Bytes (d .b
       c′ = putAll f (take place ws) c
 
       go : (x : Bool) → stopsOf (decided f (elementWord d r place)) ≡ x → Told f (receivedBy f c version ready) k (elementWord d r place)
-      go true s = record { rest = []; events = ap (λ (x : Ran). x .events) (named-first .then ∙ run-stops f p ws place c′ (n .fault .below) t (decided f w) refl s) ∙ ap (λ x. one (eventOf m x (decided f w))) (sym (n .element)) ∙ sym (append-nil (one (eventOf m k (decided f w)))) }
+      go true s = record { rest = []; events = ap (λ (x : Ran). x .events) (named-first .then ∙ run-stops f p ws place c′ (n .fault .below) t (decided f w) refl s) ∙ ap (λ x. one (outcomeEvent m x (decided f w))) (sym (n .element)) ∙ sym (append-nil (one (outcomeEvent m k (decided f w)))) }
       go false s =
           let rest = runFrom f p (drop (place + 1) ws) (place + 1) (actOf f c′ (decided f w)) .events in
-          record { rest = rest; events = ap (λ (x : Ran). x .events) (named-first .then ∙ run-on f p ws place c′ (n .fault .below) t (decided f w) refl s) ∙ ap (λ x. one (eventOf m x (decided f w)) ++ rest) (sym (n .element)) }
+          record { rest = rest; events = ap (λ (x : Ran). x .events) (named-first .then ∙ run-on f p ws place c′ (n .fault .below) t (decided f w) refl s) ∙ ap (λ x. one (outcomeEvent m x (decided f w)) ++ rest) (sym (n .element)) }

@@ -16,7 +16,7 @@ use Rattle.counter.proofs.CounterLaws.{counter-keeps}
 use Rattle.writing.proofs.PutLaws.{write-keeps}
 use Rattle.fitting.specs.Fit.{rowsFit}
 use Rattle.restoring.specs.declared.Restored.the-variants.{Done, Refused}
-use Rattle.restoring.specs.Restore.{rowsRestored, after, restoreOf}
+use Rattle.restoring.specs.Restore.{rowsRestored, afterRestore, restoreOf}
 use Rattle.restoring.proofs.RestoreLaws.{restore-keeps}
 use Rattle.pdo_step.proofs.MarkLaws.{mark-keeps, mark-bytes}
 use Rattle.pdo_run.specs.Run.{frame, listIn}
@@ -54,7 +54,7 @@ refused-stays d s first last n = go (wellFormed d) (rowsFit d s first last (numb
     e : Dict
     e = rowsRestored d s first last (numberOf (d .objects)) 0
 
-    go : (x y : Bool) → (cond x (cond y (after Done e) (after (Refused TooLong) d)) (after (Refused Malformed) d) .answer ≡ Done → ⊥) → cond x (cond y (after Done e) (after (Refused TooLong) d)) (after (Refused Malformed) d) .memory ≡ d
+    go : (x y : Bool) → (cond x (cond y (afterRestore Done e) (afterRestore (Refused TooLong) d)) (afterRestore (Refused Malformed) d) .answer ≡ Done → ⊥) → cond x (cond y (afterRestore Done e) (afterRestore (Refused TooLong) d)) (afterRestore (Refused Malformed) d) .memory ≡ d
     go true true n = absurd (n refl)
     go true false n = refl
     go false y n = refl

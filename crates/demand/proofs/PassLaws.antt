@@ -23,7 +23,7 @@ use Rattle.entry.proofs.PutLaws.{put-text, put-fixed}
 use Rattle.pdo_step.specs.declared.Outcome.the-variants as outcome
 use Rattle.pdo_step.specs.Outcomes.{part}
 use Rattle.pdo_step.specs.Steps.{applied}
-use Rattle.pdo_run.specs.Run.{Frame, held, decided, eventOf, stopsOf, actOf, ran, runFrom}
+use Rattle.pdo_run.specs.Run.{Frame, held, decided, outcomeEvent, stopsOf, actOf, ran, runFrom}
 use Rattle.pdo_handler.proofs.ConsumeLaws.{Sane, act-sane}
 use Rattle.element.specs.declared.Fault.the-variants as fault
 use Rattle.element.specs.declared.Verdict.the-variants.{Clean, Faulty}
@@ -70,7 +70,7 @@ module _ (f : Frame) (b : Bytes (f .payload)) where
     pub whole : Whole f c w
     pub acts : actOf f c (decided f w) ≡ putWord f c w
     pub stays : stopsOf (decided f w) ≡ false
-    pub silent : (i k : ℕ) → eventOf i k (decided f w) ≡ 0
+    pub silent : (i k : ℕ) → outcomeEvent i k (decided f w) ≡ 0
 
   pub clean-step : (c : Contents) (w : ℕ) → Sane f c → wordVerdict (f .objects) (f .slots) w ≡ Clean → endOf (entryOf w) ≤ length (f .payload) → TextAt (f .objects) (f .slots) (f .payload) w → Steps c w
   unfolding actOf applied

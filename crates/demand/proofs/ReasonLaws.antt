@@ -15,8 +15,8 @@ use Rattle.text.specs.declared.Text.{Text as Judged}
 use Rattle.text.specs.declared.Text.the-variants.{Good, Bad}
 use Rattle.text.specs.Machine.{judge}
 use Rattle.value.specs.Codec.{isText, sizeOf, textIs, textWord, wordAt}
-use Rattle.value.specs.declared.Fault.{Fault as Cause}
-use Rattle.value.specs.declared.Fault.the-variants as cause
+use Rattle.value.specs.declared.CodecFault.{CodecFault as Cause}
+use Rattle.value.specs.declared.CodecFault.the-variants as cause
 use Rattle.value.specs.declared.Word.{Word}
 use Rattle.value.specs.declared.Word.the-variants.{Takes, Fails}
 use Rattle.mapping.specs.Word.{entryOf, fieldOf, endOf}

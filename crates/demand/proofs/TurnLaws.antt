@@ -19,7 +19,7 @@ use Rattle.entry.specs.declared.Found.the-variants.{At}
 use Rattle.pdo_run.specs.Run.{Ran, listIn}
 use Rattle.pdo_cycle.specs.declared.Cycle.the-variants.{Done, Refused}
 use Rattle.pdo_cycle.specs.Payloads.{startOf, lengthOf, senderOf, versionOf, readyOf, payloadOf, payloadsIn, areShaped, arePlaced, areShort}
-use Rattle.pdo_cycle.specs.Cycle.{Delivery, receivedAt, cycled, cycleFrom, ended, After, after, done, cycleOf}
+use Rattle.pdo_cycle.specs.Cycle.{Delivery, receivedAt, cycled, cycleFrom, ended, AfterCycle, afterCycle, done, cycleOf}
 use Rattle.channel.specs.declared.Checked.the-variants.{Pass}
 use Rattle.channel.specs.Check.{checkOf}
 use Rattle.demand.specs.Demand.{Admitted, Written}
@@ -40,11 +40,11 @@ cycle-done d delivered ps log n m e = go (wellFormed d) (areShaped ps && arePlac
     c : Contents
     c = contents (d .words) (d .bytes)
 
-    whole : After
+    whole : AfterCycle
     whole = done (ended (cycleFrom (deliveryOf d delivered ps) (payloadsIn ps) 0 c (length log)) log 0 0)
 
-    go : (x y z : Bool) → cond x (cond y (cond z whole (after (Refused PayloadTooLong) c log)) (after (Refused BadValue) c log)) (after (Refused Malformed) c log) .answer ≡ Done n m
-        → cond x (cond y (cond z whole (after (Refused PayloadTooLong) c log)) (after (Refused BadValue) c log)) (after (Refused Malformed) c log) ≡ whole
+    go : (x y z : Bool) → cond x (cond y (cond z whole (afterCycle (Refused PayloadTooLong) c log)) (afterCycle (Refused BadValue) c log)) (afterCycle (Refused Malformed) c log) .answer ≡ Done n m
+        → cond x (cond y (cond z whole (afterCycle (Refused PayloadTooLong) c log)) (afterCycle (Refused BadValue) c log)) (afterCycle (Refused Malformed) c log) ≡ whole
     go true true true e = refl
     go true true false e = let z : _≡_ {A = ℕ} 0 1 = cc in absurd (omega arith)
     go true false z e = let z : _≡_ {A = ℕ} 0 1 = cc in absurd (omega arith)
@@ -57,14 +57,14 @@ turns d delivered ps log n m e =
     let c = contents (d .words) (d .bytes) in
     let x = cycleFrom v (payloadsIn ps) 0 c (length log) in
     let f = from-turns v (payloadsIn ps) 0 c (length log) in
-    let a : Done (0 + x .consumed) (0 + length (x .events)) ≡ Done n m = sym (ap (λ (y : After). y .answer) q) ∙ e in
+    let a : Done (0 + x .consumed) (0 + length (x .events)) ≡ Done n m = sym (ap (λ (y : AfterCycle). y .answer) q) ∙ e in
     let an : 0 + x .consumed ≡ n = cc in
     let am : 0 + length (x .events) ≡ m = cc in
     let same : x .consumed ≡ n = omega (arith, an) in
     record {
       few = omega (arith, same, f .few);
-      leaves = ap (λ (y : After). y .contents) q ∙ f .leaves ∙ rw same;
-      logged = ap (λ (y : After). y .log) q ∙ rw (f .events, same);
+      leaves = ap (λ (y : AfterCycle). y .contents) q ∙ f .leaves ∙ rw same;
+      logged = ap (λ (y : AfterCycle). y .log) q ∙ rw (f .events, same);
       count = let k : length (x .events) ≡ m = omega (arith, am) in sym k ∙ rw (f .events, same);
     }
 
@@ -116,7 +116,7 @@ from-silent v (suc n) i c room h e =
 
 pub cycle-silent : (d : Dict) (delivered ps log : List ℕ) → wellFormed d ≡ true → areShaped ps ≡ true → arePlaced (length delivered) ps ≡ true → areShort ps ≡ true → 254 ≤ length log
     → ((k : ℕ) → k < payloadsIn ps → receivedAt (deliveryOf d delivered ps) (contentsFrom (deliveryOf d delivered ps) 0 k (contents (d .words) (d .bytes))) k .events ≡ [])
-    → cycleOf d delivered ps log ≡ after (Done (payloadsIn ps) 0) (contentsFrom (deliveryOf d delivered ps) 0 (payloadsIn ps) (contents (d .words) (d .bytes))) log
+    → cycleOf d delivered ps log ≡ afterCycle (Done (payloadsIn ps) 0) (contentsFrom (deliveryOf d delivered ps) 0 (payloadsIn ps) (contents (d .words) (d .bytes))) log
 unfolding cycleOf
 cycle-silent d delivered ps log w s p t h e =
     let v = deliveryOf d delivered ps in

@@ -12,7 +12,7 @@ use Rattle.text.specs.Machine.{judge}
 use Rattle.value.specs.Codec.{isText, sizeOf, textIs, textWord, wordAt}
 use Rattle.value.specs.declared.Word.{Word}
 use Rattle.value.specs.declared.Word.the-variants.{Takes, Fails}
-use Rattle.value.specs.declared.Fault.the-variants as cause
+use Rattle.value.specs.declared.CodecFault.the-variants as cause
 use Rattle.value.proofs.CodecLaws.{encoding-fixed}
 use Rattle.mapping.specs.Word.{entryOf, fieldOf}
 use Rattle.mapping.specs.declared.Field.the-variants as field

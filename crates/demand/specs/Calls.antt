@@ -17,7 +17,7 @@ use Rattle.events.specs.declared.EventRecord.{EventRecord}
 use Rattle.events.specs.Receive.{received, receivedOf}
 use Rattle.pdo_cycle.specs.declared.Cycle.the-variants as cycles
 use Rattle.pdo_cycle.specs.Payloads.{senderOf, versionOf, readyOf, payloadOf, payloadsIn}
-use Rattle.pdo_cycle.specs.Cycle.{Delivery, delivery, receivedAt, after, cycleOf}
+use Rattle.pdo_cycle.specs.Cycle.{Delivery, delivery, receivedAt, afterCycle, cycleOf}
 use Rattle.channel.specs.declared.Checked.the-variants.{Pass}
 use Rattle.channel.specs.Check.{checkOf}
 use Rattle.demand.specs.Demand.{Admitted, putAll, AllWhole}
@@ -78,6 +78,6 @@ pub record Expected (d d′ : Dict) (delivered ps : List ℕ) (k : ℕ) : Type 0
 
 -- a cycle of such payloads alone: every one is consumed, no event is told, and each is written whole in its turn
 pub record Cycles (d : Dict) (delivered ps log : List ℕ) : Type 0 where
-  pub is : cycleOf d delivered ps log ≡ after (cycles.Done (payloadsIn ps) 0) (contentsFrom (deliveryOf d delivered ps) 0 (payloadsIn ps) (contents (d .words) (d .bytes))) log
+  pub is : cycleOf d delivered ps log ≡ afterCycle (cycles.Done (payloadsIn ps) 0) (contentsFrom (deliveryOf d delivered ps) 0 (payloadsIn ps) (contents (d .words) (d .bytes))) log
   pub writes : (k : ℕ) → k < payloadsIn ps → (i r : ℕ) → findRow (d .objects) (0x1600 + i) ≡ At r → firstMatch (metBy d delivered ps k) (senderOf ps k) ≡ At i
       → TurnWrites d delivered ps k (firstAt (d .objects) r) (listIn (d .objects) (metBy d delivered ps k .words) r)

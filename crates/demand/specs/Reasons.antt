@@ -5,7 +5,7 @@ use mathlib.Core.Bool.{true, false}
 use Rattle.text.specs.declared.Text.the-variants.{Good}
 use Rattle.text.specs.Machine.{judge}
 use Rattle.value.specs.Codec.{isText, sizeOf}
-use Rattle.value.specs.declared.Fault.the-variants as cause
+use Rattle.value.specs.declared.CodecFault.the-variants as cause
 use Rattle.mapping.specs.Word.{entryOf, fieldOf}
 use Rattle.mapping.specs.declared.Field.the-variants as field
 use Rattle.entry.specs.Table.{typeAt, roomAt}

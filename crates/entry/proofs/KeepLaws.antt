@@ -15,7 +15,7 @@ use Rattle.lists.proofs.ListLaws.{length-over, over-over, over-same, over-behin
 use Rattle.lists.proofs.NumberLaws.{number-lt, bytes-take}
 use Rattle.value.specs.Codec.{isText, sizeOf, takes, textWord, wordAt}
 use Rattle.value.specs.declared.Word.the-variants.{Takes, Fails}
-use Rattle.value.specs.declared.Fault.the-variants.{Value}
+use Rattle.value.specs.declared.CodecFault.the-variants.{Value}
 use Rattle.value.proofs.CodecLaws.{text-taken}
 use Rattle.entry.specs.Table.{Dict, dict, numberOf, countAt, firstAt, typeAt, startAt, roomAt}
 use Rattle.entry.specs.Rules.{wordOk, valOk}

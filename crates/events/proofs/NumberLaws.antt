@@ -10,7 +10,7 @@ use Rattle.pdo_run.specs.Run.{packed}
 use Rattle.events.specs.declared.Event.{Event}
 use Rattle.events.specs.declared.EventRecord.{EventRecord}
 use Rattle.events.specs.declared.Recorded.the-variants.{Is, Nothing}
-use Rattle.events.specs.Record.{kindOf, HandOff, handOff, handed, numberOf, eventOf, recordOf, Small, recordedOf, isRecord}
+use Rattle.events.specs.Record.{kindOf, HandOff, handOff, handed, eventNumber, eventOf, recordOf, Small, recordedOf, isRecord}
 use Rattle.events.proofs.RecordLaws.{event-short, record-number}
 
 -- ---- what an event's parts say, by its kind
@@ -133,26 +133,26 @@ module _ (e : ℕ) where
   without : e ≡ kind + 16 * element + 4096 * bits + 18014398509481984 * payload
   without = omega arith
 
-  number-is : (x s n k : ℕ) → Said k event (handOff x s n) → numberOf (recordOf e) ≡ packed payload k element x s n
+  number-is : (x s n k : ℕ) → Said k event (handOff x s n) → eventNumber (recordOf e) ≡ packed payload k element x s n
   unfolding recordOf
   number-is x s n k d = rw (d .kind, d .off)
 
   -- ---- the test by the parts is that the number is its record's
-  pub is-record : isRecord e ≡ eqb (numberOf (recordOf e)) e
+  pub is-record : isRecord e ≡ eqb (eventNumber (recordOf e)) e
   unfolding recordOf
   is-record = go (offs kind) refl (eqb bits 0) refl (kinds kind) refl
     where
-      go : (a : Bool) → offs kind ≡ a → (b : Bool) → eqb bits 0 ≡ b → (c : Bool) → kinds kind ≡ c → (a || (b && c)) ≡ eqb (numberOf (recordOf e)) e
+      go : (a : Bool) → offs kind ≡ a → (b : Bool) → eqb bits 0 ≡ b → (c : Bool) → kinds kind ≡ c → (a || (b && c)) ≡ eqb (eventNumber (recordOf e)) e
       go true p b q c r = sym (eq-eqb _ e (number-is index start len kind (handed-off kind index start len p) ∙ whole))
       go false p true q true r = sym (eq-eqb _ e (number-is 0 0 0 kind (plain kind index start len p r) ∙ bare e payload kind element bits without (eqb-true bits 0 q)))
-      go false p false q true r = sym (ne-eqb _ e (more e payload kind element bits (numberOf (recordOf e)) without (eqb-false bits 0 q) (number-is 0 0 0 kind (plain kind index start len p r))))
+      go false p false q true r = sym (ne-eqb _ e (more e payload kind element bits (eventNumber (recordOf e)) without (eqb-false bits 0 q) (number-is 0 0 0 kind (plain kind index start len p r))))
       go false p b q false r =
           let z = no-kind kind index start len r in
           let x = element + 256 * (handed event .index + 65536 * (handed event .start + 8192 * (handed event .len + 8192 * payload))) in
-          let y : numberOf (recordOf e) ≡ 5 + 16 * x = rw (z .0) in
-          none b (sym (ne-eqb _ e (other-kind e kind x (numberOf (recordOf e)) refl (z .1) y)))
+          let y : eventNumber (recordOf e) ≡ 5 + 16 * x = rw (z .0) in
+          none b (sym (ne-eqb _ e (other-kind e kind x (eventNumber (recordOf e)) refl (z .1) y)))
         where
-          none : (b : Bool) → false ≡ eqb (numberOf (recordOf e)) e → (b && false) ≡ eqb (numberOf (recordOf e)) e
+          none : (b : Bool) → false ≡ eqb (eventNumber (recordOf e)) e → (b && false) ≡ eqb (eventNumber (recordOf e)) e
           none true h = h
           none false h = h
 
@@ -175,17 +175,17 @@ module _ (e : ℕ) where
       go false p false c r h = let z : _≡_ {A = ℕ} 0 1 = cc in absurd (omega arith)
 
 -- ---- the theorem, both ways
-pub recorded-number : (e : ℕ) (r : EventRecord) → recordedOf e ≡ Is r → (numberOf r ≡ e) × Small r
+pub recorded-number : (e : ℕ) (r : EventRecord) → recordedOf e ≡ Is r → (eventNumber r ≡ e) × Small r
 unfolding recordedOf
 recorded-number e r h = go (isRecord e) refl
   where
-    go : (b : Bool) → isRecord e ≡ b → (numberOf r ≡ e) × Small r
+    go : (b : Bool) → isRecord e ≡ b → (eventNumber r ≡ e) × Small r
     go true p =
         let i : Is (recordOf e) ≡ Is r = recorded-is e p ∙ h in
         let u : recordOf e ≡ r = cc in
         (rw (sym u) (eqb-true _ e (sym (is-record e) ∙ p)), rw u at (small e p))
     go false p = let n : Nothing ≡ Is r = recorded-none e p ∙ h in let z : _≡_ {A = ℕ} 0 1 = cc in absurd (omega arith)
 
-pub number-recorded : (r : EventRecord) → Small r → recordedOf (numberOf r) ≡ Is r
+pub number-recorded : (r : EventRecord) → Small r → recordedOf (eventNumber r) ≡ Is r
 unfolding recordedOf
-number-recorded r s = let n = record-number r s in rw (n, eq-eqb (numberOf r) (numberOf r) refl)
+number-recorded r s = let n = record-number r s in rw (n, eq-eqb (eventNumber r) (eventNumber r) refl)

@@ -7,7 +7,7 @@ use native.Mathlib.Omega.{arith}
 use lib.Dec.{eqb, ltb}
 use lib.ListN.{length}
 use Rattle.value.specs.Codec.{isText, wordAt}
-use Rattle.value.specs.declared.Fault.the-variants as fault
+use Rattle.value.specs.declared.CodecFault.the-variants as fault
 use Rattle.value.specs.declared.Word.{Word}
 use Rattle.value.specs.declared.Word.the-variants.{Takes, Fails}
 use Rattle.mapping.specs.Word.{entryOf, fieldOf}
@@ -25,7 +25,7 @@ use Rattle.pdo_step.specs.Outcomes.{part, onCount, onValue, outcomeOf}
 use Rattle.pdo_step.proofs.FormLaws.{onPlace, onIndex, onField, outcome-form}
 use Rattle.pdo_step.specs.declared.Outcome.the-variants as outcome
 use Rattle.pdo_step.proofs.OutcomeLaws.{reach-within}
-use Rattle.pdo_run.specs.Run.{one, eventOf}
+use Rattle.pdo_run.specs.Run.{one, outcomeEvent}
 use Rattle.events.specs.Record.{recordOf, reported, noted}
 use Rattle.events.proofs.RecordLaws.{target, outcome-noted}
 
@@ -73,5 +73,5 @@ module _ (objects slots payload : List ℕ) where
       fielded (field.Whole start n) = go start n (ltb (length payload) (start + n)) (between 0x1200 0x127F (e .index)) (between 0x1280 0x12FF (e .index))
 
   -- element k of payload number i, in a payload that is not too long
-  pub word-noted : (i k w : ℕ) → k < 256 → length payload ≤ 1490 → map recordOf (one (eventOf i k (outcomeOf objects slots payload w))) ≡ map (noted i k) (reported (outcomeOf objects slots payload w))
+  pub word-noted : (i k w : ℕ) → k < 256 → length payload ≤ 1490 → map recordOf (one (outcomeEvent i k (outcomeOf objects slots payload w))) ≡ map (noted i k) (reported (outcomeOf objects slots payload w))
   word-noted i k w h l = outcome-noted i k (outcomeOf objects slots payload w) h (target-small w) (omega (arith, reach-within objects slots payload w))

@@ -8,11 +8,11 @@ use native.Mathlib.Omega.{arith}
 use borrow.Author.Tests.{ne-eqb}
 use lib.ListN.{length, getD, set, take, drop, length-set, length-map}
 use lib.Seq.{take-suc, drop-cons, set-at, length-take-le}
-use Rattle.value.specs.declared.Fault.the-variants as fault
+use Rattle.value.specs.declared.CodecFault.the-variants as fault
 use Rattle.pdo_step.specs.declared.Outcome.{Outcome}
 use Rattle.pdo_step.specs.declared.Outcome.the-variants as outcome
 use Rattle.pdo_step.specs.Outcomes.{reach}
-use Rattle.pdo_run.specs.Run.{packed, one, eventOf as outcomeEvent}
+use Rattle.pdo_run.specs.Run.{packed, one, outcomeEvent as outcomeEvent}
 use Rattle.pdo_handler.specs.Consume.{mapVersion}
 use Rattle.pdo_handler.proofs.EventLaws.{map-append}
 use Rattle.pdo_run.proofs.RunLaws.{one-packed}
@@ -21,7 +21,7 @@ use Rattle.events.specs.declared.Unwritten.the-variants.{CountNotWritabl
 use Rattle.events.specs.declared.Event.{Event}
 use Rattle.events.specs.declared.Event.the-variants.{MapVersion, PayloadShort, Server, Client, WriteRefused}
 use Rattle.events.specs.declared.EventRecord.{EventRecord}
-use Rattle.events.specs.Record.{kindOf, handed, numberOf, causeOf, eventOf, recordOf, Small, recordsOf, reported, noted}
+use Rattle.events.specs.Record.{kindOf, handed, eventNumber, causeOf, eventOf, recordOf, Small, recordsOf, reported, noted}
 
 -- an event that is of none of the other kinds
 pub event-short : {kind : ℕ} (x start n : ℕ) → kind ≢ 1 → kind ≢ 6 → kind ≢ 7 → kind ≢ 8 → kind ≢ 9 → PayloadShort (causeOf kind) ≡ eventOf kind x start n
@@ -70,7 +70,7 @@ event-kind (Client x start n) = refl
 event-kind (WriteRefused CountNotWritable) = refl
 event-kind (WriteRefused TooLong) = refl
 
-pub record-number : (r : EventRecord) → Small r → recordOf (numberOf r) ≡ r
+pub record-number : (r : EventRecord) → Small r → recordOf (eventNumber r) ≡ r
 record-number r s =
     packed-record (r .payload) (kindOf (r .event)) (r .element) (handed (r .event) .index) (handed (r .event) .start) (handed (r .event) .len) (kind-small (r .event)) (s .element) (s .index) (s .start) (s .len)
     ∙ ap (noted (r .payload) (r .element)) (event-kind (r .event))

@@ -7,14 +7,14 @@ use Rattle.entry.specs.Table.{Dict}
 use Rattle.entry.specs.Put.{Contents}
 use Rattle.pdo_handler.specs.declared.Consumed.{Consumed}
 use Rattle.pdo_handler.specs.declared.Consumed.the-variants.{Done, Refused}
-use Rattle.pdo_handler.specs.Consume.{After, consumeOf}
+use Rattle.pdo_handler.specs.Consume.{AfterConsume, consumeOf}
 use Rattle.events.specs.declared.EventRecord.{EventRecord}
 use Rattle.events.specs.Record.{recordsOf}
 
 -- R11.1: "The answer is Done with the number of events"
-abbrev pub countOf : Consumed → ℕ
-countOf (Done n) = n
-countOf (Refused r) = 0
+abbrev pub eventCount : Consumed → ℕ
+eventCount (Done n) = n
+eventCount (Refused r) = 0
 
 -- an answer, and what was lent after it
 pub record Received : Type 0 where
@@ -26,8 +26,8 @@ abbrev pub received : Consumed → Contents → List EventRecord → Received
 received a c es = record { answer = a; contents = c; events = es }
 
 -- R11.9: "Events lie in order from the first record on; records behind the last stay."
-abbrev pub listed : After → List EventRecord → Received
-listed a es = received (a .answer) (a .contents) (recordsOf (countOf (a .answer)) (a .log) ++ drop (countOf (a .answer)) es)
+abbrev pub listed : AfterConsume → List EventRecord → Received
+listed a es = received (a .answer) (a .contents) (recordsOf (eventCount (a .answer)) (a .log) ++ drop (eventCount (a .answer)) es)
 
 -- the events of a payload are the numbers of a log, which say the records
 unfoldable pub receivedOf : Dict → List ℕ → ℕ → ℕ → Bool → List EventRecord → Received

@@ -4,8 +4,8 @@ use mathlib.Core.Bool.{Bool, cond, _&&_, _||_}
 use mathlib.Core.List.{List, [], _∷_, map}
 use lib.Dec.{eqb, leb}
 use lib.ListN.{take}
-use Rattle.value.specs.declared.Fault.{Fault}
-use Rattle.value.specs.declared.Fault.the-variants as fault
+use Rattle.value.specs.declared.CodecFault.{CodecFault}
+use Rattle.value.specs.declared.CodecFault.the-variants as fault
 use Rattle.pdo_step.specs.declared.Outcome.{Outcome}
 use Rattle.pdo_step.specs.declared.Outcome.the-variants as outcome
 use Rattle.pdo_run.specs.Run.{packed}
@@ -48,8 +48,8 @@ handed (Client x start n) = handOff x start n
 handed (WriteRefused u) = handOff 0 0 0
 
 -- "kind + 16 (element + 256 (index + 65,536 (start + 8,192 (length + 8,192 payload))))"
-abbrev pub numberOf : EventRecord → ℕ
-numberOf r = packed (r .payload) (kindOf (r .event)) (r .element) (handed (r .event) .index) (handed (r .event) .start) (handed (r .event) .len)
+abbrev pub eventNumber : EventRecord → ℕ
+eventNumber r = packed (r .payload) (kindOf (r .event)) (r .element) (handed (r .event) .index) (handed (r .event) .start) (handed (r .event) .len)
 
 -- ---- and back: the record that a number says
 abbrev pub causeOf : ℕ → Cause
@@ -83,11 +83,11 @@ pub record Small (r : EventRecord) : Type 0 where
 
 -- where the number is its record's, that; else nothing
 unfoldable pub recordedOf : ℕ → Recorded
-recordedOf e = cond (eqb (numberOf (recordOf e)) e) (Is (recordOf e)) Nothing
+recordedOf e = cond (eqb (eventNumber (recordOf e)) e) (Is (recordOf e)) Nothing
 
 -- 0 is no event's number
 abbrev pub recordedNumber : Recorded → ℕ
-recordedNumber (Is r) = numberOf r
+recordedNumber (Is r) = eventNumber r
 recordedNumber Nothing = 0
 
 -- which numbers are records', by their parts
@@ -99,7 +99,7 @@ abbrev pub recordsOf : ℕ → List ℕ → List EventRecord
 recordsOf n log = map recordOf (take n log)
 
 -- ---- R11.5: the column "Event"
-abbrev pub causedBy : Fault → Cause
+abbrev pub causedBy : CodecFault → Cause
 causedBy fault.Value = Value
 causedBy fault.Text = Text
 causedBy fault.Odd = Odd

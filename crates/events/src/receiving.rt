@@ -2,7 +2,7 @@
 ghost use mathlib.Core.Path.{_≡_};
 ghost use Rattle.entry.specs.Table.{dict};
 ghost use Rattle.entry.specs.Put.{contents};
-ghost use Rattle.events.specs.Receive.{countOf, received, receivedOf};
+ghost use Rattle.events.specs.Receive.{eventCount, received, receivedOf};
 use crate::EventRecord;
 use crate::Heard;
 use crate::records::fill;
@@ -10,7 +10,7 @@ use pdo_handler::Consumed;
 
 // How many events there are.
 fn count(answer: Consumed) -> usize
-    ensures { λ r. ⌜ r ≡ countOf answer ⌝ }
+    ensures { λ r. ⌜ r ≡ eventCount answer ⌝ }
 {
     match answer {
         Consumed::Done(n) => n,

@@ -15,7 +15,7 @@ use Rattle.text.specs.Machine.{judge}
 use Rattle.lists.specs.Numbers.{number, Bytes}
 use Rattle.lists.proofs.NumberLaws.{number-lt}
 use Rattle.value.specs.Codec.{sizeOf, isText, fitsType, takes, textWord, wordAt}
-use Rattle.value.specs.declared.Fault.the-variants.{Value}
+use Rattle.value.specs.declared.CodecFault.the-variants.{Value}
 use Rattle.value.specs.declared.Word.the-variants.{Takes, Fails}
 use Rattle.value.proofs.CodecLaws.{size-le, text-taken}
 use Rattle.entry.specs.Model.{Val, used, size}

@@ -14,7 +14,7 @@ use Rattle.entry.specs.Judge.{wellFormed}
 use Rattle.entry.specs.Find.{objectOf}
 use Rattle.given.specs.Given.{objIn, rightIn, sizeIn}
 use Rattle.placing.specs.Place.{inserted, Room}
-use Rattle.insertion.specs.Insert.{below, taken, fitsIn, answerOf, after, memoryOf}
+use Rattle.insertion.specs.Insert.{below, taken, fitsIn, answerOf, memoryAfter, memoryOf}
 use Rattle.given.specs.declared.Head.{Head}
 use Rattle.given.specs.declared.Size.the-variants as sz
 use Rattle.insertion.specs.declared.Inserted.{Inserted}
@@ -47,8 +47,8 @@ module _ (h : Head) (name vals encodings : List ℕ) (d : Dict) where
   abbrev new : Dict
   new = inserted (below (h .index) (modelOf d)) o d
 
-  by-answer : (a : Inserted) → answerOf h name vals encodings d ≡ a → memoryOf h name vals encodings d ≡ after a new d
-  by-answer a e = ap (λ x. after x new d) e
+  by-answer : (a : Inserted) → answerOf h name vals encodings d ≡ a → memoryOf h name vals encodings d ≡ memoryAfter a new d
+  by-answer a e = ap (λ x. memoryAfter x new d) e
 
   pub malformed : wellFormed d ≡ false → (Refused Malformed ≡ answerOf h name vals encodings d) × (d ≡ memoryOf h name vals encodings d)
   unfolding answerOf
@@ -128,7 +128,7 @@ module _ (h : Head) (name vals encodings : List ℕ) (d : Dict) where
   by-cases : (P : Dict → Type 0) → P d → (answerOf h name vals encodings d ≡ Done → P (inserted (below (h .index) (modelOf d)) (objIn h name vals encodings) d)) → P (memoryOf h name vals encodings d)
   by-cases P p q = go (answerOf h name vals encodings d) q
     where
-      go : (a : Inserted) → (a ≡ Done → P (inserted (below (h .index) (modelOf d)) (objIn h name vals encodings) d)) → P (after a (inserted (below (h .index) (modelOf d)) (objIn h name vals encodings) d) d)
+      go : (a : Inserted) → (a ≡ Done → P (inserted (below (h .index) (modelOf d)) (objIn h name vals encodings) d)) → P (memoryAfter a (inserted (below (h .index) (modelOf d)) (objIn h name vals encodings) d) d)
       go Done q = q refl
       go (Refused r) q = p
 
@@ -143,5 +143,5 @@ module _ (h : Head) (name vals encodings : List ℕ) (d : Dict) where
   -- after Done the object is found, and it is the one that was described
   pub found-there : answerOf h name vals encodings d ≡ Done → objectOf (h .index) (modelOf (memoryOf h name vals encodings d)) ≡ some (objIn h name vals encodings)
   found-there e =
-      ap (λ a. objectOf (h .index) (modelOf (after a (inserted (below (h .index) (modelOf d)) (objIn h name vals encodings) d) d))) e
+      ap (λ a. objectOf (h .index) (modelOf (memoryAfter a (inserted (below (h .index) (modelOf d)) (objIn h name vals encodings) d) d))) e
       ∙ ap (objectOf (h .index)) (keeps e .holds) ∙ itself (below (h .index) (modelOf d)) (objIn h name vals encodings) (modelOf d) (done-by h name vals encodings d e .free)

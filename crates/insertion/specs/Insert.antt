@@ -44,13 +44,13 @@ answerOf h name vals encodings d =
     (Refused Malformed)
 
 -- the memory after it: a refusal leaves it as it is
-abbrev pub after : Inserted → Dict → Dict → Dict
-after Done new old = new
-after (Refused r) new old = old
+abbrev pub memoryAfter : Inserted → Dict → Dict → Dict
+memoryAfter Done new old = new
+memoryAfter (Refused r) new old = old
 
 abbrev pub memoryOf : Head → List ℕ → List ℕ → List ℕ → Dict → Dict
 memoryOf h name vals encodings d =
-    after (answerOf h name vals encodings d) (inserted (below (h .index) (modelOf d)) (objIn h name vals encodings) d) d
+    memoryAfter (answerOf h name vals encodings d) (inserted (below (h .index) (modelOf d)) (objIn h name vals encodings) d) d
 
 -- ---- what the code's parts need and say
 -- the place in the table: the first of k rows from row i on whose index is not below x

@@ -40,18 +40,18 @@ unfoldable pub nodesOf : Dict → List ℕ
 nodesOf d = let e = elementsAt (d .objects) in nodesFrom (d .slots) (d .words) (e .count) 1 (e .first)
 
 -- an answer, and the lent output after it
-pub record Given : Type 0 where
+pub record AfterListing : Type 0 where
   pub answer : Listed
   pub out : List ℕ
 
-abbrev pub given : Listed → List ℕ → Given
-given a out = record { answer = a; out = out }
+abbrev pub afterListing : Listed → List ℕ → AfterListing
+afterListing a out = record { answer = a; out = out }
 
 -- BufferTooShort is judged on what is found
-unfoldable pub cnsOf : Dict → List ℕ → Given
+unfoldable pub cnsOf : Dict → List ℕ → AfterListing
 cnsOf d out =
     cond (wellFormed d)
     (cond (ltb (length out) (length (nodesOf d)))
-    (given (listed.Refused BufferTooShort) out)
-    (given (listed.Numbers (length (nodesOf d))) (over out 0 (nodesOf d))))
-    (given (listed.Refused Malformed) out)
+    (afterListing (listed.Refused BufferTooShort) out)
+    (afterListing (listed.Numbers (length (nodesOf d))) (over out 0 (nodesOf d))))
+    (afterListing (listed.Refused Malformed) out)

@@ -7,7 +7,7 @@ ghost use Rattle.lists.specs.Lists.{over};
 ghost use Rattle.entry.specs.Table.{dict, typeAt, slotEnd};
 ghost use Rattle.entry.specs.Find.{Elements};
 ghost use Rattle.entry.specs.Judge.{wellFormed};
-ghost use Rattle.nodes.specs.Nodes.{configured, nodesFrom, elementsAt, given, cnsOf};
+ghost use Rattle.nodes.specs.Nodes.{configured, nodesFrom, elementsAt, afterListing, cnsOf};
 use answers::Refusal;
 use entry::Found;
 
@@ -90,7 +90,7 @@ pub fn get_configured_cns_judged(
     out: &mut [u8],
 ) -> Listed
     requires { ⌜ wellFormed (dict (now objects) (now slots) (now words) (now bytes)) ≡ true ⌝ }
-    ensures { λ r. ⌜ given r (now (out .exit)) ≡ cnsOf (dict (now (objects .entry)) (now (slots .entry)) (now (words .entry)) (now (bytes .entry))) (now (out .entry)) ⌝ }
+    ensures { λ r. ⌜ afterListing r (now (out .exit)) ≡ cnsOf (dict (now (objects .entry)) (now (slots .entry)) (now (words .entry)) (now (bytes .entry))) (now (out .entry)) ⌝ }
 {
     let span = elements(objects, slots, words, bytes);
     let count = span.count;
@@ -111,7 +111,7 @@ pub fn get_configured_cns(
     bytes: &[u8],
     out: &mut [u8],
 ) -> Listed
-    ensures { λ r. ⌜ given r (now (out .exit)) ≡ cnsOf (dict (now (objects .entry)) (now (slots .entry)) (now (words .entry)) (now (bytes .entry))) (now (out .entry)) ⌝ }
+    ensures { λ r. ⌜ afterListing r (now (out .exit)) ≡ cnsOf (dict (now (objects .entry)) (now (slots .entry)) (now (words .entry)) (now (bytes .entry))) (now (out .entry)) ⌝ }
 {
     if !judge::well_formed(objects, slots, words, bytes) {
         return Listed::Refused(Refusal::Malformed);

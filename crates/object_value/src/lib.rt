@@ -12,7 +12,7 @@ pub use words::from_word;
 pub use words::to_word;
 pub use words::type_number;
 ghost use mathlib.Core.Path.{_≡_};
-ghost use Rattle.value.specs.Codec.{decodeOf, encodeOf, after};
+ghost use Rattle.value.specs.Codec.{decodeOf, encodeOf, afterEncode};
 ghost use Rattle.value.specs.Meaning.{typeOf, wordOf};
 
 // The value of type t that the data begins with. Of a text, and of bytes, it is the whole data.
@@ -30,7 +30,7 @@ pub fn decode(t: u64, data: &[u8]) -> Decoded
 
 // Lays the value's bytes over `out` from its start on. The part is the text or the bytes of a value that has a room.
 pub fn encode(v: ObjectValue, part: &[u8], out: &mut [u8]) -> Encoded
-    ensures { λ r. ⌜ after r (now (out .exit)) ≡ encodeOf (typeOf v) (wordOf v) (now (part .entry)) (now (out .entry)) ⌝ }
+    ensures { λ r. ⌜ afterEncode r (now (out .exit)) ≡ encodeOf (typeOf v) (wordOf v) (now (part .entry)) (now (out .entry)) ⌝ }
 {
     let t = type_number(v);
     let x = to_word(v);

@@ -28,10 +28,10 @@ readOf d x sub = cond (wellFormed d) (readAt d (placeOf (d .objects) x sub)) (st
 
 -- R7.4: "A string read hands back the part of the caller's `bytes` that holds it": empty where a number, or nothing, is read
 abbrev pub partIn : List ℕ → Stored → List ℕ
-partIn bytes (stored.Is kind word start) = cond (isText kind) (take word (drop start bytes)) []
+partIn bytes (stored.Is u word start) = cond (isText u) (take word (drop start bytes)) []
 partIn bytes (stored.Refused r) = []
 
 -- a number of the type t
 abbrev pub ofType : ℕ → Stored → Number
-ofType t (stored.Is kind word start) = cond (eqb kind t) (number.Is word) (number.Refused TypeMismatch)
+ofType t (stored.Is u word start) = cond (eqb u t) (number.Is word) (number.Refused TypeMismatch)
 ofType t (stored.Refused r) = number.Refused r

@@ -17,7 +17,11 @@ pub use reading::read_u64;
 
 // A value's type and word: its number, or the length of a text or of bytes, which start at `start` of the lent bytes.
 pub enum Stored {
-    Is { kind: u64, word: u64, start: u64 },
+    Is {
+        value_type: u64,
+        word: u64,
+        start: u64,
+    },
     Refused(Refusal),
 }
 

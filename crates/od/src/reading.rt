@@ -25,12 +25,12 @@ pub fn read_judged(
         Place::NoObject => Stored::Refused(Refusal::ObjectNotFound),
         Place::NoSub => Stored::Refused(Refusal::SubObjectNotFound),
         Place::Count(n) => Stored::Is {
-            kind: 5,
+            value_type: 5,
             word: n,
             start: 0,
         },
         Place::Value(p) => Stored::Is {
-            kind: entry::type_at(slots, p),
+            value_type: entry::type_at(slots, p),
             word: words[p],
             start: entry::start_at(slots, p),
         },
@@ -66,11 +66,11 @@ pub fn read_part_judged<'a>(
     requires { ⌜ wellFormed (dict (now objects) (now slots) (now words) (now bytes)) ≡ true ⌝ }
     ensures { λ r. ⌜ now r ≡ partIn (now (bytes .entry)) (readOf (dict (now (objects .entry)) (now (slots .entry)) (now (words .entry)) (now (bytes .entry))) index sub) ⌝ }
 {
-    let Stored::Is { kind, word, start } = read_judged(objects, slots, words, bytes, index, sub)
+    let Stored::Is { value_type, word, start } = read_judged(objects, slots, words, bytes, index, sub)
     else {
         return &bytes[0..0];
     };
-    if value::is_text(kind) {
+    if value::is_text(value_type) {
         let from = start as usize;
         let end = from + word as usize;
         return &bytes[from..end];
@@ -100,10 +100,10 @@ fn of_type(found: Stored, t: u64) -> Number
 {
     match found {
         Stored::Is {
-            kind,
+            value_type,
             word,
             start: _,
-        } => if kind == t {
+        } => if value_type == t {
             Number::Is(word)
         } else {
             Number::Refused(Refusal::TypeMismatch)

@@ -16,7 +16,7 @@ use Rattle.pdo_handler.specs.Consume.{receivedBy, consumeOf, done as consumed}
 use Rattle.pdo_handler.proofs.EventLaws.{relabelled, received-numbered}
 use Rattle.pdo_cycle.specs.declared.Cycle.the-variants.{Refused}
 use Rattle.pdo_cycle.specs.Payloads.{senderOf, versionOf, readyOf, payloadOf, payloadsIn, areShaped, arePlaced, areShort}
-use Rattle.pdo_cycle.specs.Cycle.{Delivery, delivery, receivedAt, cycled, further, cycleFrom, ended, after, done, cycleOf}
+use Rattle.pdo_cycle.specs.Cycle.{Delivery, delivery, receivedAt, cycled, further, cycleFrom, ended, afterCycle, done, cycleOf}
 use Rattle.pdo_cycle.proofs.CycleLaws.{turn-sane}
 
 -- R11.13: "each payload in turn is consumed as by a call of its own", on the contents that the ones before left; its events have its number
@@ -64,7 +64,7 @@ cycle-keeps d delivered ps log e b bd = rw e (go (areShaped ps && arePlaced (len
     c : Contents
     c = contents (d .words) (d .bytes)
 
-    go : (x y : Bool) → wellFormed (filled d (cond x (cond y (done (ended (cycleFrom v (payloadsIn ps) 0 c (length log)) log 0 0)) (after (Refused PayloadTooLong) c log)) (after (Refused BadValue) c log) .contents)) ≡ true
+    go : (x y : Bool) → wellFormed (filled d (cond x (cond y (done (ended (cycleFrom v (payloadsIn ps) 0 c (length log)) log 0 0)) (afterCycle (Refused PayloadTooLong) c log)) (afterCycle (Refused BadValue) c log) .contents)) ≡ true
     go true true = cycle-sane v bd (payloadsIn ps) 0 c (length log) (record { well = e; bytes = b }) .well
     go true false = e
     go false y = e

@@ -65,25 +65,25 @@ abbrev pub ended : Cycled → List ℕ → ℕ → ℕ → Ended
 ended x l n i = stateOf (x .contents) (over l n (x .events)) (n + length (x .events)) (i + x .consumed)
 
 -- an answer, and what was lent after it
-pub record After : Type 0 where
+pub record AfterCycle : Type 0 where
   pub answer : Cycle
   pub contents : Contents
   pub log : List ℕ
 
-abbrev pub after : Cycle → Contents → List ℕ → After
-after a c l = record { answer = a; contents = c; log = l }
+abbrev pub afterCycle : Cycle → Contents → List ℕ → AfterCycle
+afterCycle a c l = record { answer = a; contents = c; log = l }
 
-abbrev pub done : Ended → After
-done e = after (Done (e .consumed) (e .count)) (e .contents) (e .log)
+abbrev pub done : Ended → AfterCycle
+done e = afterCycle (Done (e .consumed) (e .count)) (e .contents) (e .log)
 
 -- R11.12: "Malformed (1); .. BadValue (2); .. PayloadTooLong (14). All are judged before the first is consumed."
-unfoldable pub cycleOf : Dict → List ℕ → List ℕ → List ℕ → After
+unfoldable pub cycleOf : Dict → List ℕ → List ℕ → List ℕ → AfterCycle
 cycleOf d delivered ps log =
     let c = contents (d .words) (d .bytes) in
     cond (wellFormed d)
     (cond (areShaped ps && arePlaced (length delivered) ps)
     (cond (areShort ps)
     (done (ended (cycleFrom (delivery (d .objects) (d .slots) delivered ps) (payloadsIn ps) 0 c (length log)) log 0 0))
-    (after (Refused PayloadTooLong) c log))
-    (after (Refused BadValue) c log))
-    (after (Refused Malformed) c log)
+    (afterCycle (Refused PayloadTooLong) c log))
+    (afterCycle (Refused BadValue) c log))
+    (afterCycle (Refused Malformed) c log)

@@ -8,7 +8,7 @@ ghost use Rattle.entry.specs.Judge.{wellFormed};
 ghost use Rattle.entry.specs.Put.{contents};
 ghost use Rattle.pdo_run.specs.Run.{logged, finished};
 ghost use Rattle.pdo_cycle.specs.Payloads.{Lies, payloadsIn, areShaped, arePlaced, areShort};
-ghost use Rattle.pdo_cycle.specs.Cycle.{delivery, receivedAt, cycleFrom, ended, after, done, cycleOf};
+ghost use Rattle.pdo_cycle.specs.Cycle.{delivery, receivedAt, cycleFrom, ended, afterCycle, done, cycleOf};
 use crate::Cycle;
 use crate::payloads::judge;
 use crate::payloads::number_at;
@@ -60,7 +60,7 @@ fn receive_all(
 ) -> Cycle
     requires { ⌜ wellFormed (dict (now objects) (now slots) (now words) (now bytes)) ≡ true ⌝ }
     requires { ⌜ (areShaped (now payloads) ≡ true) × (arePlaced (length (now delivered)) (now payloads) ≡ true) × (areShort (now payloads) ≡ true) ⌝ }
-    ensures { λ r. ⌜ after r (contents (now (words .exit)) (now (bytes .exit))) (now (log .exit)) ≡ done (ended (cycleFrom (delivery (now (objects .entry)) (now (slots .entry)) (now (delivered .entry)) (now (payloads .entry))) (payloadsIn (now (payloads .entry))) 0 (contents (now (words .entry)) (now (bytes .entry))) (length (now (log .entry)))) (now (log .entry)) 0 0) ⌝ }
+    ensures { λ r. ⌜ afterCycle r (contents (now (words .exit)) (now (bytes .exit))) (now (log .exit)) ≡ done (ended (cycleFrom (delivery (now (objects .entry)) (now (slots .entry)) (now (delivered .entry)) (now (payloads .entry))) (payloadsIn (now (payloads .entry))) 0 (contents (now (words .entry)) (now (bytes .entry))) (length (now (log .entry)))) (now (log .entry)) 0 0) ⌝ }
 {
     let mut n = 0;
     let mut i = 0;
@@ -88,7 +88,7 @@ pub fn consume_cycle_judged(
     log: &mut [u64],
 ) -> Cycle
     requires { ⌜ wellFormed (dict (now objects) (now slots) (now words) (now bytes)) ≡ true ⌝ }
-    ensures { λ r. ⌜ after r (contents (now (words .exit)) (now (bytes .exit))) (now (log .exit)) ≡ cycleOf (dict (now (objects .entry)) (now (slots .entry)) (now (words .entry)) (now (bytes .entry))) (now (delivered .entry)) (now (payloads .entry)) (now (log .entry)) ⌝ }
+    ensures { λ r. ⌜ afterCycle r (contents (now (words .exit)) (now (bytes .exit))) (now (log .exit)) ≡ cycleOf (dict (now (objects .entry)) (now (slots .entry)) (now (words .entry)) (now (bytes .entry))) (now (delivered .entry)) (now (payloads .entry)) (now (log .entry)) ⌝ }
 {
     let judged = judge(delivered.len() as u64, payloads);
     if !(shaped(payloads) & judged.placed) {
@@ -110,7 +110,7 @@ pub fn consume_cycle(
     payloads: &[u64],
     log: &mut [u64],
 ) -> Cycle
-    ensures { λ r. ⌜ after r (contents (now (words .exit)) (now (bytes .exit))) (now (log .exit)) ≡ cycleOf (dict (now (objects .entry)) (now (slots .entry)) (now (words .entry)) (now (bytes .entry))) (now (delivered .entry)) (now (payloads .entry)) (now (log .entry)) ⌝ }
+    ensures { λ r. ⌜ afterCycle r (contents (now (words .exit)) (now (bytes .exit))) (now (log .exit)) ≡ cycleOf (dict (now (objects .entry)) (now (slots .entry)) (now (words .entry)) (now (bytes .entry))) (now (delivered .entry)) (now (payloads .entry)) (now (log .entry)) ⌝ }
 {
     if !judge::well_formed(objects, slots, words, bytes) {
         return Cycle::Refused(Refusal::Malformed);

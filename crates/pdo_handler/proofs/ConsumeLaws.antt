@@ -18,8 +18,8 @@ use Rattle.pdo_step.proofs.OutcomeLaws.{step-keeps, step-bytes}
 use Rattle.pdo_step.proofs.MarkLaws.{mark-keeps, mark-bytes}
 use Rattle.pdo_handler.specs.declared.Consumed.the-variants.{Refused}
 use Rattle.pdo_channel.specs.Channel.{firstMatch, expectedOf, rightVersion}
-use Rattle.pdo_run.specs.Run.{Frame, frame, held, marked, decided, isShort, stopsOf, eventOf, actOf, ran, one, behind, runFrom, listIn, runOn, finished}
-use Rattle.pdo_handler.specs.Consume.{mapVersion, onChannel, consumedBy, receivedBy, after, done, consumeOf}
+use Rattle.pdo_run.specs.Run.{Frame, frame, held, marked, decided, isShort, stopsOf, outcomeEvent, actOf, ran, one, behind, runFrom, listIn, runOn, finished}
+use Rattle.pdo_handler.specs.Consume.{mapVersion, onChannel, consumedBy, receivedBy, afterConsume, done, consumeOf}
 
 -- a well-formed dictionary of bytes
 pub record Sane (f : Frame) (c : Contents) : Type 0 where
@@ -44,7 +44,7 @@ module _ (f : Frame) (b : Bytes (f .payload)) where
   run-sane p (w ∷ ws) j c s = go (eqb (typeAt (f .slots) (p + j)) 8) (stopsOf (decided f w)) (run-sane p ws (j + 1) c s) (run-sane p ws (j + 1) (actOf f c (decided f w)) (act-sane c w s))
     where
       go : (x y : Bool) → Sane f (runFrom f p ws (j + 1) c .contents) → Sane f (runFrom f p ws (j + 1) (actOf f c (decided f w)) .contents)
-          → Sane f (cond x (cond y (ran (actOf f c (decided f w)) (one (eventOf (f .number) (j + 1) (decided f w)))) (behind (one (eventOf (f .number) (j + 1) (decided f w))) (runFrom f p ws (j + 1) (actOf f c (decided f w))))) (runFrom f p ws (j + 1) c) .contents)
+          → Sane f (cond x (cond y (ran (actOf f c (decided f w)) (one (outcomeEvent (f .number) (j + 1) (decided f w)))) (behind (one (outcomeEvent (f .number) (j + 1) (decided f w))) (runFrom f p ws (j + 1) (actOf f c (decided f w))))) (runFrom f p ws (j + 1) c) .contents)
       go true true u v = act-sane c w s
       go true false u v = v
       go false y u v = u
@@ -84,7 +84,7 @@ consume-keeps d payload sender version ready room log e b bp = rw e (go (ltb roo
     c : Contents
     c = contents (d .words) (d .bytes)
 
-    go : (x y : Bool) → wellFormed (filled d (cond x (after (Refused NoEventRoom) c log) (cond y (after (Refused PayloadTooLong) c log) (done (finished (receivedBy f c version ready) log 0))) .contents)) ≡ true
+    go : (x y : Bool) → wellFormed (filled d (cond x (afterConsume (Refused NoEventRoom) c log) (cond y (afterConsume (Refused PayloadTooLong) c log) (done (finished (receivedBy f c version ready) log 0))) .contents)) ≡ true
     go true y = e
     go false true = e
     go false false = received-sane f bp c version ready (record { well = e; bytes = b }) .well

@@ -6,7 +6,7 @@ use Prim.Native.Nat.{ℕ, suc, _+_, _*_, _<_, _≤_}
 use native.Mathlib.Omega.{arith}
 use lib.Dec.{eqb}
 use lib.ListN.{length, length-append, length-take, drop}
-use Rattle.value.specs.declared.Fault.the-variants as fault
+use Rattle.value.specs.declared.CodecFault.the-variants as fault
 use Rattle.entry.specs.Table.{kindAt, listCount, firstAt, typeAt}
 use Rattle.entry.specs.Find.{findRow}
 use Rattle.entry.specs.Judge.{wellFormed}
@@ -17,7 +17,7 @@ use Rattle.entry.proofs.ValueLaws.{found-lies, list-count-le}
 use Rattle.pdo_step.specs.declared.Outcome.{Outcome}
 use Rattle.pdo_step.specs.declared.Outcome.the-variants as outcome
 use Rattle.pdo_channel.specs.Channel.{firstMatch, expectedOf, rightVersion}
-use Rattle.pdo_run.specs.Run.{packed, Frame, frame, held, marked, decided, stopsOf, eventOf, actOf, Ran, ran, one, behind, runFrom, listIn, runOn}
+use Rattle.pdo_run.specs.Run.{packed, Frame, frame, held, marked, decided, stopsOf, outcomeEvent, actOf, Ran, ran, one, behind, runFrom, listIn, runOn}
 use Rattle.pdo_handler.specs.Consume.{mapVersion, onChannel, consumedBy, receivedBy}
 use Rattle.pdo_run.proofs.RunLaws.{one-packed}
 
@@ -34,7 +34,7 @@ run-few f p [] j c = omega arith
 run-few f p (w ∷ ws) j c = go (eqb (typeAt (f .slots) (p + j)) 8) (stopsOf (decided f w)) (run-few f p ws (j + 1) c) (run-few f p ws (j + 1) (actOf f c (decided f w)))
   where
     e : ℕ
-    e = eventOf (f .number) (j + 1) (decided f w)
+    e = outcomeEvent (f .number) (j + 1) (decided f w)
 
     go : (x y : Bool) → length (runFrom f p ws (j + 1) c .events) ≤ length ws → length (runFrom f p ws (j + 1) (actOf f c (decided f w)) .events) ≤ length ws
         → length (cond x (cond y (ran (actOf f c (decided f w)) (one e)) (behind (one e) (runFrom f p ws (j + 1) (actOf f c (decided f w))))) (runFrom f p ws (j + 1) c) .events) ≤ suc (length ws)
@@ -88,7 +88,7 @@ one-event i kind k x start n h =
     let z : packed i kind k x start n ≡ packed 0 kind k x start n + 18014398509481984 * i = omega arith in
     one-packed i kind k x start n h ∙ ap (λ (e : ℕ). e ∷ []) z ∙ ap (map (numbered i)) (sym (one-packed 0 kind k x start n h))
 
-one-outcome : (i k : ℕ) (o : Outcome) → one (eventOf i k o) ≡ map (numbered i) (one (eventOf 0 k o))
+one-outcome : (i k : ℕ) (o : Outcome) → one (outcomeEvent i k o) ≡ map (numbered i) (one (outcomeEvent 0 k o))
 one-outcome i k outcome.Misaligned = refl
 one-outcome i k outcome.Short = one-event i 2 k 0 0 0 (omega arith)
 one-outcome i k (outcome.Server x start n) = one-event i 6 k x start n (omega arith)
@@ -115,12 +115,12 @@ module _ (objects slots payload : List ℕ) (sender i : ℕ) where
       o = decided (f 0) w
 
       go : (x y : Bool) → runFrom (f i) p ws (j + 1) c ≡ relabelled i (runFrom (f 0) p ws (j + 1) c) → runFrom (f i) p ws (j + 1) (actOf (f 0) c o) ≡ relabelled i (runFrom (f 0) p ws (j + 1) (actOf (f 0) c o))
-          → cond x (cond y (ran (actOf (f 0) c o) (one (eventOf i (j + 1) o))) (behind (one (eventOf i (j + 1) o)) (runFrom (f i) p ws (j + 1) (actOf (f 0) c o)))) (runFrom (f i) p ws (j + 1) c)
-          ≡ relabelled i (cond x (cond y (ran (actOf (f 0) c o) (one (eventOf 0 (j + 1) o))) (behind (one (eventOf 0 (j + 1) o)) (runFrom (f 0) p ws (j + 1) (actOf (f 0) c o)))) (runFrom (f 0) p ws (j + 1) c))
+          → cond x (cond y (ran (actOf (f 0) c o) (one (outcomeEvent i (j + 1) o))) (behind (one (outcomeEvent i (j + 1) o)) (runFrom (f i) p ws (j + 1) (actOf (f 0) c o)))) (runFrom (f i) p ws (j + 1) c)
+          ≡ relabelled i (cond x (cond y (ran (actOf (f 0) c o) (one (outcomeEvent 0 (j + 1) o))) (behind (one (outcomeEvent 0 (j + 1) o)) (runFrom (f 0) p ws (j + 1) (actOf (f 0) c o)))) (runFrom (f 0) p ws (j + 1) c))
       go true true u v = ap (ran (actOf (f 0) c o)) (one-outcome i (j + 1) o)
       go true false u v =
           ap₂ behind (one-outcome i (j + 1) o) v
-          ∙ ap (ran (runFrom (f 0) p ws (j + 1) (actOf (f 0) c o) .contents)) (sym (map-append (numbered i) (one (eventOf 0 (j + 1) o)) (runFrom (f 0) p ws (j + 1) (actOf (f 0) c o) .events)))
+          ∙ ap (ran (runFrom (f 0) p ws (j + 1) (actOf (f 0) c o) .contents)) (sym (map-append (numbered i) (one (outcomeEvent 0 (j + 1) o)) (runFrom (f 0) p ws (j + 1) (actOf (f 0) c o) .events)))
       go false y u v = u
 
   -- payload number i does what payload number 0 does, and its events have its number

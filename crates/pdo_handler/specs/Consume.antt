@@ -37,26 +37,26 @@ abbrev pub receivedBy : Frame → Contents → ℕ → Bool → Ran
 receivedBy f c version ready = cond ready (consumedBy f c version) (ran c [])
 
 -- an answer, and what was lent after it
-pub record After : Type 0 where
+pub record AfterConsume : Type 0 where
   pub answer : Consumed
   pub contents : Contents
   pub log : List ℕ
 
-abbrev pub after : Consumed → Contents → List ℕ → After
-after a c l = record { answer = a; contents = c; log = l }
+abbrev pub afterConsume : Consumed → Contents → List ℕ → AfterConsume
+afterConsume a c l = record { answer = a; contents = c; log = l }
 
-abbrev pub done : Logged → After
-done l = after (Done (l .count)) (l .contents) (l .log)
+abbrev pub done : Logged → AfterConsume
+done l = afterConsume (Done (l .count)) (l .contents) (l .log)
 
 -- R11.1: "Malformed (1); an event list under 254 records: NoEventRoom (15); payload over 1,490 bytes: PayloadTooLong (14)." `room` is
 -- how many records the event list has, and the events go into `log`, from its first number on.
-unfoldable pub consumeOf : Dict → List ℕ → ℕ → ℕ → Bool → ℕ → List ℕ → After
+unfoldable pub consumeOf : Dict → List ℕ → ℕ → ℕ → Bool → ℕ → List ℕ → AfterConsume
 consumeOf d payload sender version ready room log =
     let c = contents (d .words) (d .bytes) in
     cond (wellFormed d)
     (cond (ltb room 254)
-    (after (Refused NoEventRoom) c log)
+    (afterConsume (Refused NoEventRoom) c log)
     (cond (ltb 1490 (length payload))
-    (after (Refused PayloadTooLong) c log)
+    (afterConsume (Refused PayloadTooLong) c log)
     (done (finished (receivedBy (frame (d .objects) (d .slots) payload sender 0) c version ready) log 0))))
-    (after (Refused Malformed) c log)
+    (afterConsume (Refused Malformed) c log)

@@ -10,13 +10,13 @@ use Rattle.entry.specs.Judge.{wellFormed}
 use Rattle.pdo_step.specs.Bits.{markedIn}
 
 -- an answer, and the bytes after it
-pub record After : Type 0 where
+pub record AfterUpdate : Type 0 where
   pub answer : Answer
   pub bytes : List ℕ
 
-abbrev pub after : Answer → List ℕ → After
-after a bs = record { answer = a; bytes = bs }
+abbrev pub afterUpdate : Answer → List ℕ → AfterUpdate
+afterUpdate a bs = record { answer = a; bytes = bs }
 
 -- R11.11: "Malformed (1), else always Done"
-unfoldable pub updateOf : Dict → ℕ → ℕ → After
-updateOf d x n = cond (wellFormed d) (after Done (markedIn (d .objects) (d .slots) (d .words) (d .bytes) x n)) (after (Refused Malformed) (d .bytes))
+unfoldable pub updateOf : Dict → ℕ → ℕ → AfterUpdate
+updateOf d x n = cond (wellFormed d) (afterUpdate Done (markedIn (d .objects) (d .slots) (d .words) (d .bytes) x n)) (afterUpdate (Refused Malformed) (d .bytes))

@@ -8,7 +8,7 @@ ghost use Rattle.entry.specs.Judge.{wellFormed};
 ghost use Rattle.entry.specs.Put.{contents};
 ghost use Rattle.entry.specs.declared.Found.the-variants.{At};
 ghost use Rattle.pdo_run.specs.Run.{frame, logged, finished};
-ghost use Rattle.pdo_handler.specs.Consume.{onChannel, consumedBy, receivedBy, after, consumeOf};
+ghost use Rattle.pdo_handler.specs.Consume.{onChannel, consumedBy, receivedBy, afterConsume, consumeOf};
 use crate::Consumed;
 use answers::Refusal;
 use entry::Found;
@@ -144,7 +144,7 @@ pub fn consume_logged_judged(
 ) -> Consumed
     requires { ⌜ wellFormed (dict (now objects) (now slots) (now words) (now bytes)) ≡ true ⌝ }
     requires { ⌜ (254 ≤ room → 254 ≤ length (now log)) ⌝ }
-    ensures { λ r. ⌜ after r (contents (now (words .exit)) (now (bytes .exit))) (now (log .exit)) ≡ consumeOf (dict (now (objects .entry)) (now (slots .entry)) (now (words .entry)) (now (bytes .entry))) (now (payload .entry)) sender version ready room (now (log .entry)) ⌝ }
+    ensures { λ r. ⌜ afterConsume r (contents (now (words .exit)) (now (bytes .exit))) (now (log .exit)) ≡ consumeOf (dict (now (objects .entry)) (now (slots .entry)) (now (words .entry)) (now (bytes .entry))) (now (payload .entry)) sender version ready room (now (log .entry)) ⌝ }
 {
     if room < 254 {
         return Consumed::Refused(Refusal::NoEventRoom);
@@ -181,7 +181,7 @@ pub fn consume_logged(
     log: &mut [u64],
 ) -> Consumed
     requires { ⌜ (254 ≤ room → 254 ≤ length (now log)) ⌝ }
-    ensures { λ r. ⌜ after r (contents (now (words .exit)) (now (bytes .exit))) (now (log .exit)) ≡ consumeOf (dict (now (objects .entry)) (now (slots .entry)) (now (words .entry)) (now (bytes .entry))) (now (payload .entry)) sender version ready room (now (log .entry)) ⌝ }
+    ensures { λ r. ⌜ afterConsume r (contents (now (words .exit)) (now (bytes .exit))) (now (log .exit)) ≡ consumeOf (dict (now (objects .entry)) (now (slots .entry)) (now (words .entry)) (now (bytes .entry))) (now (payload .entry)) sender version ready room (now (log .entry)) ⌝ }
 {
     if !judge::well_formed(objects, slots, words, bytes) {
         return Consumed::Refused(Refusal::Malformed);

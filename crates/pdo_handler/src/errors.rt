@@ -3,7 +3,7 @@ ghost use mathlib.Core.Path.{_≡_};
 ghost use mathlib.Core.Bool.{true};
 ghost use Rattle.entry.specs.Table.{dict};
 ghost use Rattle.entry.specs.Judge.{wellFormed};
-ghost use Rattle.pdo_handler.specs.Errors.{after, updateOf};
+ghost use Rattle.pdo_handler.specs.Errors.{afterUpdate, updateOf};
 use answers::Answer;
 use answers::Refusal;
 
@@ -17,7 +17,7 @@ pub fn update_pdo_error_object_judged(
     node: u8,
 ) -> Answer
     requires { ⌜ wellFormed (dict (now objects) (now slots) (now words) (now bytes)) ≡ true ⌝ }
-    ensures { λ r. ⌜ after r (now (bytes .exit)) ≡ updateOf (dict (now (objects .entry)) (now (slots .entry)) (now (words .entry)) (now (bytes .entry))) index node ⌝ }
+    ensures { λ r. ⌜ afterUpdate r (now (bytes .exit)) ≡ updateOf (dict (now (objects .entry)) (now (slots .entry)) (now (words .entry)) (now (bytes .entry))) index node ⌝ }
 {
     pdo_step::set_bit(objects, slots, words, bytes, index, node);
     Answer::Done
@@ -32,7 +32,7 @@ pub fn update_pdo_error_object(
     index: u16,
     node: u8,
 ) -> Answer
-    ensures { λ r. ⌜ after r (now (bytes .exit)) ≡ updateOf (dict (now (objects .entry)) (now (slots .entry)) (now (words .entry)) (now (bytes .entry))) index node ⌝ }
+    ensures { λ r. ⌜ afterUpdate r (now (bytes .exit)) ≡ updateOf (dict (now (objects .entry)) (now (slots .entry)) (now (words .entry)) (now (bytes .entry))) index node ⌝ }
 {
     if !judge::well_formed(objects, slots, words, bytes) {
         return Answer::Refused(Refusal::Malformed);

@@ -12,8 +12,8 @@ use lib.ListN.{length, take, drop, getD, set, length-drop, drop-of-length-le}
 use lib.Seq.{drop-cons, take-suc, take-suc-set, getD-drop}
 use types.Run.{OneOf}
 use denote.Enum.Declared.{tagOf}
-use Rattle.value.specs.declared.Fault.{Fault}
-use Rattle.value.specs.declared.Fault.the-variants as fault
+use Rattle.value.specs.declared.CodecFault.{CodecFault}
+use Rattle.value.specs.declared.CodecFault.the-variants as fault
 use Rattle.lists.specs.Numbers.{Bytes}
 use Rattle.lists.proofs.ListLaws.{over-none, over-first}
 use Rattle.entry.specs.Table.{Dict, typeAt}
@@ -25,9 +25,9 @@ use Rattle.pdo_step.specs.Outcomes.{outcomeOf}
 use Rattle.pdo_step.specs.Steps.{applied}
 use Rattle.pdo_step.proofs.OutcomeLaws.{step-keeps}
 use Rattle.pdo_step.proofs.Outcome.{the-type as outcome-type}
-use Rattle.pdo_run.specs.Run.{packed, causeOf, eventOf, stopsOf, isShort, Frame, frame, decided, marked, actOf, Ran, ran, one, behind, runFrom, logged, finished, notedLog, notedCount}
+use Rattle.pdo_run.specs.Run.{packed, causeNumber, outcomeEvent, stopsOf, isShort, Frame, frame, decided, marked, actOf, Ran, ran, one, behind, runFrom, logged, finished, notedLog, notedCount}
 
-pub cause-small : (f : Fault) → causeOf f < 16
+pub cause-small : (f : CodecFault) → causeNumber f < 16
 cause-small fault.Value = omega arith
 cause-small fault.Text = omega arith
 cause-small fault.Odd = omega arith
@@ -87,11 +87,11 @@ module _ (f : Frame) (p : ℕ) (list : List ℕ) (j : ℕ) (c : Contents) where
   run-over h t = rw (drop-cons list j 0 h, ne-eqb _ 8 t, add-one)
 
   module _ (h : j < length list) (t : typeAt (f .slots) (p + j) ≡ 8) (o : Outcome) (q : o ≡ decided f (getD list j 0)) where
-    pub run-stops : stopsOf o ≡ true → onward ≡ ran (actOf f c o) (one (eventOf (f .number) (j + 1) o))
+    pub run-stops : stopsOf o ≡ true → onward ≡ ran (actOf f c o) (one (outcomeEvent (f .number) (j + 1) o))
     unfolding runFrom
     run-stops s = rw (drop-cons list j 0 h, eq-eqb _ 8 t, ← q, s)
 
-    pub run-on : stopsOf o ≡ false → onward ≡ behind (one (eventOf (f .number) (j + 1) o)) (runFrom f p (drop (j + 1) list) (j + 1) (actOf f c o))
+    pub run-on : stopsOf o ≡ false → onward ≡ behind (one (outcomeEvent (f .number) (j + 1) o)) (runFrom f p (drop (j + 1) list) (j + 1) (actOf f c o))
     unfolding runFrom
     run-on s = rw (drop-cons list j 0 h, eq-eqb _ 8 t, ← q, s, add-one)
 

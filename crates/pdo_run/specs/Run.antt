@@ -5,8 +5,8 @@ use mathlib.Core.List.{List, [], _∷_, _++_}
 use lib.Dec.{eqb}
 use lib.ListN.{length, take, drop, set}
 use Rattle.lists.specs.Lists.{over}
-use Rattle.value.specs.declared.Fault.{Fault}
-use Rattle.value.specs.declared.Fault.the-variants as fault
+use Rattle.value.specs.declared.CodecFault.{CodecFault}
+use Rattle.value.specs.declared.CodecFault.the-variants as fault
 use Rattle.entry.specs.Table.{Dict, dict, kindAt, listCount, firstAt, typeAt}
 use Rattle.entry.specs.declared.Found.{Found}
 use Rattle.entry.specs.declared.Found.the-variants.{At, Nothing}
@@ -22,23 +22,23 @@ abbrev pub packed : ℕ → ℕ → ℕ → ℕ → ℕ → ℕ → ℕ
 packed i kind k x start n = kind + 16 * (k + 256 * (x + 65536 * (start + 8192 * (n + 8192 * i))))
 
 -- "PayloadShort, cause Value, Text or Odd"
-abbrev pub causeOf : Fault → ℕ
-causeOf fault.Value = 3
-causeOf fault.Text = 4
-causeOf fault.Odd = 5
+abbrev pub causeNumber : CodecFault → ℕ
+causeNumber fault.Value = 3
+causeNumber fault.Text = 4
+causeNumber fault.Odd = 5
 
 -- R11.5: the column "Event"; 0 where there is none
-abbrev pub eventOf : ℕ → ℕ → Outcome → ℕ
-eventOf i k outcome.Misaligned = 0
-eventOf i k outcome.Short = packed i 2 k 0 0 0
-eventOf i k (outcome.Server x start n) = packed i 6 k x start n
-eventOf i k (outcome.Client x start n) = packed i 7 k x start n
-eventOf i k outcome.NoTarget = 0
-eventOf i k outcome.Count = 0
-eventOf i k outcome.CountRefused = packed i 8 k 0 0 0
-eventOf i k (outcome.Undecodable f) = packed i (causeOf f) k 0 0 0
-eventOf i k outcome.TooLong = packed i 9 k 0 0 0
-eventOf i k (outcome.Stored p start n) = 0
+abbrev pub outcomeEvent : ℕ → ℕ → Outcome → ℕ
+outcomeEvent i k outcome.Misaligned = 0
+outcomeEvent i k outcome.Short = packed i 2 k 0 0 0
+outcomeEvent i k (outcome.Server x start n) = packed i 6 k x start n
+outcomeEvent i k (outcome.Client x start n) = packed i 7 k x start n
+outcomeEvent i k outcome.NoTarget = 0
+outcomeEvent i k outcome.Count = 0
+outcomeEvent i k outcome.CountRefused = packed i 8 k 0 0 0
+outcomeEvent i k (outcome.Undecodable f) = packed i (causeNumber f) k 0 0 0
+outcomeEvent i k outcome.TooLong = packed i 9 k 0 0 0
+outcomeEvent i k (outcome.Stored p start n) = 0
 
 -- the column "Then"
 abbrev pub stopsOf : Outcome → Bool
@@ -112,8 +112,8 @@ runFrom f p [] j c = ran c []
 runFrom f p (w ∷ ws) j c =
     cond (eqb (typeAt (f .slots) (p + j)) 8)
     (cond (stopsOf (decided f w))
-    (ran (actOf f c (decided f w)) (one (eventOf (f .number) (j + 1) (decided f w))))
-    (behind (one (eventOf (f .number) (j + 1) (decided f w))) (runFrom f p ws (j + 1) (actOf f c (decided f w)))))
+    (ran (actOf f c (decided f w)) (one (outcomeEvent (f .number) (j + 1) (decided f w))))
+    (behind (one (outcomeEvent (f .number) (j + 1) (decided f w))) (runFrom f p ws (j + 1) (actOf f c (decided f w)))))
     (runFrom f p ws (j + 1) c)
 
 -- R11.4: the words of the list in row r, "gathered before the first write"

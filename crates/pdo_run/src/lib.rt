@@ -7,11 +7,11 @@ ghost use Rattle.entry.specs.Table.{dict, numberOf, valuesOf};
 ghost use Rattle.entry.specs.Find.{findRow};
 ghost use Rattle.entry.specs.Judge.{wellFormed};
 ghost use Rattle.entry.specs.Put.{contents};
-ghost use Rattle.pdo_run.specs.Run.{packed, causeOf, eventOf, stopsOf, frame, actOf, runFrom, runIn, runOn, logged, finished, notedLog, notedCount};
+ghost use Rattle.pdo_run.specs.Run.{packed, causeNumber, outcomeEvent, stopsOf, frame, actOf, runFrom, runIn, runOn, logged, finished, notedLog, notedCount};
 ghost use Rattle.pdo_step.specs.Outcomes.{reach, outcomeOf};
 use entry::Found;
 use pdo_step::Outcome;
-use value::Fault;
+use value::CodecFault;
 
 // An event as one number.
 pub fn packed(number: u64, kind: u64, k: u64, index: u16, start: usize, len: usize) -> u64
@@ -22,13 +22,13 @@ pub fn packed(number: u64, kind: u64, k: u64, index: u16, start: usize, len: usi
     kind + 16 * (k + 256 * (index as u64 + 65536 * field))
 }
 
-fn cause(f: Fault) -> u64
-    ensures { λ r. ⌜ r ≡ causeOf f ⌝ }
+fn cause(f: CodecFault) -> u64
+    ensures { λ r. ⌜ r ≡ causeNumber f ⌝ }
 {
     match f {
-        Fault::Value => 3,
-        Fault::Text => 4,
-        Fault::Odd => 5,
+        CodecFault::Value => 3,
+        CodecFault::Text => 4,
+        CodecFault::Odd => 5,
     }
 }
 
@@ -64,7 +64,7 @@ fn stops(o: Outcome) -> bool
 // The event of element k, or 0.
 fn event_of(number: u64, k: u64, o: Outcome) -> u64
     requires { ⌜ (number < 1024) × (k < 256) × (reach o < 8192) ⌝ }
-    ensures { λ r. ⌜ r ≡ eventOf number k o ⌝ }
+    ensures { λ r. ⌜ r ≡ outcomeEvent number k o ⌝ }
 {
     match o {
         Outcome::Misaligned => 0,

@@ -12,7 +12,7 @@ use Rattle.lists.proofs.NumberLaws.{part-length, bytes-take, bytes-drop, bytes-
 use Rattle.value.specs.Codec.{isText, wordAt}
 use Rattle.value.specs.declared.Word.{Word}
 use Rattle.value.specs.declared.Word.the-variants.{Takes, Fails}
-use Rattle.value.specs.declared.Fault.the-variants as fault
+use Rattle.value.specs.declared.CodecFault.the-variants as fault
 use Rattle.mapping.specs.Word.{entryOf, fieldOf}
 use Rattle.mapping.specs.declared.PdoMappingEntry.{PdoMappingEntry}
 use Rattle.mapping.specs.declared.Field.{Field}

@@ -8,7 +8,7 @@ use lib.ListN.{length, take, drop}
 use Rattle.value.specs.Codec.{isText, wordAt}
 use Rattle.value.specs.declared.Word.{Word}
 use Rattle.value.specs.declared.Word.the-variants.{Takes, Fails}
-use Rattle.value.specs.declared.Fault.the-variants as fault
+use Rattle.value.specs.declared.CodecFault.the-variants as fault
 use Rattle.mapping.specs.declared.Field.{Field}
 use Rattle.mapping.specs.declared.Field.the-variants as field
 use Rattle.entry.specs.Table.{slotEnd, typeAt, roomAt}

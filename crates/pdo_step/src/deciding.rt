@@ -9,7 +9,7 @@ ghost use Rattle.pdo_step.specs.Outcomes.{part, Shape, onCount, onValue,
 use crate::Outcome;
 use aim::Class;
 use mapping::Field;
-use value::Fault;
+use value::CodecFault;
 use value::Word;
 
 // At a list's count, a U8.
@@ -17,7 +17,7 @@ fn at_count(index: u16, len: usize) -> Outcome
     ensures { λ r. ⌜ r ≡ onCount index len ⌝ }
 {
     if len == 0 {
-        return Outcome::Undecodable(Fault::Value);
+        return Outcome::Undecodable(CodecFault::Value);
     }
     if pdo_validator::is_mapping(index) {
         return Outcome::Count;

@@ -7,7 +7,7 @@ pub use acting::step;
 pub use bits::bit_place;
 pub use bits::set_bit;
 pub use deciding::decide;
-use value::Fault;
+use value::CodecFault;
 
 // What a mapping word comes to: the field and its target value, or why nothing is stored.
 pub enum Outcome {
@@ -26,7 +26,7 @@ pub enum Outcome {
     NoTarget,
     Count,
     CountRefused,
-    Undecodable(Fault),
+    Undecodable(CodecFault),
     TooLong,
     Stored {
         p: usize,

@@ -47,16 +47,16 @@ endsFrom slots words zero p e = Upto e
 endsFrom slots words (suc n) p e =
     cond (eqb (typeAt slots p) 8) (endsFrom slots words n (suc p) (most e (endOf (entryOf (getD words p 0))))) Missing
 
-abbrev pub within : ℕ → Mapped → Answer
-within limit (Upto e) = cond (leb e limit) Done (Refused PdoMapOverrun)
-within limit Missing = Refused MissingEntries
+abbrev pub withinLimit : ℕ → Mapped → Answer
+withinLimit limit (Upto e) = cond (leb e limit) Done (Refused PdoMapOverrun)
+withinLimit limit Missing = Refused MissingEntries
 
 -- R9.2: "the object must be an Array"; "All of its first n elements must be there"
 unfoldable pub countOn : Dict → ℕ → ℕ → Found → Answer
 countOn d x n (At i) =
     cond (eqb (kindAt (d .objects) i) 1)
     (cond (leb n (countAt (d .objects) i))
-    (within (limitOf d x) (endsFrom (d .slots) (d .words) n (firstAt (d .objects) i) 0))
+    (withinLimit (limitOf d x) (endsFrom (d .slots) (d .words) n (firstAt (d .objects) i) 0))
     (Refused MissingEntries))
     (Refused ObjectNotFound)
 countOn d x n Nothing = Refused ObjectNotFound

@@ -6,7 +6,7 @@ ghost use Rattle.entry.specs.Table.{dict, numberOf};
 ghost use Rattle.entry.specs.Find.{Elements};
 ghost use Rattle.entry.specs.Judge.{wellFormed};
 ghost use Rattle.entry.specs.declared.Found.the-variants.{At};
-ghost use Rattle.pdo_validator.specs.Counting.{sends, isMapping, limitOf, endsFrom, within, countOn, countOf, validOf};
+ghost use Rattle.pdo_validator.specs.Counting.{sends, isMapping, limitOf, endsFrom, withinLimit, countOn, countOf, validOf};
 use answers::Answer;
 use answers::Refusal;
 use entry::Found;
@@ -68,7 +68,7 @@ pub fn ends(slots: &[u64], words: &[u64], n: usize, first: usize) -> Mapped
 }
 
 fn fits(limit: u64, ends: Mapped) -> Answer
-    ensures { λ r. ⌜ r ≡ within limit ends ⌝ }
+    ensures { λ r. ⌜ r ≡ withinLimit limit ends ⌝ }
 {
     match ends {
         Mapped::Missing => Answer::Refused(Refusal::MissingEntries),

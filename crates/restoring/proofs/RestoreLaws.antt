@@ -10,7 +10,7 @@ use Rattle.entry.specs.Judge.{wellFormed}
 use Rattle.entry.proofs.JudgeLaws.{and-true}
 use Rattle.entry.proofs.ApartLaws.{firsts-rise}
 use Rattle.fitting.specs.Fit.{slotIn, chosenAt, fitsRoom, valuesFit, inRange, rowsFit}
-use Rattle.restoring.specs.Restore.{restoredBy, valuesRestored, rowsRestored, after, restoreOf}
+use Rattle.restoring.specs.Restore.{restoredBy, valuesRestored, rowsRestored, afterRestore, restoreOf}
 use Rattle.answers.specs.declared.Refusal.the-variants.{TooLong}
 use Rattle.restoring.specs.declared.Restored.the-variants.{Done, Refused}
 use Rattle.restoring.proofs.OnlyLaws.{Only, only-same, only-more, only-then}
@@ -139,6 +139,6 @@ pub restore-keeps : (d : Dict) (s : List ℕ) (first last : ℕ) → wellFormed 
 unfolding restoreOf
 restore-keeps d s first last e b bs = rw e (go (rowsFit d s first last (numberOf (d .objects)) 0) refl)
   where
-    go : (a : Bool) → rowsFit d s first last (numberOf (d .objects)) 0 ≡ a → Kept (Touched (d .objects) first last) d (cond a (after Done (rowsRestored d s first last (numberOf (d .objects)) 0)) (after (Refused TooLong) d) .memory)
+    go : (a : Bool) → rowsFit d s first last (numberOf (d .objects)) 0 ≡ a → Kept (Touched (d .objects) first last) d (cond a (afterRestore Done (rowsRestored d s first last (numberOf (d .objects)) 0)) (afterRestore (Refused TooLong) d) .memory)
     go true q = rows-kept s bs first last (numberOf (d .objects)) 0 d (record { well = e; bytes = b; all = omega arith; fits = q })
     go false q = record { well = e; bytes = b; only = only-same (Touched (d .objects) first last) d }

@@ -36,21 +36,21 @@ rowsRestored d s first last (suc n) i =
     rowsRestored (cond (inRange first last (indexAt (d .objects) i)) (valuesRestored d s i (countAt (d .objects) i) 0) d) s first last n (suc i)
 
 -- ---- an answer, and the dictionary after it
-pub record After : Type 0 where
+pub record AfterRestore : Type 0 where
   pub answer : Restored
   pub memory : Dict
 
-abbrev pub after : Restored → Dict → After
-after a d = record { answer = a; memory = d }
+abbrev pub afterRestore : Restored → Dict → AfterRestore
+afterRestore a d = record { answer = a; memory = d }
 
 -- R10.8: "Malformed (1), TooLong (13)"; R10.10: "nothing is put"
-unfoldable pub restoreOf : Dict → List ℕ → ℕ → ℕ → After
+unfoldable pub restoreOf : Dict → List ℕ → ℕ → ℕ → AfterRestore
 restoreOf d s first last =
     cond (wellFormed d)
     (cond (rowsFit d s first last (numberOf (d .objects)) 0)
-    (after Done (rowsRestored d s first last (numberOf (d .objects)) 0))
-    (after (Refused TooLong) d))
-    (after (Refused Malformed) d)
+    (afterRestore Done (rowsRestored d s first last (numberOf (d .objects)) 0))
+    (afterRestore (Refused TooLong) d))
+    (afterRestore (Refused Malformed) d)
 
 -- what copying the default at slot q to value p needs
 pub record Copies (slots words bytes : List ℕ) (p q : ℕ) : Type 0 where

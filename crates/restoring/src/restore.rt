@@ -3,7 +3,7 @@ ghost use mathlib.Core.Path.{_≡_};
 ghost use mathlib.Core.Bool.{true};
 ghost use Rattle.entry.specs.Table.{dict};
 ghost use Rattle.entry.specs.Judge.{wellFormed};
-ghost use Rattle.restoring.specs.Restore.{after, restoreOf};
+ghost use Rattle.restoring.specs.Restore.{afterRestore, restoreOf};
 use crate::Restored;
 use crate::acting::restore_rows;
 use answers::Refusal;
@@ -21,7 +21,7 @@ pub fn restore_judged(
     last: u16,
 ) -> Restored
     requires { ⌜ wellFormed (dict (now objects) (now slots) (now words) (now bytes)) ≡ true ⌝ }
-    ensures { λ r. ⌜ after r (dict (now (objects .entry)) (now (slots .exit)) (now (words .exit)) (now (bytes .exit))) ≡ restoreOf (dict (now (objects .entry)) (now (slots .entry)) (now (words .entry)) (now (bytes .entry))) (now (store .entry)) first last ⌝ }
+    ensures { λ r. ⌜ afterRestore r (dict (now (objects .entry)) (now (slots .exit)) (now (words .exit)) (now (bytes .exit))) ≡ restoreOf (dict (now (objects .entry)) (now (slots .entry)) (now (words .entry)) (now (bytes .entry))) (now (store .entry)) first last ⌝ }
 {
     let n = records(store);
     if !rows_fit(objects, slots, words, bytes, store, n, first, last) {
@@ -41,7 +41,7 @@ pub fn restore_power_on_values(
     first: u16,
     last: u16,
 ) -> Restored
-    ensures { λ r. ⌜ after r (dict (now (objects .entry)) (now (slots .exit)) (now (words .exit)) (now (bytes .exit))) ≡ restoreOf (dict (now (objects .entry)) (now (slots .entry)) (now (words .entry)) (now (bytes .entry))) (now (store .entry)) first last ⌝ }
+    ensures { λ r. ⌜ afterRestore r (dict (now (objects .entry)) (now (slots .exit)) (now (words .exit)) (now (bytes .exit))) ≡ restoreOf (dict (now (objects .entry)) (now (slots .entry)) (now (words .entry)) (now (bytes .entry))) (now (store .entry)) first last ⌝ }
 {
     if !judge::well_formed(objects, slots, words, bytes) {
         return Restored::Refused(Refusal::Malformed);

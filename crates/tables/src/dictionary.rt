@@ -80,14 +80,14 @@ pub fn read_line(s: &[u8], at: usize, m: Memory) -> bool {
     let sub = sub_at(s, sub_index);
     match m.read(index, sub) {
         Stored::Is {
-            kind,
+            value_type,
             word,
             start: _,
         } => {
-            let kind_at = next(s, answer);
-            let word_at = next(s, kind_at);
+            let type_at = next(s, answer);
+            let word_at = next(s, type_at);
             (expected == 0)
-                & (kind == number(s, kind_at))
+                & (value_type == number(s, type_at))
                 & (word == number(s, word_at))
                 & read_part_is(s, next(s, word_at), m, index, sub)
         }

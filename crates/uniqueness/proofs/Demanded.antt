@@ -20,7 +20,7 @@ use Rattle.events.proofs.consume_by_value as by-value
 use Rattle.pdo_cycle.specs.declared.Cycle.{Cycle}
 use Rattle.pdo_cycle.specs.declared.Cycle.the-variants as cycles
 use Rattle.pdo_cycle.specs.Payloads.{payloadsIn}
-use Rattle.pdo_cycle.specs.Cycle.{After, after}
+use Rattle.pdo_cycle.specs.Cycle.{AfterCycle, afterCycle}
 use Rattle.pdo_cycle.proofs.consume_cycle.Reads as cycle
 use Rattle.pdo_cycle.proofs.consume_cycle.Kinds as cycle-kinds
 use Rattle.demand.specs.Demand.{putAll}
@@ -49,8 +49,8 @@ module _ (κs : Lfts (by-value.ended .signature .lifetimes)) (a : Args (by-value
       → Leaves (r .answer) (contents (now (e .1 .1 .0)) (now (e .1 .1 .1 .0))) (r .events) (putAll (frame (b .objects) (b .slots) (now (a .1 .1 .1 .1 .0)) (a .1 .1 .1 .1 .1 .0) 0) ws (contents (b .words) (b .bytes))) (a .1 .1 .1 .1 .1 .1 .1 .1 .0)
   by-value-demanded p ws c r e q = leaves (q ∙ c .is)
 
-cycle-leaves : {a : Cycle} {c : Contents} {l : List ℕ} {n : ℕ} {e : Contents} {es : List ℕ} → after a c l ≡ after (cycles.Done n 0) e es → CycleLeaves a c l n e es
-cycle-leaves q = record { done = ap (λ (x : After). x .answer) q; writes = ap (λ (x : After). x .contents) q; same = ap (λ (x : After). x .log) q }
+cycle-leaves : {a : Cycle} {c : Contents} {l : List ℕ} {n : ℕ} {e : Contents} {es : List ℕ} → afterCycle a c l ≡ afterCycle (cycles.Done n 0) e es → CycleLeaves a c l n e es
+cycle-leaves q = record { done = ap (λ (x : AfterCycle). x .answer) q; writes = ap (λ (x : AfterCycle). x .contents) q; same = ap (λ (x : AfterCycle). x .log) q }
 
 -- ---- consume_cycle, where its payloads are those that `Cycles` speaks of (`cycle-holds` of demand)
 module _ (κs : Lfts 7) (a : Dens κs cycle-kinds.ps) where

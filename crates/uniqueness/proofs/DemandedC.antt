@@ -38,7 +38,7 @@ module _ (κs : Lfts 7) (a : Dens κs c-consume-kinds.ps) where
   unfolding consumeNumbers
   c-consume-demanded p ws well room short o z e q =
       let c = written-consumed d (now (a .1 .1 .1 .1 .0)) (a .1 .1 .1 .1 .1 .0) (a .1 .1 .1 .1 .1 .1 .0) (not (eqb (a .1 .1 .1 .1 .1 .1 .1 .0) 0)) (length (now (a .1 .1 .1 .1 .1 .1 .1 .1 .0))) (now (a .1 .1 .1 .1 .1 .1 .1 .1 .0)) p ws well room short o in
-      let h = q ∙ ap (λ (x : consume.After). consumeNumbers x (now (a .1 .1 .1 .1 .1 .1 .1 .1 .1 .0))) c in
+      let h = q ∙ ap (λ (x : consume.AfterConsume). consumeNumbers x (now (a .1 .1 .1 .1 .1 .1 .1 .1 .1 .0))) c in
       record { done = ap (λ (x : Heard). x .answer) h; none = ap (λ (x : Heard). x .count) h; writes = ap (λ (x : Heard). x .contents) h; same = ap (λ (x : Heard). x .events) h }
 
 module _ (κs : Lfts 9) (a : Dens κs c-consume-cycle-kinds.ps) where
@@ -49,5 +49,5 @@ module _ (κs : Lfts 9) (a : Dens κs c-consume-cycle-kinds.ps) where
       → CycleLeavesC z (now (e .1 .1 .1 .1 .1 .1 .1 .0)) (now (e .1 .1 .1 .1 .1 .1 .1 .1 .0)) (contents (now (e .1 .1 .0)) (now (e .1 .1 .1 .0))) (now (e .1 .1 .1 .1 .1 .1 .0)) (payloadsIn (now (a .1 .1 .1 .1 .1 .0))) (contentsFrom (deliveryOf m (now (a .1 .1 .1 .1 .0)) (now (a .1 .1 .1 .1 .1 .0))) 0 (payloadsIn (now (a .1 .1 .1 .1 .1 .0))) (contents (m .words) (m .bytes))) (now (a .1 .1 .1 .1 .1 .1 .0))
   unfolding cycleNumbers
   c-cycle-demanded c z e q =
-      let h = q ∙ ap (λ (x : cycle.After). cycleNumbers x (now (a .1 .1 .1 .1 .1 .1 .1 .0)) (now (a .1 .1 .1 .1 .1 .1 .1 .1 .0))) (c .is) in
+      let h = q ∙ ap (λ (x : cycle.AfterCycle). cycleNumbers x (now (a .1 .1 .1 .1 .1 .1 .1 .0)) (now (a .1 .1 .1 .1 .1 .1 .1 .1 .0))) (c .is) in
       record { done = ap (λ (x : Heard). x .answer) h; all = ap (λ (x : Heard). x .consumed) h; none = ap (λ (x : Heard). x .count) h; writes = ap (λ (x : Heard). x .contents) h; same = ap (λ (x : Heard). x .events) h }

@@ -23,7 +23,7 @@ use Rattle.insertion.specs.Insert.{answerOf, memoryOf}
 use Rattle.od.specs.New.{Made, made, newOf}
 use Rattle.nodes.specs.declared.Listed.{Listed}
 use Rattle.nodes.specs.declared.Listed.the-variants as listing
-use Rattle.nodes.specs.Nodes.{nodesOf, Given, given, cnsOf}
+use Rattle.nodes.specs.Nodes.{nodesOf, AfterListing, afterListing, cnsOf}
 use Rattle.counter.specs.Counter as counter
 use Rattle.counter.specs.Counter.{counterOf}
 use Rattle.commands.specs.declared.Saved.the-variants as saved
@@ -78,78 +78,78 @@ new-refused objects = join (ltb (length objects) 12) _ _ (λ r e. ap same e) (λ
 pub insert-refused : (h : Head) (name vals encodings : List ℕ) (d : Dict) (r : Refusal) → answerOf h name vals encodings d ≡ inserting.Refused r → memoryOf h name vals encodings d ≡ d
 insert-refused h name vals encodings d r e = rw e
 
-pub counter-refused : (d : Dict) (x sub : ℕ) → Refuses counter.Counted Answer (λ y. y .answer) answer.Refused (λ a. counter.after a (d .words)) (counterOf d x sub)
+pub counter-refused : (d : Dict) (x sub : ℕ) → Refuses counter.AfterIncrement Answer (λ y. y .answer) answer.Refused (λ a. counter.afterIncrement a (d .words)) (counterOf d x sub)
 unfolding counterOf
 counter-refused d x sub = join (wellFormed d) _ _ (λ r (e : answer.Done ≡ answer.Refused r). let z : _≡_ {A = ℕ} 0 1 = cc in absurd (omega arith)) (λ r e. ap same e)
   where
-    same : Answer → counter.Counted
-    same a = counter.after a (d .words)
+    same : Answer → counter.AfterIncrement
+    same a = counter.afterIncrement a (d .words)
 
-    join : (b : Bool) (x y : counter.Counted) → Refuses counter.Counted Answer (λ y. y .answer) answer.Refused same x → Refuses counter.Counted Answer (λ y. y .answer) answer.Refused same y → Refuses counter.Counted Answer (λ y. y .answer) answer.Refused same (cond b x y)
-    join = either (λ (y : counter.Counted). y .answer) answer.Refused same
+    join : (b : Bool) (x y : counter.AfterIncrement) → Refuses counter.AfterIncrement Answer (λ y. y .answer) answer.Refused same x → Refuses counter.AfterIncrement Answer (λ y. y .answer) answer.Refused same y → Refuses counter.AfterIncrement Answer (λ y. y .answer) answer.Refused same (cond b x y)
+    join = either (λ (y : counter.AfterIncrement). y .answer) answer.Refused same
 
-pub update-refused : (d : Dict) (x n : ℕ) → Refuses errors.After Answer (λ y. y .answer) answer.Refused (λ a. errors.after a (d .bytes)) (updateOf d x n)
+pub update-refused : (d : Dict) (x n : ℕ) → Refuses errors.AfterUpdate Answer (λ y. y .answer) answer.Refused (λ a. errors.afterUpdate a (d .bytes)) (updateOf d x n)
 unfolding updateOf
 update-refused d x n = join (wellFormed d) _ _ (λ r (e : answer.Done ≡ answer.Refused r). let z : _≡_ {A = ℕ} 0 1 = cc in absurd (omega arith)) (λ r e. ap same e)
   where
-    same : Answer → errors.After
-    same a = errors.after a (d .bytes)
+    same : Answer → errors.AfterUpdate
+    same a = errors.afterUpdate a (d .bytes)
 
-    join : (b : Bool) (x y : errors.After) → Refuses errors.After Answer (λ y. y .answer) answer.Refused same x → Refuses errors.After Answer (λ y. y .answer) answer.Refused same y → Refuses errors.After Answer (λ y. y .answer) answer.Refused same (cond b x y)
-    join = either (λ (y : errors.After). y .answer) answer.Refused same
+    join : (b : Bool) (x y : errors.AfterUpdate) → Refuses errors.AfterUpdate Answer (λ y. y .answer) answer.Refused same x → Refuses errors.AfterUpdate Answer (λ y. y .answer) answer.Refused same y → Refuses errors.AfterUpdate Answer (λ y. y .answer) answer.Refused same (cond b x y)
+    join = either (λ (y : errors.AfterUpdate). y .answer) answer.Refused same
 
-pub cns-refused : (d : Dict) (out : List ℕ) → Refuses Given Listed (λ y. y .answer) listing.Refused (λ a. given a out) (cnsOf d out)
+pub cns-refused : (d : Dict) (out : List ℕ) → Refuses AfterListing Listed (λ y. y .answer) listing.Refused (λ a. afterListing a out) (cnsOf d out)
 unfolding cnsOf
 cns-refused d out = join (wellFormed d) _ _ (join (ltb (length out) (length (nodesOf d))) _ _ (λ r e. ap same e) (λ r (e : listing.Numbers (length (nodesOf d)) ≡ listing.Refused r). let z : _≡_ {A = ℕ} 0 1 = cc in absurd (omega arith))) (λ r e. ap same e)
   where
-    same : Listed → Given
-    same a = given a out
+    same : Listed → AfterListing
+    same a = afterListing a out
 
-    join : (b : Bool) (x y : Given) → Refuses Given Listed (λ y. y .answer) listing.Refused same x → Refuses Given Listed (λ y. y .answer) listing.Refused same y → Refuses Given Listed (λ y. y .answer) listing.Refused same (cond b x y)
-    join = either (λ (y : Given). y .answer) listing.Refused same
+    join : (b : Bool) (x y : AfterListing) → Refuses AfterListing Listed (λ y. y .answer) listing.Refused same x → Refuses AfterListing Listed (λ y. y .answer) listing.Refused same y → Refuses AfterListing Listed (λ y. y .answer) listing.Refused same (cond b x y)
+    join = either (λ (y : AfterListing). y .answer) listing.Refused same
 
 -- ---- writing and restoring
-pub write-refused : (d : Dict) (store : List ℕ) (x sub t : ℕ) (s : List ℕ) → Refuses writing.After Wrote (λ y. y .answer) wrote.Refused (λ a. writing.after a (d .words) (d .bytes) store) (writeOf d store x sub t s)
-unfolding writeOf writing.actOf saveOf
+pub write-refused : (d : Dict) (store : List ℕ) (x sub t : ℕ) (s : List ℕ) → Refuses writing.AfterWrite Wrote (λ y. y .answer) wrote.Refused (λ a. writing.afterWrite a (d .words) (d .bytes) store) (writeOf d store x sub t s)
+unfolding writeOf writing.writeActOf saveOf
 write-refused d store x sub t s = join (wellFormed d) _ _ (act (judgeOf d (length store) x sub t s)) (λ r e. ap same e)
   where
-    same : Wrote → writing.After
-    same a = writing.after a (d .words) (d .bytes) store
+    same : Wrote → writing.AfterWrite
+    same a = writing.afterWrite a (d .words) (d .bytes) store
 
-    join : (b : Bool) (x y : writing.After) → Refuses writing.After Wrote (λ y. y .answer) wrote.Refused same x → Refuses writing.After Wrote (λ y. y .answer) wrote.Refused same y → Refuses writing.After Wrote (λ y. y .answer) wrote.Refused same (cond b x y)
-    join = either (λ (y : writing.After). y .answer) wrote.Refused same
+    join : (b : Bool) (x y : writing.AfterWrite) → Refuses writing.AfterWrite Wrote (λ y. y .answer) wrote.Refused same x → Refuses writing.AfterWrite Wrote (λ y. y .answer) wrote.Refused same y → Refuses writing.AfterWrite Wrote (λ y. y .answer) wrote.Refused same (cond b x y)
+    join = either (λ (y : writing.AfterWrite). y .answer) wrote.Refused same
 
-    saving : (b : Bool) (st : List ℕ) → Refuses writing.After Wrote (λ y. y .answer) wrote.Refused same (let y = cond b (commands.after saved.Done st) (commands.after (saved.Refused refusal.StoreFull) store) in writing.after (writing.savedAs (y .answer)) (d .words) (d .bytes) (y .store))
+    saving : (b : Bool) (st : List ℕ) → Refuses writing.AfterWrite Wrote (λ y. y .answer) wrote.Refused same (let y = cond b (commands.afterSave saved.Done st) (commands.afterSave (saved.Refused refusal.StoreFull) store) in writing.afterWrite (writing.savedAs (y .answer)) (d .words) (d .bytes) (y .store))
     saving true st = (λ r (e : wrote.Done ≡ wrote.Refused r). let z : _≡_ {A = ℕ} 0 1 = cc in absurd (omega arith))
     saving false st = λ r e. ap same e
 
-    act : (j : Judged) → Refuses writing.After Wrote (λ y. y .answer) wrote.Refused same (writing.actOf d store sub s j)
+    act : (j : Judged) → Refuses writing.AfterWrite Wrote (λ y. y .answer) wrote.Refused same (writing.writeActOf d store sub s j)
     act (judged.Put p) = (λ r (e : wrote.Done ≡ wrote.Refused r). let z : _≡_ {A = ℕ} 0 1 = cc in absurd (omega arith))
-    act judged.Kept = (λ r (e : wrote.Done ≡ wrote.Refused r). let z : _≡_ {A = ℕ} 0 1 = cc in absurd (omega arith))
+    act judged.Accepted = (λ r (e : wrote.Done ≡ wrote.Refused r). let z : _≡_ {A = ℕ} 0 1 = cc in absurd (omega arith))
     act judged.Save = saving (fits (newTable d sub store) store) _
     act judged.Restore = (λ r (e : wrote.RestoreRequested ≡ wrote.Refused r). let z : _≡_ {A = ℕ} 0 1 = cc in absurd (omega arith))
     act (judged.Refused q) = λ r e. ap same e
 
-pub restore-refused : (d : Dict) (s : List ℕ) (first last : ℕ) → Refuses restoring.After Restored (λ y. y .answer) restored.Refused (λ a. restoring.after a d) (restoreOf d s first last)
+pub restore-refused : (d : Dict) (s : List ℕ) (first last : ℕ) → Refuses restoring.AfterRestore Restored (λ y. y .answer) restored.Refused (λ a. restoring.afterRestore a d) (restoreOf d s first last)
 unfolding restoreOf
 restore-refused d s first last = join (wellFormed d) _ _ (join (rowsFit d s first last (numberOf (d .objects)) 0) _ _ (λ r (e : restored.Done ≡ restored.Refused r). let z : _≡_ {A = ℕ} 0 1 = cc in absurd (omega arith)) (λ r e. ap same e)) (λ r e. ap same e)
   where
-    same : Restored → restoring.After
-    same a = restoring.after a d
+    same : Restored → restoring.AfterRestore
+    same a = restoring.afterRestore a d
 
-    join : (b : Bool) (x y : restoring.After) → Refuses restoring.After Restored (λ y. y .answer) restored.Refused same x → Refuses restoring.After Restored (λ y. y .answer) restored.Refused same y → Refuses restoring.After Restored (λ y. y .answer) restored.Refused same (cond b x y)
-    join = either (λ (y : restoring.After). y .answer) restored.Refused same
+    join : (b : Bool) (x y : restoring.AfterRestore) → Refuses restoring.AfterRestore Restored (λ y. y .answer) restored.Refused same x → Refuses restoring.AfterRestore Restored (λ y. y .answer) restored.Refused same y → Refuses restoring.AfterRestore Restored (λ y. y .answer) restored.Refused same (cond b x y)
+    join = either (λ (y : restoring.AfterRestore). y .answer) restored.Refused same
 
 -- ---- consuming
-pub consume-refused : (d : Dict) (payload : List ℕ) (sender version : ℕ) (ready : Bool) (room : ℕ) (log : List ℕ) → Refuses consume.After Consumed (λ y. y .answer) consumed.Refused (λ a. consume.after a (contents (d .words) (d .bytes)) log) (consumeOf d payload sender version ready room log)
+pub consume-refused : (d : Dict) (payload : List ℕ) (sender version : ℕ) (ready : Bool) (room : ℕ) (log : List ℕ) → Refuses consume.AfterConsume Consumed (λ y. y .answer) consumed.Refused (λ a. consume.afterConsume a (contents (d .words) (d .bytes)) log) (consumeOf d payload sender version ready room log)
 unfolding consumeOf
 consume-refused d payload sender version ready room log = join (wellFormed d) _ _ (join (ltb room 254) _ _ (λ r e. ap same e) (join (ltb 1490 (length payload)) _ _ (λ r e. ap same e) (λ r e. done e))) (λ r e. ap same e)
   where
-    same : Consumed → consume.After
-    same a = consume.after a (contents (d .words) (d .bytes)) log
+    same : Consumed → consume.AfterConsume
+    same a = consume.afterConsume a (contents (d .words) (d .bytes)) log
 
-    join : (b : Bool) (x y : consume.After) → Refuses consume.After Consumed (λ y. y .answer) consumed.Refused same x → Refuses consume.After Consumed (λ y. y .answer) consumed.Refused same y → Refuses consume.After Consumed (λ y. y .answer) consumed.Refused same (cond b x y)
-    join = either (λ (y : consume.After). y .answer) consumed.Refused same
+    join : (b : Bool) (x y : consume.AfterConsume) → Refuses consume.AfterConsume Consumed (λ y. y .answer) consumed.Refused same x → Refuses consume.AfterConsume Consumed (λ y. y .answer) consumed.Refused same y → Refuses consume.AfterConsume Consumed (λ y. y .answer) consumed.Refused same (cond b x y)
+    join = either (λ (y : consume.AfterConsume). y .answer) consumed.Refused same
 
     done : {A : Type 0} {n : ℕ} {r : Refusal} → consumed.Done n ≡ consumed.Refused r → A
     done e = let z : _≡_ {A = ℕ} 0 1 = cc in absurd (omega arith)
@@ -157,44 +157,44 @@ consume-refused d payload sender version ready room log = join (wellFormed d) _ 
 pub received-refused : (d : Dict) (payload : List ℕ) (sender version : ℕ) (ready : Bool) (es : List EventRecord)
     → Refuses Received Consumed (λ y. y .answer) consumed.Refused (λ a. received a (contents (d .words) (d .bytes)) es) (receivedOf d payload sender version ready es)
 unfolding receivedOf
-received-refused d payload sender version ready es r e = ap (λ (a : consume.After). listed a es) (consume-refused d payload sender version ready (length es) (replicate 254 0) r e)
+received-refused d payload sender version ready es r e = ap (λ (a : consume.AfterConsume). listed a es) (consume-refused d payload sender version ready (length es) (replicate 254 0) r e)
 
-pub cycle-refused : (d : Dict) (delivered ps log : List ℕ) → Refuses cycle.After Cycle (λ y. y .answer) cycles.Refused (λ a. cycle.after a (contents (d .words) (d .bytes)) log) (cycleOf d delivered ps log)
+pub cycle-refused : (d : Dict) (delivered ps log : List ℕ) → Refuses cycle.AfterCycle Cycle (λ y. y .answer) cycles.Refused (λ a. cycle.afterCycle a (contents (d .words) (d .bytes)) log) (cycleOf d delivered ps log)
 unfolding cycleOf
 cycle-refused d delivered ps log = join (wellFormed d) _ _ (join (areShaped ps && arePlaced (length delivered) ps) _ _ (join (areShort ps) _ _ (λ r e. done e) (λ r e. ap same e)) (λ r e. ap same e)) (λ r e. ap same e)
   where
-    same : Cycle → cycle.After
-    same a = cycle.after a (contents (d .words) (d .bytes)) log
+    same : Cycle → cycle.AfterCycle
+    same a = cycle.afterCycle a (contents (d .words) (d .bytes)) log
 
-    join : (b : Bool) (x y : cycle.After) → Refuses cycle.After Cycle (λ y. y .answer) cycles.Refused same x → Refuses cycle.After Cycle (λ y. y .answer) cycles.Refused same y → Refuses cycle.After Cycle (λ y. y .answer) cycles.Refused same (cond b x y)
-    join = either (λ (y : cycle.After). y .answer) cycles.Refused same
+    join : (b : Bool) (x y : cycle.AfterCycle) → Refuses cycle.AfterCycle Cycle (λ y. y .answer) cycles.Refused same x → Refuses cycle.AfterCycle Cycle (λ y. y .answer) cycles.Refused same y → Refuses cycle.AfterCycle Cycle (λ y. y .answer) cycles.Refused same (cond b x y)
+    join = either (λ (y : cycle.AfterCycle). y .answer) cycles.Refused same
 
     done : {A : Type 0} {n m : ℕ} {r : Refusal} → cycles.Done n m ≡ cycles.Refused r → A
     done e = let z : _≡_ {A = ℕ} 0 1 = cc in absurd (omega arith)
 
 -- ---- what is only laid into a lent list
-pub check-all-refused : (d : Dict) (out : List ℕ) → Refuses checking.After CheckedAll (λ y. y .answer) checked.Refused (λ a. checking.after a out) (checkAllOf d out)
+pub check-all-refused : (d : Dict) (out : List ℕ) → Refuses checking.AfterCheckAll CheckedAll (λ y. y .answer) checked.Refused (λ a. checking.afterCheckAll a out) (checkAllOf d out)
 unfolding checkAllOf
 check-all-refused d out = join (wellFormed d) _ _ (join (ltb (length out) 768) _ _ (λ r e. ap same e) (λ r e. done e)) (λ r e. ap same e)
   where
-    same : CheckedAll → checking.After
-    same a = checking.after a out
+    same : CheckedAll → checking.AfterCheckAll
+    same a = checking.afterCheckAll a out
 
-    join : (b : Bool) (x y : checking.After) → Refuses checking.After CheckedAll (λ y. y .answer) checked.Refused same x → Refuses checking.After CheckedAll (λ y. y .answer) checked.Refused same y → Refuses checking.After CheckedAll (λ y. y .answer) checked.Refused same (cond b x y)
-    join = either (λ (y : checking.After). y .answer) checked.Refused same
+    join : (b : Bool) (x y : checking.AfterCheckAll) → Refuses checking.AfterCheckAll CheckedAll (λ y. y .answer) checked.Refused same x → Refuses checking.AfterCheckAll CheckedAll (λ y. y .answer) checked.Refused same y → Refuses checking.AfterCheckAll CheckedAll (λ y. y .answer) checked.Refused same (cond b x y)
+    join = either (λ (y : checking.AfterCheckAll). y .answer) checked.Refused same
 
     done : {A : Type 0} {n : ℕ} {r : Refusal} → checked.Done n ≡ checked.Refused r → A
     done e = let z : _≡_ {A = ℕ} 0 1 = cc in absurd (omega arith)
 
-pub encode-refused : (t w : ℕ) (part out : List ℕ) → Refuses codec.After Encoded (λ y. y .answer) encoded.Refused (λ a. codec.after a out) (encodeOf t w part out)
+pub encode-refused : (t w : ℕ) (part out : List ℕ) → Refuses codec.AfterEncode Encoded (λ y. y .answer) encoded.Refused (λ a. codec.afterEncode a out) (encodeOf t w part out)
 unfolding encodeOf
 encode-refused t w part out = join (sayable t w part) _ _ (join (ltb (length out) (length (encoding t w part))) _ _ (λ r e. ap same e) (λ r e. done e)) (λ r e. ap same e)
   where
-    same : Encoded → codec.After
-    same a = codec.after a out
+    same : Encoded → codec.AfterEncode
+    same a = codec.afterEncode a out
 
-    join : (b : Bool) (x y : codec.After) → Refuses codec.After Encoded (λ y. y .answer) encoded.Refused same x → Refuses codec.After Encoded (λ y. y .answer) encoded.Refused same y → Refuses codec.After Encoded (λ y. y .answer) encoded.Refused same (cond b x y)
-    join = either (λ (y : codec.After). y .answer) encoded.Refused same
+    join : (b : Bool) (x y : codec.AfterEncode) → Refuses codec.AfterEncode Encoded (λ y. y .answer) encoded.Refused same x → Refuses codec.AfterEncode Encoded (λ y. y .answer) encoded.Refused same y → Refuses codec.AfterEncode Encoded (λ y. y .answer) encoded.Refused same (cond b x y)
+    join = either (λ (y : codec.AfterEncode). y .answer) encoded.Refused same
 
     done : {A : Type 0} {n : ℕ} {r : Refusal} → encoded.Wrote n ≡ encoded.Refused r → A
     done e = let z : _≡_ {A = ℕ} 0 1 = cc in absurd (omega arith)

@@ -10,7 +10,7 @@ use lib.ListN.{length}
 use Rattle.answers.specs.declared.Answer.{Answer}
 use Rattle.answers.specs.declared.Answer.the-variants as answer
 use Rattle.lists.specs.Lists.{over}
-use Rattle.answers.specs.Numbers.{numberOf}
+use Rattle.answers.specs.Numbers.{refusalNumber}
 use Rattle.answers.specs.declared.Refusal.{Refusal}
 use Rattle.answers.specs.declared.Refusal.the-variants.{Malformed, BadValue, ObjectNotFound, SubObjectNotFound, TypeMismatch, ReadOnly, BadSignature, NoStorage, CountNotWritable, MissingEntries, PdoMapOverrun, BufferTooShort, TooLong, PayloadTooLong, NoEventRoom, Occupied, Full, StoreFull}
 use Rattle.value.specs.declared.Decoded.{Decoded}
@@ -37,8 +37,8 @@ use Rattle.names.specs.declared.ByName.the-variants as byName
 use Rattle.names.specs.Names.{byNameOf}
 use Rattle.nodes.specs.declared.Listed.{Listed}
 use Rattle.nodes.specs.declared.Listed.the-variants as listing
-use Rattle.nodes.specs.Nodes.{Given, cnsOf}
-use Rattle.counter.specs.Counter.{Counted, counterOf}
+use Rattle.nodes.specs.Nodes.{AfterListing, cnsOf}
+use Rattle.counter.specs.Counter.{AfterIncrement, counterOf}
 use Rattle.writing.specs.declared.Wrote.{Wrote}
 use Rattle.writing.specs.declared.Wrote.the-variants as wrote
 use Rattle.writing.specs.Writing as writing
@@ -71,7 +71,7 @@ use Rattle.channel.specs.Check.{checkOf}
 use Rattle.channel.specs.All as checking
 use Rattle.channel.specs.All.{checkAllOf}
 use Rattle.c_answers.specs.Answers.{answerNumber, Told, told, Lent, lent, results, Written, wrote}
-use Rattle.c_codec.specs.Codec.{given, decodedNumbers, decodeNumbers, encodedNumbers, encodeNumbers, entryNumbers}
+use Rattle.c_codec.specs.Codec.{valueNumbers, decodedNumbers, decodeNumbers, encodedNumbers, encodeNumbers, entryNumbers}
 use Rattle.c_dictionary.specs.Dictionary.{insertedNumber, storedNumbers, readNumbers, numberTold, typedTold, nameTold, namedTold, listedNumbers, nodeNumbers}
 use Rattle.c_storing.specs.Storing.{wroteNumber, restoredNumber}
 use Rattle.c_receiving.specs.Receiving.{Heard, heard, consumeNumbers, cycleNumbers}
@@ -80,7 +80,7 @@ use Rattle.uniqueness.specs.Refusing.{Refuses}
 use Rattle.uniqueness.proofs.Refused.{new-refused, insert-refused, counter-refused, update-refused, cns-refused, write-refused, restore-refused, consume-refused, cycle-refused, check-all-refused, encode-refused}
 
 -- ---- a refusal's number is no other answer's
-range : (r : Refusal) → (0 < numberOf r) × (numberOf r < 19)
+range : (r : Refusal) → (0 < refusalNumber r) × (refusalNumber r < 19)
 range Malformed = (omega arith, omega arith)
 range BadValue = (omega arith, omega arith)
 range ObjectNotFound = (omega arith, omega arith)
@@ -100,29 +100,29 @@ range Occupied = (omega arith, omega arith)
 range Full = (omega arith, omega arith)
 range StoreFull = (omega arith, omega arith)
 
-no-refusal : {A : Type 0} (r : Refusal) → 0 ≡ numberOf r → A
+no-refusal : {A : Type 0} (r : Refusal) → 0 ≡ refusalNumber r → A
 no-refusal r e = absurd (omega (arith, e, range r .0))
 
 -- ---- what is laid into lent numbers
 abbrev RefusedLent : List ℕ → Lent → Type 0
-RefusedLent ns = Refuses Lent ℕ (λ y. y .answer) numberOf (λ a. lent a ns)
+RefusedLent ns = Refuses Lent ℕ (λ y. y .answer) refusalNumber (λ a. lent a ns)
 
 abbrev RefusedTold : ℕ → Told → Type 0
-RefusedTold m = Refuses Told ℕ (λ y. y .answer) numberOf (λ a. told a m)
+RefusedTold m = Refuses Told ℕ (λ y. y .answer) refusalNumber (λ a. told a m)
 
 abbrev RefusedWritten : List ℕ → ℕ → Written → Type 0
-RefusedWritten out m = Refuses Written ℕ (λ y. y .answer) numberOf (λ a. wrote a out m)
+RefusedWritten out m = Refuses Written ℕ (λ y. y .answer) refusalNumber (λ a. wrote a out m)
 
 results-refused : (rs ns : List ℕ) → RefusedLent ns (results rs ns)
 results-refused rs ns = go (ltb (length ns) (length rs))
   where
-    go : (b : Bool) → RefusedLent ns (cond b (lent (numberOf BufferTooShort) ns) (lent 0 (over ns 0 rs)))
+    go : (b : Bool) → RefusedLent ns (cond b (lent (refusalNumber BufferTooShort) ns) (lent 0 (over ns 0 rs)))
     go true r e = ap (λ a. lent a ns) e
     go false r e = no-refusal r e
 
 -- ---- values and mapping words
 pub c-decode-refused : (t : ℕ) (s ns : List ℕ) → RefusedLent ns (decodeNumbers t s ns)
-unfolding decodeNumbers given
+unfolding decodeNumbers valueNumbers
 c-decode-refused t s ns = go (decodeOf t s)
   where
     go : (x : Decoded) → RefusedLent ns (decodedNumbers x ns)
@@ -136,23 +136,23 @@ c-encode-refused t w part out m = go (encodeOf t w part out .answer) refl
   where
     go : (x : Encoded) → encodeOf t w part out .answer ≡ x → RefusedWritten out m (encodedNumbers x (encodeOf t w part out .out) m)
     go (encoded.Wrote n) q r e = no-refusal r e
-    go (encoded.Refused k) q r e = rw (ap (λ (y : codec.After). y .out) (encode-refused t w part out k q)) (ap (λ a. wrote a out m) e)
+    go (encoded.Refused k) q r e = rw (ap (λ (y : codec.AfterEncode). y .out) (encode-refused t w part out k q)) (ap (λ a. wrote a out m) e)
 
 pub c-from-u64-refused : (word : ℕ) (ns : List ℕ) → RefusedLent ns (results (entryNumbers word) ns)
 c-from-u64-refused word ns = results-refused (entryNumbers word) ns
 
 -- ---- the dictionary
-refused-answer : (a : Answer) (r : Refusal) → answerNumber a ≡ numberOf r → (k : Refusal) × (a ≡ answer.Refused k)
+refused-answer : (a : Answer) (r : Refusal) → answerNumber a ≡ refusalNumber r → (k : Refusal) × (a ≡ answer.Refused k)
 refused-answer answer.Done r e = no-refusal r e
 refused-answer (answer.Refused k) r e = (k, refl)
 
-pub c-new-refused : (objects : List ℕ) (r : Refusal) → answerNumber (newOf objects .answer) ≡ numberOf r → newOf objects .objects ≡ objects
+pub c-new-refused : (objects : List ℕ) (r : Refusal) → answerNumber (newOf objects .answer) ≡ refusalNumber r → newOf objects .objects ≡ objects
 c-new-refused objects r e = let k = refused-answer (newOf objects .answer) r e in ap (λ (y : Made). y .objects) (new-refused objects (k .0) (k .1))
 
-pub c-insert-refused : (h : Head) (name vals encodings : List ℕ) (d : Dict) (r : Refusal) → insertedNumber (answerOf h name vals encodings d) ≡ numberOf r → memoryOf h name vals encodings d ≡ d
+pub c-insert-refused : (h : Head) (name vals encodings : List ℕ) (d : Dict) (r : Refusal) → insertedNumber (answerOf h name vals encodings d) ≡ refusalNumber r → memoryOf h name vals encodings d ≡ d
 c-insert-refused h name vals encodings d r e = go (answerOf h name vals encodings d) refl e
   where
-    go : (a : Inserted) → answerOf h name vals encodings d ≡ a → insertedNumber a ≡ numberOf r → memoryOf h name vals encodings d ≡ d
+    go : (a : Inserted) → answerOf h name vals encodings d ≡ a → insertedNumber a ≡ refusalNumber r → memoryOf h name vals encodings d ≡ d
     go inserted.Done q e = no-refusal r e
     go (inserted.Refused k) q e = insert-refused h name vals encodings d k q
 
@@ -187,32 +187,32 @@ c-get-configured-cns-refused d out m = go (cnsOf d out .answer) refl
   where
     go : (a : Listed) → cnsOf d out .answer ≡ a → RefusedWritten out m (listedNumbers a (cnsOf d out .out) m)
     go (listing.Numbers n) q r e = no-refusal r e
-    go (listing.Refused k) q r e = rw (ap (λ (y : Given). y .out) (cns-refused d out k q)) (ap (λ a. wrote a out m) e)
+    go (listing.Refused k) q r e = rw (ap (λ (y : AfterListing). y .out) (cns-refused d out k q)) (ap (λ a. wrote a out m) e)
 
-pub c-increment-counter-refused : (d : Dict) (x sub : ℕ) (r : Refusal) → answerNumber (counterOf d x sub .answer) ≡ numberOf r → counterOf d x sub .words ≡ d .words
-c-increment-counter-refused d x sub r e = let k = refused-answer (counterOf d x sub .answer) r e in ap (λ (y : Counted). y .words) (counter-refused d x sub (k .0) (k .1))
+pub c-increment-counter-refused : (d : Dict) (x sub : ℕ) (r : Refusal) → answerNumber (counterOf d x sub .answer) ≡ refusalNumber r → counterOf d x sub .words ≡ d .words
+c-increment-counter-refused d x sub r e = let k = refused-answer (counterOf d x sub .answer) r e in ap (λ (y : AfterIncrement). y .words) (counter-refused d x sub (k .0) (k .1))
 
 -- ---- writing and restoring
-pub c-write-refused : (d : Dict) (store : List ℕ) (x sub t : ℕ) (s : List ℕ) (r : Refusal) → let y = writeOf d store x sub t s in wroteNumber (y .answer) ≡ numberOf r → (y .words ≡ d .words) × (y .bytes ≡ d .bytes) × (y .store ≡ store)
+pub c-write-refused : (d : Dict) (store : List ℕ) (x sub t : ℕ) (s : List ℕ) (r : Refusal) → let y = writeOf d store x sub t s in wroteNumber (y .answer) ≡ refusalNumber r → (y .words ≡ d .words) × (y .bytes ≡ d .bytes) × (y .store ≡ store)
 c-write-refused d store x sub t s r e = go (writeOf d store x sub t s .answer) refl e
   where
-    go : (a : Wrote) → writeOf d store x sub t s .answer ≡ a → wroteNumber a ≡ numberOf r → (writeOf d store x sub t s .words ≡ d .words) × (writeOf d store x sub t s .bytes ≡ d .bytes) × (writeOf d store x sub t s .store ≡ store)
+    go : (a : Wrote) → writeOf d store x sub t s .answer ≡ a → wroteNumber a ≡ refusalNumber r → (writeOf d store x sub t s .words ≡ d .words) × (writeOf d store x sub t s .bytes ≡ d .bytes) × (writeOf d store x sub t s .store ≡ store)
     go wrote.Done q e = no-refusal r e
     go wrote.RestoreRequested q e = absurd (omega (arith, e, range r .1))
     go (wrote.Refused k) q e =
         let h = write-refused d store x sub t s k q in
-        (ap (λ (y : writing.After). y .words) h, ap (λ (y : writing.After). y .bytes) h, ap (λ (y : writing.After). y .store) h)
+        (ap (λ (y : writing.AfterWrite). y .words) h, ap (λ (y : writing.AfterWrite). y .bytes) h, ap (λ (y : writing.AfterWrite). y .store) h)
 
-pub c-restore-refused : (d : Dict) (s : List ℕ) (first last : ℕ) (r : Refusal) → restoredNumber (restoreOf d s first last .answer) ≡ numberOf r → restoreOf d s first last .memory ≡ d
+pub c-restore-refused : (d : Dict) (s : List ℕ) (first last : ℕ) (r : Refusal) → restoredNumber (restoreOf d s first last .answer) ≡ refusalNumber r → restoreOf d s first last .memory ≡ d
 c-restore-refused d s first last r e = go (restoreOf d s first last .answer) refl e
   where
-    go : (a : Restored) → restoreOf d s first last .answer ≡ a → restoredNumber a ≡ numberOf r → restoreOf d s first last .memory ≡ d
+    go : (a : Restored) → restoreOf d s first last .answer ≡ a → restoredNumber a ≡ refusalNumber r → restoreOf d s first last .memory ≡ d
     go restored.Done q e = no-refusal r e
-    go (restored.Refused k) q e = ap (λ (y : restoring.After). y .memory) (restore-refused d s first last k q)
+    go (restored.Refused k) q e = ap (λ (y : restoring.AfterRestore). y .memory) (restore-refused d s first last k q)
 
 -- ---- payloads and error bits
 abbrev RefusedHeard : Contents → List ℕ → ℕ → ℕ → Heard → Type 0
-RefusedHeard c es i m = Refuses Heard ℕ (λ y. y .answer) numberOf (λ a. heard a c es i m)
+RefusedHeard c es i m = Refuses Heard ℕ (λ y. y .answer) refusalNumber (λ a. heard a c es i m)
 
 pub c-consume-refused : (d : Dict) (payload : List ℕ) (sender version : ℕ) (ready : Bool) (log : List ℕ) (m : ℕ)
     → RefusedHeard (contents (d .words) (d .bytes)) log 0 m (consumeNumbers (consumeOf d payload sender version ready (length log) log) m)
@@ -222,12 +222,12 @@ c-consume-refused d payload sender version ready log m r e = go (x .answer) refl
     c : Contents
     c = contents (d .words) (d .bytes)
 
-    x : consume.After
+    x : consume.AfterConsume
     x = consumeOf d payload sender version ready (length log) log
 
-    go : (a : Consumed) → x .answer ≡ a → consumeNumbers (consume.after a c log) m .answer ≡ numberOf r → consumeNumbers x m ≡ heard (numberOf r) c log 0 m
+    go : (a : Consumed) → x .answer ≡ a → consumeNumbers (consume.afterConsume a c log) m .answer ≡ refusalNumber r → consumeNumbers x m ≡ heard (refusalNumber r) c log 0 m
     go (consumed.Done n) q e = no-refusal r e
-    go (consumed.Refused k) q e = ap (λ (y : consume.After). consumeNumbers y m) (consume-refused d payload sender version ready (length log) log k q) ∙ ap (λ a. heard a c log 0 m) e
+    go (consumed.Refused k) q e = ap (λ (y : consume.AfterConsume). consumeNumbers y m) (consume-refused d payload sender version ready (length log) log k q) ∙ ap (λ a. heard a c log 0 m) e
 
 pub c-consume-cycle-refused : (d : Dict) (delivered ps log : List ℕ) (j m : ℕ) → RefusedHeard (contents (d .words) (d .bytes)) log j m (cycleNumbers (cycleOf d delivered ps log) j m)
 unfolding cycleNumbers
@@ -236,18 +236,18 @@ c-consume-cycle-refused d delivered ps log j m r e = go (x .answer) refl e
     c : Contents
     c = contents (d .words) (d .bytes)
 
-    x : cycle.After
+    x : cycle.AfterCycle
     x = cycleOf d delivered ps log
 
-    go : (a : Cycle) → x .answer ≡ a → cycleNumbers (cycle.after a c log) j m .answer ≡ numberOf r → cycleNumbers x j m ≡ heard (numberOf r) c log j m
+    go : (a : Cycle) → x .answer ≡ a → cycleNumbers (cycle.afterCycle a c log) j m .answer ≡ refusalNumber r → cycleNumbers x j m ≡ heard (refusalNumber r) c log j m
     go (cycles.Done i n) q e = no-refusal r e
-    go (cycles.Refused k) q e = ap (λ (y : cycle.After). cycleNumbers y j m) (cycle-refused d delivered ps log k q) ∙ ap (λ a. heard a c log j m) e
+    go (cycles.Refused k) q e = ap (λ (y : cycle.AfterCycle). cycleNumbers y j m) (cycle-refused d delivered ps log k q) ∙ ap (λ a. heard a c log j m) e
 
-pub c-update-refused : (d : Dict) (x n : ℕ) (r : Refusal) → answerNumber (updateOf d x n .answer) ≡ numberOf r → updateOf d x n .bytes ≡ d .bytes
-c-update-refused d x n r e = let k = refused-answer (updateOf d x n .answer) r e in ap (λ (y : errors.After). y .bytes) (update-refused d x n (k .0) (k .1))
+pub c-update-refused : (d : Dict) (x n : ℕ) (r : Refusal) → answerNumber (updateOf d x n .answer) ≡ refusalNumber r → updateOf d x n .bytes ≡ d .bytes
+c-update-refused d x n r e = let k = refused-answer (updateOf d x n .answer) r e in ap (λ (y : errors.AfterUpdate). y .bytes) (update-refused d x n (k .0) (k .1))
 
 -- ---- the channel check
-no-fault : {A : Type 0} (f : Fault) (r : Refusal) → faultNumber f ≡ numberOf r → A
+no-fault : {A : Type 0} (f : Fault) (r : Refusal) → faultNumber f ≡ refusalNumber r → A
 no-fault fault.NotMapping r e = absurd (omega (arith, e, range r .1))
 no-fault fault.Misaligned r e = absurd (omega (arith, e, range r .1))
 no-fault fault.HandOff r e = absurd (omega (arith, e, range r .1))
@@ -272,7 +272,7 @@ c-check-all-refused d out m = go (checkAllOf d out .answer) refl
   where
     go : (a : CheckedAll) → checkAllOf d out .answer ≡ a → RefusedWritten out m (allNumbers a (checkAllOf d out .out) m)
     go (all.Done n) q r e = no-refusal r e
-    go (all.Refused k) q r e = rw (ap (λ (y : checking.After). y .out) (check-all-refused d out k q)) (ap (λ a. wrote a out m) e)
+    go (all.Refused k) q r e = rw (ap (λ (y : checking.AfterCheckAll). y .out) (check-all-refused d out k q)) (ap (λ a. wrote a out m) e)
 
 pub c-explain-refused : (d : Dict) (i k : ℕ) (ns : List ℕ) → RefusedLent ns (explainNumbers (explainOf d i k) ns)
 unfolding explainNumbers

@@ -12,8 +12,8 @@ use Rattle.insertion.specs.declared.Inserted.the-variants as inserting
 use Rattle.answers.specs.declared.Answer.the-variants as answered
 use Rattle.od.specs.New.{Made}
 use Rattle.nodes.specs.declared.Listed.the-variants as listing
-use Rattle.nodes.specs.Nodes.{Given}
-use Rattle.counter.specs.Counter.{Counted}
+use Rattle.nodes.specs.Nodes.{AfterListing}
+use Rattle.counter.specs.Counter.{AfterIncrement}
 use Rattle.writing.specs.declared.Wrote.the-variants as wrote
 use Rattle.writing.specs.Writing as writing
 use Rattle.restoring.specs.declared.Restored.the-variants as restored
@@ -53,7 +53,7 @@ use Rattle.uniqueness.proofs.Walked.{consume-claim, by-value-claim}
 use Rattle.uniqueness.proofs.Refused.{encode-refused, new-refused, insert-refused, cns-refused, counter-refused, write-refused, restore-refused, received-refused, cycle-refused, update-refused, check-all-refused}
 
 pub encode-stays : Stays 2 encode-kinds.ps encode-kinds.r encode.Post (λ κs. RefusedBy encoded.Refused) (λ κs a. (tt, (tt, (now (a .1 .1 .0), tt))))
-encode-stays κs a z w p r = ap (λ (x : codec.After). (tt, (tt, (x .out, tt)))) (p ∙ encode-refused _ _ _ _ (r .0) (sym (ap (λ (x : codec.After). x .answer) p) ∙ r .1))
+encode-stays κs a z w p r = ap (λ (x : codec.AfterEncode). (tt, (tt, (x .out, tt)))) (p ∙ encode-refused _ _ _ _ (r .0) (sym (ap (λ (x : codec.AfterEncode). x .answer) p) ∙ r .1))
 
 pub new-stays : Stays 1 new-kinds.ps new-kinds.r new.Post (λ κs. RefusedBy answered.Refused) (λ κs a. (now (a .0), tt))
 new-stays κs a z w p r = ap (λ (x : Made). (x .objects, tt)) (p ∙ new-refused _ (r .0) (sym (ap (λ (x : Made). x .answer) p) ∙ r .1))
@@ -62,25 +62,25 @@ pub insert-stays : Stays 7 insert-kinds.ps insert-kinds.r insert.Post (λ κs. R
 insert-stays κs a z w p r = ap (λ (x : Dict). (x .objects, (x .slots, (x .words, (x .bytes, (tt, (tt, (tt, (tt, tt))))))))) (p .1 ∙ insert-refused _ _ _ _ _ (r .0) (sym (p .0) ∙ r .1))
 
 pub get-configured-cns-stays : Stays 5 get-configured-cns-kinds.ps get-configured-cns-kinds.r get-configured-cns.Post (λ κs. RefusedBy listing.Refused) (λ κs a. (tt, (tt, (tt, (tt, (now (a .1 .1 .1 .1 .0), tt))))))
-get-configured-cns-stays κs a z w p r = ap (λ (x : Given). (tt, (tt, (tt, (tt, (x .out, tt)))))) (p ∙ cns-refused _ _ (r .0) (sym (ap (λ (x : Given). x .answer) p) ∙ r .1))
+get-configured-cns-stays κs a z w p r = ap (λ (x : AfterListing). (tt, (tt, (tt, (tt, (x .out, tt)))))) (p ∙ cns-refused _ _ (r .0) (sym (ap (λ (x : AfterListing). x .answer) p) ∙ r .1))
 
 pub increment-counter-stays : Stays 4 increment-counter-kinds.ps increment-counter-kinds.r increment-counter.Post (λ κs. RefusedBy answered.Refused) (λ κs a. (tt, (tt, (now (a .1 .1 .0), (tt, (tt, (tt, tt)))))))
-increment-counter-stays κs a z w p r = ap (λ (x : Counted). (tt, (tt, (x .words, (tt, (tt, (tt, tt))))))) (p ∙ counter-refused _ _ _ (r .0) (sym (ap (λ (x : Counted). x .answer) p) ∙ r .1))
+increment-counter-stays κs a z w p r = ap (λ (x : AfterIncrement). (tt, (tt, (x .words, (tt, (tt, (tt, tt))))))) (p ∙ counter-refused _ _ _ (r .0) (sym (ap (λ (x : AfterIncrement). x .answer) p) ∙ r .1))
 
 pub write-stays : Stays 6 write-kinds.ps write-kinds.r write.Post (λ κs. RefusedBy wrote.Refused) (λ κs a. (tt, (tt, (now (a .1 .1 .0), (now (a .1 .1 .1 .0), (now (a .1 .1 .1 .1 .0), (tt, (tt, (tt, (tt, tt))))))))))
-write-stays κs a z w p r = ap (λ (x : writing.After). (tt, (tt, (x .words, (x .bytes, (x .store, (tt, (tt, (tt, (tt, tt)))))))))) (p ∙ write-refused _ _ _ _ _ _ (r .0) (sym (ap (λ (x : writing.After). x .answer) p) ∙ r .1))
+write-stays κs a z w p r = ap (λ (x : writing.AfterWrite). (tt, (tt, (x .words, (x .bytes, (x .store, (tt, (tt, (tt, (tt, tt)))))))))) (p ∙ write-refused _ _ _ _ _ _ (r .0) (sym (ap (λ (x : writing.AfterWrite). x .answer) p) ∙ r .1))
 
 pub restore-stays : Stays 5 restore-kinds.ps restore-kinds.r restore.Post (λ κs. RefusedBy restored.Refused) (λ κs a. (tt, (now (a .1 .0), (now (a .1 .1 .0), (now (a .1 .1 .1 .0), (tt, (tt, (tt, tt))))))))
-restore-stays κs a z w p r = ap (λ (x : restoring.After). (tt, (x .memory .slots, (x .memory .words, (x .memory .bytes, (tt, (tt, (tt, tt)))))))) (p ∙ restore-refused _ _ _ _ (r .0) (sym (ap (λ (x : restoring.After). x .answer) p) ∙ r .1))
+restore-stays κs a z w p r = ap (λ (x : restoring.AfterRestore). (tt, (x .memory .slots, (x .memory .words, (x .memory .bytes, (tt, (tt, (tt, tt)))))))) (p ∙ restore-refused _ _ _ _ (r .0) (sym (ap (λ (x : restoring.AfterRestore). x .answer) p) ∙ r .1))
 
 pub consume-cycle-stays : Stays 7 consume-cycle-kinds.ps consume-cycle-kinds.r consume-cycle.Post (λ κs. RefusedBy cycles.Refused) (λ κs a. (tt, (tt, (now (a .1 .1 .0), (now (a .1 .1 .1 .0), (tt, (tt, (now (a .1 .1 .1 .1 .1 .1 .0), tt))))))))
-consume-cycle-stays κs a z w p r = ap (λ (x : cycle.After). (tt, (tt, (x .contents .words, (x .contents .bytes, (tt, (tt, (x .log, tt)))))))) (p ∙ cycle-refused _ _ _ _ (r .0) (sym (ap (λ (x : cycle.After). x .answer) p) ∙ r .1))
+consume-cycle-stays κs a z w p r = ap (λ (x : cycle.AfterCycle). (tt, (tt, (x .contents .words, (x .contents .bytes, (tt, (tt, (x .log, tt)))))))) (p ∙ cycle-refused _ _ _ _ (r .0) (sym (ap (λ (x : cycle.AfterCycle). x .answer) p) ∙ r .1))
 
 pub update-pdo-error-object-stays : Stays 4 update-pdo-error-object-kinds.ps update-pdo-error-object-kinds.r update-pdo-error-object.Post (λ κs. RefusedBy answered.Refused) (λ κs a. (tt, (tt, (tt, (now (a .1 .1 .1 .0), (tt, (tt, tt)))))))
-update-pdo-error-object-stays κs a z w p r = ap (λ (x : errors.After). (tt, (tt, (tt, (x .bytes, (tt, (tt, tt))))))) (p ∙ update-refused _ _ _ (r .0) (sym (ap (λ (x : errors.After). x .answer) p) ∙ r .1))
+update-pdo-error-object-stays κs a z w p r = ap (λ (x : errors.AfterUpdate). (tt, (tt, (tt, (x .bytes, (tt, (tt, tt))))))) (p ∙ update-refused _ _ _ (r .0) (sym (ap (λ (x : errors.AfterUpdate). x .answer) p) ∙ r .1))
 
 pub check-all-stays : Stays 5 check-all-kinds.ps check-all-kinds.r check-all.Post (λ κs. RefusedBy checked.Refused) (λ κs a. (tt, (tt, (tt, (tt, (now (a .1 .1 .1 .1 .0), tt))))))
-check-all-stays κs a z w p r = ap (λ (x : checking.After). (tt, (tt, (tt, (tt, (x .out, tt)))))) (p ∙ check-all-refused _ _ (r .0) (sym (ap (λ (x : checking.After). x .answer) p) ∙ r .1))
+check-all-stays κs a z w p r = ap (λ (x : checking.AfterCheckAll). (tt, (tt, (tt, (tt, (x .out, tt)))))) (p ∙ check-all-refused _ _ (r .0) (sym (ap (λ (x : checking.AfterCheckAll). x .answer) p) ∙ r .1))
 
 -- ---- those that are proved by hand (Walked.antt)
 pub consume-stays : ClaimStays consume.ended consume-claim (λ κs. RefusedBy consumed.Refused) (λ κs a. (tt, (tt, (now (a .1 .1 .0), (now (a .1 .1 .1 .0), (tt, (tt, (tt, (tt, (now (a .1 .1 .1 .1 .1 .1 .1 .1 .0), tt))))))))))

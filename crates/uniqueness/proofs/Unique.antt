@@ -3,15 +3,15 @@
 -- are walked by hand are in Walked.antt.
 -- Assumes nothing.
 use mathlib.Core.Path.{_≡_, refl, ap, _∙_, sym}
-use Rattle.value.specs.Codec.{After}
+use Rattle.value.specs.Codec.{AfterEncode}
 use Rattle.entry.specs.Table.{Dict}
 use Rattle.od.specs.New.{Made}
-use Rattle.nodes.specs.Nodes.{Given}
-use Rattle.counter.specs.Counter.{Counted}
-use Rattle.pdo_cycle.specs.Cycle.{After as Cycling}
-use Rattle.pdo_handler.specs.Errors.{After as Marking}
-use Rattle.restoring.specs.Restore.{After as Restoring}
-use Rattle.writing.specs.Writing.{After as Writing}
+use Rattle.nodes.specs.Nodes.{AfterListing}
+use Rattle.counter.specs.Counter.{AfterIncrement}
+use Rattle.pdo_cycle.specs.Cycle.{AfterCycle}
+use Rattle.pdo_handler.specs.Errors.{AfterUpdate}
+use Rattle.restoring.specs.Restore.{AfterRestore}
+use Rattle.writing.specs.Writing.{AfterWrite}
 use Rattle.object_value.proofs.decode.Reads as decode
 use Rattle.object_value.proofs.decode.Kinds as decode-kinds
 use Rattle.object_value.proofs.encode.Reads as encode
@@ -50,7 +50,7 @@ use Rattle.counter.proofs.increment_counter.Reads as increment-counter
 use Rattle.counter.proofs.increment_counter.Kinds as increment-counter-kinds
 use Rattle.pdo_validator.proofs.validate_pdo_mapping.Reads as validate-pdo-mapping
 use Rattle.pdo_validator.proofs.validate_pdo_mapping.Kinds as validate-pdo-mapping-kinds
-use Rattle.channel.specs.All.{After as Checking}
+use Rattle.channel.specs.All.{AfterCheckAll}
 use Rattle.channel.proofs.check.Reads as check
 use Rattle.channel.proofs.check.Kinds as check-kinds
 use Rattle.channel.proofs.check_all.Reads as check-all
@@ -77,7 +77,7 @@ pub decode-unique : Unique 1 decode-kinds.ps decode-kinds.r decode.Post
 decode-unique κs a z₁ z₂ w₁ w₂ p q = (p ∙ sym q, refl)
 
 pub encode-unique : Unique 2 encode-kinds.ps encode-kinds.r encode.Post
-encode-unique κs a z₁ z₂ w₁ w₂ p q = both (λ (x : After). x .answer) (λ x. (tt, (tt, (x .out, tt)))) p q
+encode-unique κs a z₁ z₂ w₁ w₂ p q = both (λ (x : AfterEncode). x .answer) (λ x. (tt, (tt, (x .out, tt)))) p q
 
 pub from-u64-unique : Unique 0 from-u64-kinds.ps from-u64-kinds.r from-u64.Post
 from-u64-unique κs a z₁ z₂ w₁ w₂ p q = (p ∙ sym q, refl)
@@ -122,26 +122,26 @@ pub find-by-name-unique : Unique 5 find-by-name-kinds.ps find-by-name-kinds.r fi
 find-by-name-unique κs a z₁ z₂ w₁ w₂ p q = (p ∙ sym q, refl)
 
 pub get-configured-cns-unique : Unique 5 get-configured-cns-kinds.ps get-configured-cns-kinds.r get-configured-cns.Post
-get-configured-cns-unique κs a z₁ z₂ w₁ w₂ p q = both (λ (x : Given). x .answer) (λ x. (tt, (tt, (tt, (tt, (x .out, tt)))))) p q
+get-configured-cns-unique κs a z₁ z₂ w₁ w₂ p q = both (λ (x : AfterListing). x .answer) (λ x. (tt, (tt, (tt, (tt, (x .out, tt)))))) p q
 
 pub increment-counter-unique : Unique 4 increment-counter-kinds.ps increment-counter-kinds.r increment-counter.Post
-increment-counter-unique κs a z₁ z₂ w₁ w₂ p q = both (λ (x : Counted). x .answer) (λ x. (tt, (tt, (x .words, (tt, (tt, (tt, tt))))))) p q
+increment-counter-unique κs a z₁ z₂ w₁ w₂ p q = both (λ (x : AfterIncrement). x .answer) (λ x. (tt, (tt, (x .words, (tt, (tt, (tt, tt))))))) p q
 
 pub validate-pdo-mapping-unique : Unique 4 validate-pdo-mapping-kinds.ps validate-pdo-mapping-kinds.r validate-pdo-mapping.Post
 validate-pdo-mapping-unique κs a z₁ z₂ w₁ w₂ p q = (p ∙ sym q, refl)
 
 pub write-unique : Unique 6 write-kinds.ps write-kinds.r write.Post
-write-unique κs a z₁ z₂ w₁ w₂ p q = both (λ (x : Writing). x .answer) (λ x. (tt, (tt, (x .words, (x .bytes, (x .store, (tt, (tt, (tt, (tt, tt)))))))))) p q
+write-unique κs a z₁ z₂ w₁ w₂ p q = both (λ (x : AfterWrite). x .answer) (λ x. (tt, (tt, (x .words, (x .bytes, (x .store, (tt, (tt, (tt, (tt, tt)))))))))) p q
 
 pub restore-unique : Unique 5 restore-kinds.ps restore-kinds.r restore.Post
 restore-unique κs a z₁ z₂ w₁ w₂ p q =
-    both (λ (x : Restoring). x .answer) (λ x. (tt, (x .memory .slots, (x .memory .words, (x .memory .bytes, (tt, (tt, (tt, tt)))))))) p q
+    both (λ (x : AfterRestore). x .answer) (λ x. (tt, (x .memory .slots, (x .memory .words, (x .memory .bytes, (tt, (tt, (tt, tt)))))))) p q
 
 pub consume-cycle-unique : Unique 7 consume-cycle-kinds.ps consume-cycle-kinds.r consume-cycle.Post
-consume-cycle-unique κs a z₁ z₂ w₁ w₂ p q = both (λ (x : Cycling). x .answer) (λ x. (tt, (tt, (x .contents .words, (x .contents .bytes, (tt, (tt, (x .log, tt)))))))) p q
+consume-cycle-unique κs a z₁ z₂ w₁ w₂ p q = both (λ (x : AfterCycle). x .answer) (λ x. (tt, (tt, (x .contents .words, (x .contents .bytes, (tt, (tt, (x .log, tt)))))))) p q
 
 pub update-pdo-error-object-unique : Unique 4 update-pdo-error-object-kinds.ps update-pdo-error-object-kinds.r update-pdo-error-object.Post
-update-pdo-error-object-unique κs a z₁ z₂ w₁ w₂ p q = both (λ (x : Marking). x .answer) (λ x. (tt, (tt, (tt, (x .bytes, (tt, (tt, tt))))))) p q
+update-pdo-error-object-unique κs a z₁ z₂ w₁ w₂ p q = both (λ (x : AfterUpdate). x .answer) (λ x. (tt, (tt, (tt, (x .bytes, (tt, (tt, tt))))))) p q
 
 pub event-record-unique : Unique 0 event-record-kinds.ps event-record-kinds.r event-record.Post
 event-record-unique κs a z₁ z₂ w₁ w₂ p q = (p ∙ sym q, refl)
@@ -150,7 +150,7 @@ pub check-unique : Unique 4 check-kinds.ps check-kinds.r check.Post
 check-unique κs a z₁ z₂ w₁ w₂ p q = (p ∙ sym q, refl)
 
 pub check-all-unique : Unique 5 check-all-kinds.ps check-all-kinds.r check-all.Post
-check-all-unique κs a z₁ z₂ w₁ w₂ p q = both (λ (x : Checking). x .answer) (λ x. (tt, (tt, (tt, (tt, (x .out, tt)))))) p q
+check-all-unique κs a z₁ z₂ w₁ w₂ p q = both (λ (x : AfterCheckAll). x .answer) (λ x. (tt, (tt, (tt, (tt, (x .out, tt)))))) p q
 
 pub explain-unique : Unique 4 explain-kinds.ps explain-kinds.r explain.Post
 explain-unique κs a z₁ z₂ w₁ w₂ p q = (p ∙ sym q, refl)

@@ -24,14 +24,14 @@ use Rattle.text.specs.declared.Text.{Text as Judged}
 use Rattle.text.specs.declared.Text.the-variants.{Good, Bad}
 use Rattle.text.specs.Machine.{judge}
 use Rattle.value.specs.declared.Encoded.the-variants.{Wrote, Refused}
-use Rattle.value.specs.declared.Fault.{Fault}
-use Rattle.value.specs.declared.Fault.the-variants.{Odd}
+use Rattle.value.specs.declared.CodecFault.{CodecFault}
+use Rattle.value.specs.declared.CodecFault.the-variants.{Odd}
 use Rattle.value.specs.declared.Decoded.the-variants.{Value, NoType}
 use Rattle.value.specs.declared.ObjectValue.{ObjectValue}
 use Rattle.value.specs.declared.Word.{Word}
 use Rattle.value.specs.declared.Word.the-variants.{Takes, Fails}
 use Rattle.value.specs.Meaning.{reading}
-use Rattle.value.specs.Codec.{sizes, sizeOf, isText, fitsType, takes, textIs, textWord, wordAt, meant, decodeOf, sayable, exact, encoding, after, encodeOf}
+use Rattle.value.specs.Codec.{sizes, sizeOf, isText, fitsType, takes, textIs, textWord, wordAt, meant, decodeOf, sayable, exact, encoding, afterEncode, encodeOf}
 
 -- ---- a match on t whose arms 0, 1, .. up to k - 1 did not fit
 abbrev Rest : ℕ → ℕ → Type 0
@@ -174,7 +174,7 @@ module _ (t w : ℕ) (s : List ℕ) (h : wordAt t s ≡ Takes w) where
   unfolding wordAt
   word-fixed e = go (ltb (length s) (sizeOf t)) refl (rw e at h)
     where
-      go : (b : Bool) → ltb (length s) (sizeOf t) ≡ b → cond b (Fails Fault.Value) (Takes (number (take (sizeOf t) s))) ≡ Takes w
+      go : (b : Bool) → ltb (length s) (sizeOf t) ≡ b → cond b (Fails CodecFault.Value) (Takes (number (take (sizeOf t) s))) ≡ Takes w
           → (sizeOf t ≤ length s) × (w ≡ number (take (sizeOf t) s))
       go true f g = let z : _≡_ {A = ℕ} 0 1 = cc in absurd (omega arith)
       go false f g = (ltb-false (length s) (sizeOf t) f, cc)
@@ -193,16 +193,16 @@ module _ (t w : ℕ) (s : List ℕ) (h : wordAt t s ≡ Takes w) where
 
 -- ---- what encoding answers
 module _ (t w : ℕ) (part out : List ℕ) where
-  pub encode-bad : sayable t w part ≡ false → encodeOf t w part out ≡ after (Refused BadValue) out
+  pub encode-bad : sayable t w part ≡ false → encodeOf t w part out ≡ afterEncode (Refused BadValue) out
   unfolding encodeOf
   encode-bad e = rw e
 
-  pub encode-short : sayable t w part ≡ true → length out < length (encoding t w part) → encodeOf t w part out ≡ after (Refused BufferTooShort) out
+  pub encode-short : sayable t w part ≡ true → length out < length (encoding t w part) → encodeOf t w part out ≡ afterEncode (Refused BufferTooShort) out
   unfolding encodeOf
   encode-short e h = rw (e, lt-ltb (length out) (length (encoding t w part)) h)
 
   pub encode-done : sayable t w part ≡ true → length (encoding t w part) ≤ length out
-      → encodeOf t w part out ≡ after (Wrote (length (encoding t w part))) (over out 0 (encoding t w part))
+      → encodeOf t w part out ≡ afterEncode (Wrote (length (encoding t w part))) (over out 0 (encoding t w part))
   unfolding encodeOf
   encode-done e h = rw (e, le-ltb (length out) (length (encoding t w part)) h)
 
@@ -217,15 +217,15 @@ pub record Written (t w : ℕ) (part out : List ℕ) (n : ℕ) (out′ : List �
   pub count : n ≡ length (encoding t w part)
   pub laid : out′ ≡ over out 0 (encoding t w part)
 
-pub written : (t w : ℕ) (part out : List ℕ) (n : ℕ) (out′ : List ℕ) → encodeOf t w part out ≡ after (Wrote n) out′ → Written t w part out n out′
+pub written : (t w : ℕ) (part out : List ℕ) (n : ℕ) (out′ : List ℕ) → encodeOf t w part out ≡ afterEncode (Wrote n) out′ → Written t w part out n out′
 unfolding encodeOf
 written t w part out n out′ h = go (sayable t w part) (ltb (length out) (length (encoding t w part))) refl h
   where
     go : (a b : Bool) → sayable t w part ≡ a
         → cond a
-        (cond b (after (Refused BufferTooShort) out) (after (Wrote (length (encoding t w part))) (over out 0 (encoding t w part))))
-        (after (Refused BadValue) out)
-        ≡ after (Wrote n) out′
+        (cond b (afterEncode (Refused BufferTooShort) out) (afterEncode (Wrote (length (encoding t w part))) (over out 0 (encoding t w part))))
+        (afterEncode (Refused BadValue) out)
+        ≡ afterEncode (Wrote n) out′
         → Written t w part out n out′
     go true true e h = let z : _≡_ {A = ℕ} 0 1 = cc (ap (λ r. r .answer) h) in absurd (omega arith)
     go true false e h = record { said = e; count = cc (ap (λ r. r .answer) h); laid = sym (ap (λ r. r .out) h) }

@@ -18,7 +18,7 @@ use Rattle.value.specs.declared.ObjectValue.{ObjectValue}
 use Rattle.value.specs.declared.Word.the-variants.{Takes}
 use Rattle.value.specs.Meaning.{typeOf, wordOf}
 use Rattle.value.specs.Range.{InRange}
-use Rattle.value.specs.Codec.{sizeOf, isText, wordAt, decodeOf, sayable, encoding, after, encodeOf}
+use Rattle.value.specs.Codec.{sizeOf, isText, wordAt, decodeOf, sayable, encoding, afterEncode, encodeOf}
 use Rattle.value.proofs.CodecLaws.{word-lt64, sayable-text, sayable-fixed, encoding-text, encoding-fixed, word-text, word-fixed, said-text, said-fixed, encode-done, written, decoded}
 use Rattle.value.proofs.WordLaws.{type-reading, inRange-reading, word-reading, reading-word, type-le, word-lt}
 
@@ -82,7 +82,7 @@ encode-decode-value t s v b h n =
 -- ---- the two calls
 -- "Decoding what encoding wrote gives the value"
 pub decode-written : (v : ObjectValue) (part out : List ℕ) (n : ℕ) (out′ : List ℕ) → InRange v
-    → encodeOf (typeOf v) (wordOf v) part out ≡ after (Wrote n) out′
+    → encodeOf (typeOf v) (wordOf v) part out ≡ afterEncode (Wrote n) out′
     → decodeOf (typeOf v) (take n out′) ≡ Value v
 decode-written v part out n out′ r h =
     let w = written (typeOf v) (wordOf v) part out n out′ h in
@@ -91,7 +91,7 @@ decode-written v part out n out′ r h =
 -- "encoding what was decoded from data of exactly the type's size gives the data"
 pub encode-decoded : (t : ℕ) (s : List ℕ) (v : ObjectValue) (out : List ℕ) → Bytes s → (isText t ≡ false → length s ≡ sizeOf t) → length s ≤ length out
     → decodeOf t s ≡ Value v
-    → encodeOf (typeOf v) (wordOf v) s out ≡ after (Wrote (length s)) (over out 0 s)
+    → encodeOf (typeOf v) (wordOf v) s out ≡ afterEncode (Wrote (length s)) (over out 0 s)
 encode-decoded t s v out b n l h =
     let e = encode-decode-value t s v b h n in
     rw (e .1) at (encode-done (typeOf v) (wordOf v) s out (e .0) (rw (e .1) l))

@@ -10,8 +10,8 @@ use Rattle.lists.specs.Numbers.{number, bytesOf}
 use Rattle.text.specs.declared.Text.{Text as Judged}
 use Rattle.text.specs.declared.Text.the-variants.{Good, Bad}
 use Rattle.text.specs.Machine.{judge}
-use Rattle.value.specs.declared.Fault.{Fault}
-use Rattle.value.specs.declared.Fault.the-variants.{Value, Text, Odd}
+use Rattle.value.specs.declared.CodecFault.{CodecFault}
+use Rattle.value.specs.declared.CodecFault.the-variants.{Value, Text, Odd}
 use Rattle.value.specs.declared.Decoded.{Decoded}
 use Rattle.value.specs.declared.Decoded.the-variants as decoded
 use Rattle.value.specs.declared.Encoded.{Encoded}
@@ -62,7 +62,7 @@ wordAt t s =
 
 -- ---- values
 -- the numbers of a fault: 12 for too few bytes, 5 for bad text
-abbrev pub refusalOf : Fault → Refusal
+abbrev pub refusalOf : CodecFault → Refusal
 refusalOf Value = BufferTooShort
 refusalOf Text = TypeMismatch
 refusalOf Odd = TypeMismatch
@@ -97,18 +97,18 @@ unfoldable pub encoding : ℕ → ℕ → List ℕ → List ℕ
 encoding t w part = cond (isText t) part (bytesOf (sizeOf t) w)
 
 -- an answer, and the lent output after it
-pub record After : Type 0 where
+pub record AfterEncode : Type 0 where
   pub answer : Encoded
   pub out : List ℕ
 
-abbrev pub after : Encoded → List ℕ → After
-after a out = record { answer = a; out = out }
+abbrev pub afterEncode : Encoded → List ℕ → AfterEncode
+afterEncode a out = record { answer = a; out = out }
 
 -- a value that breaks a rule: BadValue; an output shorter than the encoding: BufferTooShort; else it is laid from the start on
-unfoldable pub encodeOf : ℕ → ℕ → List ℕ → List ℕ → After
+unfoldable pub encodeOf : ℕ → ℕ → List ℕ → List ℕ → AfterEncode
 encodeOf t w part out =
     cond (sayable t w part)
     (cond (ltb (length out) (length (encoding t w part)))
-    (after (Refused BufferTooShort) out)
-    (after (Wrote (length (encoding t w part))) (over out 0 (encoding t w part))))
-    (after (Refused BadValue) out)
+    (afterEncode (Refused BufferTooShort) out)
+    (afterEncode (Wrote (length (encoding t w part))) (over out 0 (encoding t w part))))
+    (afterEncode (Refused BadValue) out)

@@ -3,9 +3,9 @@ ghost use mathlib.Core.Path.{_≡_};
 ghost use mathlib.Core.Bool.{true, false};
 ghost use mathlib.Core.List.{[]};
 ghost use Prim.Native.Nat.{_-_, _*_, _^_, _≤_};
-ghost use Rattle.value.specs.Codec.{sizeOf, isText, fitsType, textWord, wordAt, exact, encodeOf, after};
+ghost use Rattle.value.specs.Codec.{sizeOf, isText, fitsType, textWord, wordAt, exact, encodeOf, afterEncode};
 use crate::Encoded;
-use crate::Fault;
+use crate::CodecFault;
 use crate::Word;
 use answers::Refusal;
 use text::Text;
@@ -71,12 +71,12 @@ fn decode_text(t: u64, data: &[u8]) -> Word
     if t == 11 {
         return match text::text_ok(data) {
             Text::Good => Word::Takes(data.len() as u64),
-            Text::Bad(_) => Word::Fails(Fault::Text),
+            Text::Bad(_) => Word::Fails(CodecFault::Text),
         };
     }
     let odd = data.len() % 2 == 1;
     if (t == 13) & odd {
-        return Word::Fails(Fault::Odd);
+        return Word::Fails(CodecFault::Odd);
     }
     Word::Takes(data.len() as u64)
 }
@@ -90,7 +90,7 @@ pub fn decode_word(t: u64, data: &[u8]) -> Word
     }
     let n = size_of(t);
     if data.len() < n {
-        return Word::Fails(Fault::Value);
+        return Word::Fails(CodecFault::Value);
     }
     Word::Takes(lists::number(data, 0, n))
 }
@@ -113,7 +113,7 @@ pub fn is_value(t: u64, data: &[u8]) -> bool
 
 fn encode_text(t: u64, word: u64, part: &[u8], out: &mut [u8]) -> Encoded
     requires { ⌜ (t ≤ 20) × (isText t ≡ true) ⌝ }
-    ensures { λ r. ⌜ after r (now (out .exit)) ≡ encodeOf t word (now (part .entry)) (now (out .entry)) ⌝ }
+    ensures { λ r. ⌜ afterEncode r (now (out .exit)) ≡ encodeOf t word (now (part .entry)) (now (out .entry)) ⌝ }
 {
     if word != (part.len() as u64) {
         return Encoded::Refused(Refusal::BadValue);
@@ -130,7 +130,7 @@ fn encode_text(t: u64, word: u64, part: &[u8], out: &mut [u8]) -> Encoded
 
 fn encode_fixed(t: u64, word: u64, out: &mut [u8]) -> Encoded
     requires { ⌜ (t ≤ 20) × (isText t ≡ false) ⌝ }
-    ensures { λ r. ⌜ after r (now (out .exit)) ≡ encodeOf t word [] (now (out .entry)) ⌝ }
+    ensures { λ r. ⌜ afterEncode r (now (out .exit)) ≡ encodeOf t word [] (now (out .entry)) ⌝ }
 {
     if !fits(t, word) {
         return Encoded::Refused(Refusal::BadValue);
@@ -145,7 +145,7 @@ fn encode_fixed(t: u64, word: u64, out: &mut [u8]) -> Encoded
 
 // Lays the value's encoding over `out` from its start on. The part beside a fixed type is not looked at.
 pub fn encode_word(t: u64, word: u64, part: &[u8], out: &mut [u8]) -> Encoded
-    ensures { λ r. ⌜ after r (now (out .exit)) ≡ encodeOf t word (now (part .entry)) (now (out .entry)) ⌝ }
+    ensures { λ r. ⌜ afterEncode r (now (out .exit)) ≡ encodeOf t word (now (part .entry)) (now (out .entry)) ⌝ }
 {
     if 20 < t {
         return Encoded::Refused(Refusal::BadValue);

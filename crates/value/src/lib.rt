@@ -58,7 +58,7 @@ pub enum ObjectValue {
 }
 
 // Why bytes are no value of a type: fewer than it has, no UTF-8 text, an odd count.
-pub enum Fault {
+pub enum CodecFault {
     Value,
     Text,
     Odd,
@@ -67,13 +67,13 @@ pub enum Fault {
 // What decoding finds. The word is the number of a fixed type's bytes, or the length of a text or of bytes.
 pub enum Word {
     Takes(u64),
-    Fails(Fault),
+    Fails(CodecFault),
 }
 
 // The value, why there is none, or a number that names no type.
 pub enum Decoded {
     Value(ObjectValue),
-    Fails(Fault),
+    Fails(CodecFault),
     NoType,
 }
 
@@ -83,12 +83,12 @@ pub enum Encoded {
     Refused(Refusal),
 }
 
-pub fn refusal(f: Fault) -> Refusal
+pub fn refusal(f: CodecFault) -> Refusal
     ensures { λ r. ⌜ r ≡ refusalOf f ⌝ }
 {
     match f {
-        Fault::Value => Refusal::BufferTooShort,
-        Fault::Text => Refusal::TypeMismatch,
-        Fault::Odd => Refusal::TypeMismatch,
+        CodecFault::Value => Refusal::BufferTooShort,
+        CodecFault::Text => Refusal::TypeMismatch,
+        CodecFault::Odd => Refusal::TypeMismatch,
     }
 }

@@ -26,9 +26,9 @@ use Rattle.entry.proofs.ValueLaws.{ValueFacts, element-of, element-facts}
 use Rattle.entry.proofs.KeepLaws.{Fits, put-element}
 use Rattle.pdo_validator.specs.Counting.{isMapping}
 use Rattle.writing.specs.declared.Judged.{Judged}
-use Rattle.writing.specs.declared.Judged.the-variants.{Put, Kept, Save, Restore, Refused}
+use Rattle.writing.specs.declared.Judged.the-variants.{Put, Accepted, Save, Restore, Refused}
 use Rattle.writing.specs.Judging.{save, load, signedBy, commandOf, atValue, inPlace, inObject, countFirst, afterCount, judgeOf}
-use Rattle.writing.specs.Writing.{actOf, writeOf}
+use Rattle.writing.specs.Writing.{writeActOf, writeOf}
 
 -- ---- what a put comes from
 pub record Placed (d : Dict) (x sub t : ℕ) (s : List ℕ) (p : ℕ) : Type 0 where
@@ -51,7 +51,7 @@ value-placed slots q t s p e = typed (eqb (typeAt slots q) t) refl e
 object-placed : (d : Dict) (x sub t : ℕ) (s : List ℕ) (p : ℕ) → inObject d x sub t s (findRow (d .objects) x) ≡ Put p → Placed d x sub t s p
 object-placed d x sub t s p e = row (findRow (d .objects) x) refl e
   where
-    counted : (b : Bool) → cond b Kept (Refused CountNotWritable) ≡ Put p → Placed d x sub t s p
+    counted : (b : Bool) → cond b Accepted (Refused CountNotWritable) ≡ Put p → Placed d x sub t s p
     counted true e = let z : _≡_ {A = ℕ} 0 1 = cc in absurd (omega arith)
     counted false e = let z : _≡_ {A = ℕ} 0 1 = cc in absurd (omega arith)
 
@@ -117,12 +117,12 @@ judged-facts d w n x sub t s p e = element-facts d w (element-of d w x sub p (ju
 -- ---- the theorem: whatever is written, and whatever is answered
 pub write-keeps : (d : Dict) (store : List ℕ) (x sub t : ℕ) (s : List ℕ) → wellFormed d ≡ true → Bytes s
     → wellFormed (filled d (contents (writeOf d store x sub t s .words) (writeOf d store x sub t s .bytes))) ≡ true
-unfolding writeOf actOf
+unfolding writeOf writeActOf
 write-keeps d store x sub t s e b = rw e (go (judgeOf d (length store) x sub t s) refl)
   where
-    go : (j : Judged) → judgeOf d (length store) x sub t s ≡ j → wellFormed (filled d (contents (actOf d store sub s j .words) (actOf d store sub s j .bytes))) ≡ true
+    go : (j : Judged) → judgeOf d (length store) x sub t s ≡ j → wellFormed (filled d (contents (writeActOf d store sub s j .words) (writeActOf d store sub s j .bytes))) ≡ true
     go (Put p) q = put-element d s e (element-of d e x sub p (judged-put d (length store) x sub t s p q .1 .place)) b (wordIn t s) (judged-fits d (length store) x sub t s p q)
-    go Kept q = e
+    go Accepted q = e
     go Save q = e
     go Restore q = e
     go (Refused r) q = e

@@ -18,7 +18,7 @@ use Rattle.entry.specs.declared.Place.{Place}
 use Rattle.entry.specs.declared.Place.the-variants.{NoObject, NoSub, Count, Value}
 use Rattle.pdo_validator.specs.Counting.{isMapping, countOf}
 use Rattle.writing.specs.declared.Judged.{Judged}
-use Rattle.writing.specs.declared.Judged.the-variants.{Put, Kept, Save, Restore, Refused}
+use Rattle.writing.specs.declared.Judged.the-variants.{Put, Accepted, Save, Restore, Refused}
 
 -- R8.2: "save" and "load", as the numbers of their bytes
 abbrev pub save : ℕ
@@ -46,7 +46,7 @@ atValue slots p t s =
 abbrev pub inPlace : Dict → ℕ → ℕ → List ℕ → Place → Judged
 inPlace d x t s NoObject = Refused ObjectNotFound
 inPlace d x t s NoSub = Refused SubObjectNotFound
-inPlace d x t s (Count n) = cond (isMapping x) Kept (Refused CountNotWritable)
+inPlace d x t s (Count n) = cond (isMapping x) Accepted (Refused CountNotWritable)
 inPlace d x t s (Value p) = atValue (d .slots) p t s
 
 -- 5 and 6: object, then access, of which ReadOnly is 0 and Constant 5

@@ -18,29 +18,29 @@ use Rattle.writing.specs.declared.Wrote.the-variants.{Done, RestoreReque
 use Rattle.writing.specs.Judging.{judgeOf}
 
 -- an answer, and what was lent after it
-pub record After : Type 0 where
+pub record AfterWrite : Type 0 where
   pub answer : Wrote
   pub words : List ℕ
   pub bytes : List ℕ
   pub store : List ℕ
 
-abbrev pub after : Wrote → List ℕ → List ℕ → List ℕ → After
-after a ws bs st = record { answer = a; words = ws; bytes = bs; store = st }
+abbrev pub afterWrite : Wrote → List ℕ → List ℕ → List ℕ → AfterWrite
+afterWrite a ws bs st = record { answer = a; words = ws; bytes = bs; store = st }
 
 abbrev pub savedAs : Saved → Wrote
 savedAs saved.Done = Done
 savedAs (saved.Refused r) = Refused r
 
 -- R8.2 and R8.3: "Else the value is put"; "the store only by a save"
-unfoldable pub actOf : Dict → List ℕ → ℕ → List ℕ → Judged → After
-actOf d store sub s (judged.Put p) = let c = putIn (d .slots) (contents (d .words) (d .bytes)) p s in after Done (c .words) (c .bytes) store
-actOf d store sub s judged.Kept = after Done (d .words) (d .bytes) store
-actOf d store sub s judged.Save = let a = saveOf d store sub in after (savedAs (a .answer)) (d .words) (d .bytes) (a .store)
-actOf d store sub s judged.Restore = after RestoreRequested (d .words) (d .bytes) store
-actOf d store sub s (judged.Refused r) = after (Refused r) (d .words) (d .bytes) store
+unfoldable pub writeActOf : Dict → List ℕ → ℕ → List ℕ → Judged → AfterWrite
+writeActOf d store sub s (judged.Put p) = let c = putIn (d .slots) (contents (d .words) (d .bytes)) p s in afterWrite Done (c .words) (c .bytes) store
+writeActOf d store sub s judged.Accepted = afterWrite Done (d .words) (d .bytes) store
+writeActOf d store sub s judged.Save = let a = saveOf d store sub in afterWrite (savedAs (a .answer)) (d .words) (d .bytes) (a .store)
+writeActOf d store sub s judged.Restore = afterWrite RestoreRequested (d .words) (d .bytes) store
+writeActOf d store sub s (judged.Refused r) = afterWrite (Refused r) (d .words) (d .bytes) store
 
-unfoldable pub writeOf : Dict → List ℕ → ℕ → ℕ → ℕ → List ℕ → After
+unfoldable pub writeOf : Dict → List ℕ → ℕ → ℕ → ℕ → List ℕ → AfterWrite
 writeOf d store x sub t s =
     cond (wellFormed d)
-    (actOf d store sub s (judgeOf d (length store) x sub t s))
-    (after (Refused Malformed) (d .words) (d .bytes) store)
+    (writeActOf d store sub s (judgeOf d (length store) x sub t s))
+    (afterWrite (Refused Malformed) (d .words) (d .bytes) store)

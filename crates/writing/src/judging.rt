@@ -81,7 +81,7 @@ fn in_row(
         Place::NoObject => Judged::Refused(Refusal::ObjectNotFound),
         Place::NoSub => Judged::Refused(Refusal::SubObjectNotFound),
         Place::Count(_) => if pdo_validator::is_mapping(index) {
-            Judged::Kept
+            Judged::Accepted
         } else {
             Judged::Refused(Refusal::CountNotWritable)
         },

@@ -10,7 +10,7 @@ pub use writing::write_judged;
 // What a write comes to: a value put at a slot, a count that is accepted and not kept, a command, or a refusal.
 pub enum Judged {
     Put(usize),
-    Kept,
+    Accepted,
     Save,
     Restore,
     Refused(Refusal),

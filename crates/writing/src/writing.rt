@@ -3,7 +3,7 @@ ghost use mathlib.Core.Path.{_≡_};
 ghost use mathlib.Core.Bool.{true};
 ghost use Rattle.entry.specs.Table.{dict};
 ghost use Rattle.entry.specs.Judge.{wellFormed};
-ghost use Rattle.writing.specs.Writing.{after, savedAs, writeOf};
+ghost use Rattle.writing.specs.Writing.{afterWrite, savedAs, writeOf};
 use crate::Judged;
 use crate::Wrote;
 use answers::Refusal;
@@ -31,7 +31,7 @@ pub fn write_judged(
     data: &[u8],
 ) -> Wrote
     requires { ⌜ wellFormed (dict (now objects) (now slots) (now words) (now bytes)) ≡ true ⌝ }
-    ensures { λ r. ⌜ after r (now (words .exit)) (now (bytes .exit)) (now (store .exit)) ≡ writeOf (dict (now (objects .entry)) (now (slots .entry)) (now (words .entry)) (now (bytes .entry))) (now (store .entry)) index sub t (now («data» .entry)) ⌝ }
+    ensures { λ r. ⌜ afterWrite r (now (words .exit)) (now (bytes .exit)) (now (store .exit)) ≡ writeOf (dict (now (objects .entry)) (now (slots .entry)) (now (words .entry)) (now (bytes .entry))) (now (store .entry)) index sub t (now («data» .entry)) ⌝ }
 {
     let size = store.len();
     match crate::judging::judge_write(objects, slots, words, bytes, size, index, sub, t, data) {
@@ -39,7 +39,7 @@ pub fn write_judged(
             entry::put_value(slots, words, bytes, p, data);
             Wrote::Done
         }
-        Judged::Kept => Wrote::Done,
+        Judged::Accepted => Wrote::Done,
         Judged::Save => saved(commands::save(objects, slots, words, bytes, sub, store)),
         Judged::Restore => Wrote::RestoreRequested,
         Judged::Refused(r) => Wrote::Refused(r),
@@ -58,7 +58,7 @@ pub fn write(
     t: u64,
     data: &[u8],
 ) -> Wrote
-    ensures { λ r. ⌜ after r (now (words .exit)) (now (bytes .exit)) (now (store .exit)) ≡ writeOf (dict (now (objects .entry)) (now (slots .entry)) (now (words .entry)) (now (bytes .entry))) (now (store .entry)) index sub t (now («data» .entry)) ⌝ }
+    ensures { λ r. ⌜ afterWrite r (now (words .exit)) (now (bytes .exit)) (now (store .exit)) ≡ writeOf (dict (now (objects .entry)) (now (slots .entry)) (now (words .entry)) (now (bytes .entry))) (now (store .entry)) index sub t (now («data» .entry)) ⌝ }
 {
     if !judge::well_formed(objects, slots, words, bytes) {
         return Wrote::Refused(Refusal::Malformed);

@@ -1,7 +1,7 @@
 -- `c_checking::loomfinch_check_all` meets its contract: each arm is a case of `allNumbers`. Assumes nothing.
 use mathlib.Core.Path.{ap, _∙_, sym}
 use denote.Ref.{now}
-use Rattle.channel.specs.All.{After}
+use Rattle.channel.specs.All.{AfterCheckAll}
 use Rattle.c_answers.specs.Answers.{wrote}
 use Rattle.c_checking.specs.Checking.{allNumbers, checkAllNumbers}
 use borrow.Author.Needs.{needs}
@@ -32,7 +32,7 @@ returns c =
     let n = c .before in
     let u = n .before .before .before .before in
     let m = now (start u .args .count) in
-    ap (λ a. allNumbers a (u .check-all .last .1 .1 .1 .1 .0) m) (sym (n .n .given .1)) ∙ ap (λ (a : After). checkAllNumbers a m) (u .check-all .ensures)
+    ap (λ a. allNumbers a (u .check-all .last .1 .1 .1 .1 .0) m) (sym (n .n .given .1)) ∙ ap (λ (a : AfterCheckAll). checkAllNumbers a m) (u .check-all .ensures)
 
 same-length-2 : tie.Need-same-length-2
 same-length-2 c = search needs
@@ -44,7 +44,7 @@ returns-2 c =
     let u = r .before .before .before .before in
     let m = now (start u .args .count) in
     let out = u .check-all .last .1 .1 .1 .1 .0 in
-    ap (λ n. wrote n out m) (c .number .ensures) ∙ ap (λ a. allNumbers a out m) (sym (r .r .given .1)) ∙ ap (λ (a : After). checkAllNumbers a m) (u .check-all .ensures)
+    ap (λ n. wrote n out m) (c .number .ensures) ∙ ap (λ a. allNumbers a out m) (sym (r .r .given .1)) ∙ ap (λ (a : AfterCheckAll). checkAllNumbers a m) (u .check-all .ensures)
 
 pub loomfinch-check-all-spec : {M : Type 1} → statement M
 loomfinch-check-all-spec =

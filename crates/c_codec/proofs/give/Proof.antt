@@ -7,7 +7,7 @@ use Rattle.lists.specs.Lists.{over}
 use Rattle.lists.proofs.ListLaws.{over-first}
 use Rattle.value.specs.Meaning.{wordOf, fieldsOf}
 use Rattle.c_answers.specs.Answers.{lent}
-use Rattle.c_codec.specs.Codec.{given}
+use Rattle.c_codec.specs.Codec.{valueNumbers}
 use Rattle.c_answers.proofs.ResultLaws.{results-short, results-done}
 use Rattle.c_codec.proofs.FieldLaws.{length-fields}
 use native.Mathlib.Omega.{arith}
@@ -16,7 +16,7 @@ use Rattle.c_codec.proofs.give.Statement.{statement}
 use Rattle.c_codec.proofs.give.Tie as tie
 
 returns : tie.Need-returns
-unfolding given
+unfolding valueNumbers
 returns c =
     let a = c .before .before .args in
     sym (results-short (wordOf (a .v) ∷ fieldsOf (a .v)) (now (a .numbers)) (omega (arith, length-fields (a .v))))
@@ -42,7 +42,7 @@ same-length : tie.Need-same-length
 same-length c = c .before .before .lay-words .kept .0 ∙ simp length-set
 
 returns-2 : tie.Need-returns-2
-unfolding given
+unfolding valueNumbers
 returns-2 c =
     let l = c .before .before in
     let t = l .before .before .before in

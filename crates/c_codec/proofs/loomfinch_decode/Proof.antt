@@ -1,7 +1,7 @@
 -- `c_codec::loomfinch_decode` meets its contract: each arm is a case of `decodedNumbers`. Assumes nothing.
 use mathlib.Core.Path.{ap, _∙_, sym}
 use denote.Ref.{now}
-use Rattle.answers.specs.Numbers.{numberOf}
+use Rattle.answers.specs.Numbers.{refusalNumber}
 use Rattle.c_answers.specs.Answers.{lent}
 use Rattle.c_codec.specs.Codec.{decodeNumbers, decodedNumbers}
 use borrow.Author.Needs.{needs}
@@ -41,7 +41,7 @@ returns-2 c =
     let f = c .before .before .before in
     let d = f .before .before in
     let ns = now (d .before .before .before .args .numbers) in
-    ap (λ n. lent n ns) (c .number .ensures ∙ ap numberOf (c .before .refusal .ensures))
+    ap (λ n. lent n ns) (c .number .ensures ∙ ap refusalNumber (c .before .refusal .ensures))
     ∙ ap (λ a. decodedNumbers a ns) (sym (f .f .given .1) ∙ d .decode .ensures)
 
 same-length : tie.Need-same-length

@@ -1,7 +1,7 @@
 -- `c_codec::loomfinch_encode` meets its contract: each arm is a case of `encodedNumbers`. Assumes nothing.
 use mathlib.Core.Path.{ap, _∙_, sym}
 use denote.Ref.{now}
-use Rattle.value.specs.Codec.{After}
+use Rattle.value.specs.Codec.{AfterEncode}
 use Rattle.c_answers.specs.Answers.{wrote}
 use Rattle.c_codec.specs.Codec.{encodeNumbers, encodedNumbers}
 use borrow.Author.Needs.{needs}
@@ -30,7 +30,7 @@ returns c =
     let e = n .before .before .before .before in
     let m = now (e .before .before .before .before .args .written) in
     ap (λ r. encodedNumbers r (e .encode-word .last .1 .1 .1 .0) m) (sym (n .n .given .1))
-    ∙ ap (λ (a : After). encodedNumbers (a .answer) (a .out) m) (e .encode-word .ensures)
+    ∙ ap (λ (a : AfterEncode). encodedNumbers (a .answer) (a .out) m) (e .encode-word .ensures)
 
 same-length-2 : tie.Need-same-length-2
 same-length-2 c = search needs
@@ -44,7 +44,7 @@ returns-2 c =
     let o = e .encode-word .last .1 .1 .1 .0 in
     ap (λ n. wrote n o m) (c .number .ensures)
     ∙ ap (λ r. encodedNumbers r o m) (sym (r .r .given .1))
-    ∙ ap (λ (a : After). encodedNumbers (a .answer) (a .out) m) (e .encode-word .ensures)
+    ∙ ap (λ (a : AfterEncode). encodedNumbers (a .answer) (a .out) m) (e .encode-word .ensures)
 
 pub loomfinch-encode-spec : {M : Type 1} → statement M
 loomfinch-encode-spec =

@@ -1,7 +1,7 @@
 -- `c_dictionary::loomfinch_get_configured_cns` meets its contract: each arm is a case of `listedNumbers`. Assumes nothing.
 use mathlib.Core.Path.{ap, _∙_, sym}
 use denote.Ref.{now}
-use Rattle.nodes.specs.Nodes.{Given}
+use Rattle.nodes.specs.Nodes.{AfterListing}
 use Rattle.c_answers.specs.Answers.{wrote}
 use Rattle.c_dictionary.specs.Dictionary.{listedNumbers, nodeNumbers}
 use borrow.Author.Needs.{needs}
@@ -30,7 +30,7 @@ returns c =
     let g = n .before .before .before .before in
     let m = now (g .before .before .before .before .before .before .before .args .count) in
     ap (λ a. listedNumbers a (g .get-configured-cns .last .1 .1 .1 .1 .0) m) (sym (n .n .given .1))
-    ∙ ap (λ (a : Given). listedNumbers (a .answer) (a .out) m) (g .get-configured-cns .ensures)
+    ∙ ap (λ (a : AfterListing). listedNumbers (a .answer) (a .out) m) (g .get-configured-cns .ensures)
 
 same-length-2 : tie.Need-same-length-2
 same-length-2 c = search needs
@@ -44,7 +44,7 @@ returns-2 c =
     let o = g .get-configured-cns .last .1 .1 .1 .1 .0 in
     ap (λ n. wrote n o m) (c .number .ensures)
     ∙ ap (λ a. listedNumbers a o m) (sym (r .r .given .1))
-    ∙ ap (λ (a : Given). listedNumbers (a .answer) (a .out) m) (g .get-configured-cns .ensures)
+    ∙ ap (λ (a : AfterListing). listedNumbers (a .answer) (a .out) m) (g .get-configured-cns .ensures)
 
 pub loomfinch-get-configured-cns-spec : {M : Type 1} → statement M
 loomfinch-get-configured-cns-spec =

@@ -1,7 +1,7 @@
 -- `c_dictionary::loomfinch_increment_counter` meets its contract. Assumes nothing.
 use mathlib.Core.Path.{ap, _∙_}
 use Rattle.c_answers.specs.Answers.{answerNumber}
-use Rattle.counter.specs.Counter.{Counted}
+use Rattle.counter.specs.Counter.{AfterIncrement}
 use borrow.Author.Needs.{needs}
 use Rattle.c_dictionary.proofs.loomfinch_increment_counter.Statement.{statement}
 use Rattle.c_dictionary.proofs.loomfinch_increment_counter.Tie as tie
@@ -18,7 +18,7 @@ same-length c = search needs
 returns : tie.Need-returns
 returns c =
     let n = c .before .before .before in
-    (c .number-of .ensures ∙ ap (λ (a : Counted). answerNumber (a .answer)) (n .increment-counter .ensures), ap (λ (a : Counted). a .words) (n .increment-counter .ensures))
+    (c .number-of .ensures ∙ ap (λ (a : AfterIncrement). answerNumber (a .answer)) (n .increment-counter .ensures), ap (λ (a : AfterIncrement). a .words) (n .increment-counter .ensures))
 
 pub loomfinch-increment-counter-spec : {M : Type 1} → statement M
 loomfinch-increment-counter-spec =

@@ -12,17 +12,17 @@ use Rattle.c_dictionary.proofs.loomfinch_read.Tie as tie
 read-requires : tie.Need-read-requires
 read-requires c κs = search needs
 
-enum-known-kind : tie.Need-enum-known-kind
-enum-known-kind c = search needs
+enum-known-value-type : tie.Need-enum-known-value-type
+enum-known-value-type c = search needs
 
 returns : tie.Need-returns
 unfolding readNumbers
 returns c =
     let k = c .before .before in
-    let v = k .kind .given .0 in
+    let v = k .value-type .given .0 in
     let r = k .before .before in
     let ns = now (r .before .before .before .before .before .before .args .numbers) in
-    sym (results-short (v .0 ∷ v .1 .0 ∷ v .1 .1 .0 ∷ []) ns (c .if1 .taken)) ∙ ap (λ a. storedNumbers a ns) (sym (k .kind .given .1) ∙ r .read .ensures)
+    sym (results-short (v .0 ∷ v .1 .0 ∷ v .1 .1 .0 ∷ []) ns (c .if1 .taken)) ∙ ap (λ a. storedNumbers a ns) (sym (k .value-type .given .1) ∙ r .read .ensures)
 
 slice-aggregate-lay-words : tie.Need-slice-aggregate-lay-words
 slice-aggregate-lay-words c = search needs
@@ -45,10 +45,10 @@ returns-2 c =
     let l = c .before .before in
     let i = l .before .before .before in
     let k = i .before .before in
-    let v = k .kind .given .0 in
+    let v = k .value-type .given .0 in
     let r = k .before .before in
     let ns = now (r .before .before .before .before .before .before .args .numbers) in
-    ap (lent 0) (l .lay-words .ensures) ∙ sym (results-done (v .0 ∷ v .1 .0 ∷ v .1 .1 .0 ∷ []) ns (i .if1 .left)) ∙ ap (λ a. storedNumbers a ns) (sym (k .kind .given .1) ∙ r .read .ensures)
+    ap (lent 0) (l .lay-words .ensures) ∙ sym (results-done (v .0 ∷ v .1 .0 ∷ v .1 .1 .0 ∷ []) ns (i .if1 .left)) ∙ ap (λ a. storedNumbers a ns) (sym (k .value-type .given .1) ∙ r .read .ensures)
 
 returns-3 : tie.Need-returns-3
 unfolding readNumbers
@@ -63,7 +63,7 @@ loomfinch-read-spec =
     tie.close
     (tie.spec
     read-requires
-    enum-known-kind
+    enum-known-value-type
     returns
     slice-aggregate-lay-words
     lay-words-requires

@@ -2,7 +2,7 @@
 use mathlib.Core.Path.{ap, _∙_}
 use denote.Ref.{now}
 use Rattle.entry.specs.Put.{contents}
-use Rattle.pdo_cycle.specs.Cycle.{After}
+use Rattle.pdo_cycle.specs.Cycle.{AfterCycle}
 use Rattle.c_receiving.specs.Receiving.{Counted, heard, cycleNumbers}
 use borrow.Author.Needs.{needs}
 use Rattle.c_receiving.proofs.loomfinch_consume_cycle.Statement.{statement}
@@ -30,7 +30,7 @@ returns c =
     let s = u .before .before .before .before .before .before .before .before .before .before .before in
     let l = u .consume-cycle .last in
     ap (λ (t : Counted). heard (t .answer) (contents (l .1 .1 .0) (l .1 .1 .1 .0)) (l .1 .1 .1 .1 .1 .1 .0) (t .consumed) (t .count)) (c .cycled .ensures)
-    ∙ ap (λ (a : After). cycleNumbers a (now (s .args .consumed)) (now (s .args .count))) (u .consume-cycle .ensures)
+    ∙ ap (λ (a : AfterCycle). cycleNumbers a (now (s .args .consumed)) (now (s .args .count))) (u .consume-cycle .ensures)
 
 pub loomfinch-consume-cycle-spec : {M : Type 1} → statement M
 loomfinch-consume-cycle-spec =

@@ -2,7 +2,7 @@
 use mathlib.Core.Path.{ap, _∙_}
 use denote.Ref.{now}
 use Rattle.entry.specs.Put.{contents}
-use Rattle.pdo_handler.specs.Consume.{After}
+use Rattle.pdo_handler.specs.Consume.{AfterConsume}
 use Rattle.c_answers.specs.Answers.{Told}
 use Rattle.c_receiving.specs.Receiving.{heard, consumeNumbers}
 use borrow.Author.Needs.{needs}
@@ -31,7 +31,7 @@ returns c =
     let s = u .before .before .before .before .before .before .before .before .before .before in
     let l = u .consume-logged .last in
     ap (λ (t : Told). heard (t .answer) (contents (l .1 .1 .0) (l .1 .1 .1 .0)) (l .1 .1 .1 .1 .1 .1 .1 .1 .1 .0) 0 (t .number)) (c .consumed .ensures)
-    ∙ ap (λ (a : After). consumeNumbers a (now (s .args .count))) (u .consume-logged .ensures)
+    ∙ ap (λ (a : AfterConsume). consumeNumbers a (now (s .args .count))) (u .consume-logged .ensures)
 
 pub loomfinch-consume-pdo-payload-spec : {M : Type 1} → statement M
 loomfinch-consume-pdo-payload-spec =

@@ -1,6 +1,6 @@
 -- `c_storing::loomfinch_write` meets its contract. Assumes nothing.
 use mathlib.Core.Path.{ap, _∙_}
-use Rattle.writing.specs.Writing.{After}
+use Rattle.writing.specs.Writing.{AfterWrite}
 use Rattle.c_storing.specs.Storing.{wroteNumber}
 use borrow.Author.Needs.{needs}
 use Rattle.c_storing.proofs.loomfinch_write.Statement.{statement}
@@ -24,7 +24,7 @@ same-length-3 c = search needs
 returns : tie.Need-returns
 returns c =
     let e = c .before .before .before .before .before .before .before .write .ensures in
-    (c .wrote .ensures ∙ ap (λ (a : After). wroteNumber (a .answer)) e, (ap (λ (a : After). a .words) e, (ap (λ (a : After). a .bytes) e, ap (λ (a : After). a .store) e)))
+    (c .wrote .ensures ∙ ap (λ (a : AfterWrite). wroteNumber (a .answer)) e, (ap (λ (a : AfterWrite). a .words) e, (ap (λ (a : AfterWrite). a .bytes) e, ap (λ (a : AfterWrite). a .store) e)))
 
 pub loomfinch-write-spec : {M : Type 1} → statement M
 loomfinch-write-spec =

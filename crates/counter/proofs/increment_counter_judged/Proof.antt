@@ -4,7 +4,7 @@ use denote.Ref.{now}
 use lib.ListN.{set}
 use Rattle.answers.specs.declared.Answer.the-variants.{Done}
 use Rattle.entry.specs.Table.{Dict, dict}
-use Rattle.counter.specs.Counter.{after, counterOf}
+use Rattle.counter.specs.Counter.{afterIncrement, counterOf}
 use Rattle.counter.proofs.CounterLaws.{CounterLies, counter-lies}
 use native.Mathlib.Omega.{arith}
 use borrow.Author.Needs.{needs}
@@ -48,7 +48,7 @@ returns-2 c =
     let p = c .before .before .before in
     let k = p .before .before in
     let s = start k in
-    simp (s .pre, sym (k .counter-at .ensures) ∙ p .p .given .1) (ap (λ w. after Done (set (now (s .args .words)) (p .p .given .0 .0) w)) (c .wrapping-add-u32 .ensures))
+    simp (s .pre, sym (k .counter-at .ensures) ∙ p .p .given .1) (ap (λ w. afterIncrement Done (set (now (s .args .words)) (p .p .given .0 .0) w)) (c .wrapping-add-u32 .ensures))
 
 pub increment-counter-judged-spec : {M : Type 1} → statement M
 increment-counter-judged-spec =

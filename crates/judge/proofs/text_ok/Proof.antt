@@ -13,7 +13,7 @@ use lib.Seq.{length-take-le}
 use Rattle.text.specs.declared.Text.{Text}
 use Rattle.text.specs.declared.Text.the-variants.{Good, Bad}
 use Rattle.text.specs.Machine.{judge}
-use Rattle.value.specs.declared.Fault.the-variants.{Odd}
+use Rattle.value.specs.declared.CodecFault.the-variants.{Odd}
 use Rattle.value.specs.declared.Word.the-variants.{Takes, Fails}
 use Rattle.value.specs.Codec.{takes, textIs, textWord}
 use Rattle.entry.specs.Rules.{isGood}

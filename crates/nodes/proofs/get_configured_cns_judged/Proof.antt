@@ -6,7 +6,7 @@ use lib.ListN.{length}
 use Rattle.lists.specs.Lists.{over}
 use Rattle.entry.specs.Table.{Dict, dict}
 use Rattle.nodes.specs.declared.Listed.the-variants as listed
-use Rattle.nodes.specs.Nodes.{nodesOf, given, cnsOf}
+use Rattle.nodes.specs.Nodes.{nodesOf, afterListing, cnsOf}
 use Rattle.nodes.proofs.NodeLaws.{nodes-lie}
 use borrow.Author.Needs.{needs}
 use Rattle.nodes.proofs.get_configured_cns_judged.Statement.{statement}
@@ -49,7 +49,7 @@ returns-2 c =
     let l = c .before .before in
     let e = l .before .before in
     let n = e .before in
-    simp (start (n .before) .pre, le-ltb _ _ (rw (counted n) at (e .if1 .left))) (ap₂ (λ m out. given (listed.Numbers m) out) (counted n) (laid l))
+    simp (start (n .before) .pre, le-ltb _ _ (rw (counted n) at (e .if1 .left))) (ap₂ (λ m out. afterListing (listed.Numbers m) out) (counted n) (laid l))
 
 pub get-configured-cns-judged-spec : {M : Type 1} → statement M
 get-configured-cns-judged-spec =

@@ -12,7 +12,7 @@ use Rattle.entry.proofs.ValueLaws.{ValueFacts, every-value}
 use Rattle.pdo_step.specs.declared.Outcome.{Outcome}
 use Rattle.pdo_step.specs.Outcomes.{reach}
 use Rattle.pdo_step.proofs.OutcomeLaws.{reach-within}
-use Rattle.pdo_run.specs.Run.{Logged, Frame, frame, eventOf, actOf, runFrom, logged, finished, notedLog, notedCount}
+use Rattle.pdo_run.specs.Run.{Logged, Frame, frame, outcomeEvent, actOf, runFrom, logged, finished, notedLog, notedCount}
 use Rattle.pdo_run.proofs.RunLaws.{act-keeps, run-end, run-over, run-stops, run-on, finished-none, finished-one, finished-behind, noted-few}
 use native.Mathlib.Omega.{arith}
 use borrow.Author.Needs.{needs}
@@ -58,7 +58,7 @@ roomy : (i : tie.In-loop Inv-loop μ-loop) → i .before .loop .n < length (i .b
 roomy i = let l = i .before in omega (arith, i .loop-test .taken, begin l .pre .1 .4, l .loop .inv .1, l .loop .inv .4)
 
 -- what was acted and noted, as one equation
-same : (t : tie.After-note Inv-loop μ-loop) → let a = acted t in let l = turn a .before in let o = a .act-on .result in let e = eventOf (begin l .args .number) (l .loop .j + 1) o in
+same : (t : tie.After-note Inv-loop μ-loop) → let a = acted t in let l = turn a .before in let o = a .act-on .result in let e = outcomeEvent (begin l .args .number) (l .loop .j + 1) o in
     logged (contents (a .act-on .last .1 .1 .0) (a .act-on .last .1 .1 .1 .0)) (t .note .last .0) (t .note .result) ≡ logged (actOf (F (begin l)) (contents (l .loop .words) (l .loop .bytes)) o) (notedLog (l .loop .log) (l .loop .n) e) (notedCount (l .loop .n) e)
 same t =
     let a = acted t in
@@ -138,7 +138,7 @@ returns c =
     let l = i .before in
     let s = begin l in
     let o = a .act-on .result in
-    same t ∙ sym (finished-one (l .loop .log) (l .loop .n) (eventOf (s .args .number) (l .loop .j + 1) o) _ (roomy i))
+    same t ∙ sym (finished-one (l .loop .log) (l .loop .n) (outcomeEvent (s .args .number) (l .loop .j + 1) o) _ (roomy i))
     ∙ ap (λ r. finished r (l .loop .log) (l .loop .n)) (sym (run-stops (F s) (s .args .first) (now (s .args .list)) (l .loop .j) _ (i .loop-test .taken) (eight a) o (a .act-on .ensures .0) (sym (z .stops .ensures) ∙ c .if2 .taken)))
     ∙ l .loop .inv .6
 
@@ -158,7 +158,7 @@ loop-again-2 c =
     let s = begin l in
     let g = s .args in
     let o = a .act-on .result in
-    let e = eventOf (g .number) (l .loop .j + 1) o in
+    let e = outcomeEvent (g .number) (l .loop .j + 1) o in
     let q = sym (z .stops .ensures) ∙ c .if2 .left in
     let b : Bytes (now (g .payload)) = λ k. omega (arith, l .before .before .before .shared-slice-known3 .given k) in (
       omega (arith, i .loop-test .taken),

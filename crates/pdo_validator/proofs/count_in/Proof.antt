@@ -8,7 +8,7 @@ use denote.Ref.{now}
 use borrow.Author.Tests.{eq-eqb, ne-eqb, le-leb, lt-leb}
 use Rattle.entry.specs.Table.{Dict, dict, kindAt, countAt}
 use Rattle.entry.proofs.ValueLaws.{row-lies, elements-lie}
-use Rattle.pdo_validator.specs.Counting.{within, endsFrom, countOn}
+use Rattle.pdo_validator.specs.Counting.{withinLimit, endsFrom, countOn}
 use native.Mathlib.Omega.{arith}
 use borrow.Author.Needs.{needs}
 use Rattle.pdo_validator.proofs.count_in.Statement.{statement}
@@ -74,7 +74,7 @@ returns-3 c =
     let k = f .before .before .before .before in
     let s = start k in
     simp (array (f .before .before .before), enough (f .before))
-    (c .fits2 .ensures ∙ ap₂ within (c .before .limit .ensures) (e .ends .ensures ∙ ap (λ p. endsFrom (now (s .args .slots)) (now (s .args .words)) (s .args .n) p 0) (f .first-at .ensures)))
+    (c .fits2 .ensures ∙ ap₂ withinLimit (c .before .limit .ensures) (e .ends .ensures ∙ ap (λ p. endsFrom (now (s .args .slots)) (now (s .args .words)) (s .args .n) p 0) (f .first-at .ensures)))
 
 pub count-in-spec : {M : Type 1} → statement M
 count-in-spec =

@@ -1,7 +1,7 @@
 -- `pdo_validator::fits` meets its contract. Assumes nothing.
 use mathlib.Core.Path.{sym, ap}
 use borrow.Author.Tests.{le-leb, lt-leb}
-use Rattle.pdo_validator.specs.Counting.{within}
+use Rattle.pdo_validator.specs.Counting.{withinLimit}
 use borrow.Author.Needs.{needs}
 use Rattle.pdo_validator.proofs.fits.Statement.{statement}
 use Rattle.pdo_validator.proofs.fits.Tie as tie
@@ -14,7 +14,7 @@ enum-known-ends c = search needs
 
 returns : tie.Need-returns
 returns c =
-    let l = c .before .before .args .limit in ap (within l) (sym (c .enum-told .given .1))
+    let l = c .before .before .args .limit in ap (withinLimit l) (sym (c .enum-told .given .1))
 
 returns-2 : tie.Need-returns-2
 returns-2 c =

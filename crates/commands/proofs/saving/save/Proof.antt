@@ -8,7 +8,7 @@ use Rattle.lists.specs.Numbers.{bytesOf}
 use Rattle.entry.specs.Table.{Dict, dict}
 use Rattle.commands.specs.declared.Saved.the-variants.{Done}
 use Rattle.image.specs.Image.{offered, heads, bodies, imageOf}
-use Rattle.commands.specs.Save.{after}
+use Rattle.commands.specs.Save.{afterSave}
 use Rattle.commands.proofs.ImageLaws.{image-laid, length-image}
 use Rattle.commands.proofs.SaveLaws.{many-records, many-bytes, short-store, it-fits, save-full, save-done}
 use native.Mathlib.Omega.{arith}
@@ -100,7 +100,7 @@ returns-4 c =
     let q = p .put-number .ensures ∙ ap (λ x. over t 0 (bytesOf 2 x)) k in
     let f = it-fits rs t (omega (arith, k, e .before .before .if1 .left)) (omega (arith, sized m, e .before .if2 .left)) (omega (arith, k, sized m, e .if3 .left)) in
     let w : length (imageOf rs) ≤ length t = omega (arith, n, k, sized m, e .if3 .left) in
-    ap (after Done) (b .lay-bodies .ensures ∙ ap₂ (λ x y. over x y (bodies rs)) (h .lay-heads .ensures ∙ ap (λ x. over x 2 (heads 0 rs)) q) (ap (λ x. 2 + 8 * x) k) ∙ image-laid t rs w) ∙ sym (save-done (D s) (s .args .list) t f)
+    ap (afterSave Done) (b .lay-bodies .ensures ∙ ap₂ (λ x y. over x y (bodies rs)) (h .lay-heads .ensures ∙ ap (λ x. over x 2 (heads 0 rs)) q) (ap (λ x. 2 + 8 * x) k) ∙ image-laid t rs w) ∙ sym (save-done (D s) (s .args .list) t f)
 
 pub save-spec : {M : Type 1} → statement M
 save-spec =

@@ -52,7 +52,7 @@ use denote.Signature.{plain, shrSliceOf}
 use Rattle.entry.specs.Table.{Dict, dict}
 use Rattle.entry.specs.Put.{contents}
 use Rattle.pdo_handler.specs.declared.Consumed.{Consumed}
-use Rattle.pdo_handler.specs.Consume.{After, after, consumeOf}
+use Rattle.pdo_handler.specs.Consume.{AfterConsume, afterConsume, consumeOf}
 use Rattle.pdo_handler.proofs.Consumed as O
 use Rattle.pdo_handler.proofs.Consumed.Laws as O′
 use Rattle.pdo_handler.proofs.consume_logged as logging
@@ -61,7 +61,7 @@ use Rattle.pdo_handler.proofs.consume_logged.Symbol.{name as #consume-logged}
 use Rattle.pdo_handler.proofs.consume_logged.Met as logging-thm
 use Rattle.events.specs.declared.EventRecord.{EventRecord}
 use Rattle.events.specs.Record.{recordsOf}
-use Rattle.events.specs.Receive.{countOf, received, listed, receivedOf}
+use Rattle.events.specs.Receive.{eventCount, received, listed, receivedOf}
 use Rattle.events.proofs.Locals.{word, byte, val, shares, lends, no, has}
 use Rattle.events.proofs.LocalArray.{whole-cells, cells-room}
 use Rattle.events.proofs.ReceiveLaws.{count-few}
@@ -117,16 +117,16 @@ module _ {M : Type 1} (𝓤 : URA M) (H : Heap 𝓤) (A : Atoms 𝓤) (W : Given
   abbrev D : Dict
   D = dict (ob .now) (sl .now) (wd .now) (by′ .now)
 
-  abbrev consumed : List ℕ → After
+  abbrev consumed : List ℕ → AfterConsume
   consumed ls = consumeOf D (pl .now) sender version ready (length (ev .now)) ls
 
   -- the answer r is the machine value w; the words, the bytes, the log and the events at exit
-  module _ (r : Consumed) (w : Val) (is : Is Q r (w ∷ [])) (ws bs ls : List ℕ) (said : after r (contents ws bs) ls ≡ consumed (replicate 254 0)) where
+  module _ (r : Consumed) (w : Val) (is : Is Q r (w ∷ [])) (ws bs ls : List ℕ) (said : afterConsume r (contents ws bs) ls ≡ consumed (replicate 254 0)) where
     abbrev n : ℕ
-    n = countOf r
+    n = eventCount r
 
     few : (n ≤ 254) × (n ≤ length (ev .now))
-    few = subst (λ (x : Consumed). (countOf x ≤ 254) × (countOf x ≤ length (ev .now))) (sym (ap (λ (x : After). x .answer) said)) (count-few D (pl .now) sender version ready (length (ev .now)) (replicate 254 0))
+    few = subst (λ (x : Consumed). (eventCount x ≤ 254) × (eventCount x ≤ length (ev .now))) (sym (ap (λ (x : AfterConsume). x .answer) said)) (count-few D (pl .now) sender version ready (length (ev .now)) (replicate 254 0))
 
     finished : length ws ≡ length (wd .now) → length bs ≡ length (by′ .now) → (zs : List EventRecord) → zs ≡ recordsOf n ls ++ behind n (ev .now) → length zs ≡ length (ev .now)
         → ent 𝓤 (⋆ 𝓤 H A (‵ (flft κ₅ q₅) ∷ ‵ (finally R (ev .name) zs) ∷ ‵ (flft κ₄ q₄) ∷ ‵ (flft κ₃ q₃) ∷ ‵ (flft κ₂ q₂) ∷ ‵ (flft κ₁ q₁) ∷ ‵ (flft κ₀ q₀) ∷ ‵ (finally u8 (by′ .name) bs) ∷ ‵ (finally u64 (wd .name) ws) ∷ [])) (Post w)
@@ -134,7 +134,7 @@ module _ {M : Type 1} (𝓤 : URA M) (H : Heap 𝓤) (A : Atoms 𝓤) (W : Given
     finished lw lb zs e l =
         qed W (‵ (flft κ₅ q₅) ∷ ‵ (finally R (ev .name) zs) ∷ ‵ (flft κ₄ q₄) ∷ ‵ (flft κ₃ q₃) ∷ ‵ (flft κ₂ q₂) ∷ ‵ (flft κ₁ q₁) ∷ ‵ (flft κ₀ q₀) ∷ ‵ (finally u8 (by′ .name) bs) ∷ ‵ (finally u64 (wd .name) ws) ∷ []) ∵
         suffices ! _ (ends-at 𝓤 H A f.ended stayed (f.clauses 𝓤 H A at-mem run) W bound w r (tt, (tt, (ws, (bs, (tt, (tt, (tt, (tt, (zs, tt))))))))) (tt, (tt, (lw, (lb, (tt, (tt, (tt, (tt, (l, tt)))))))))) $
-        says ! (ap (λ (z : List EventRecord). received r (contents ws bs) z) e ∙ ap (λ (x : After). listed x (ev .now)) said) $
+        says ! (ap (λ (z : List EventRecord). received r (contents ws bs) z) e ∙ ap (λ (x : AfterConsume). listed x (ev .now)) said) $
         nothing ! $ move ! (7 ∷ 6 ∷ 5 ∷ 4 ∷ 3 ∷ 1 ∷ 0 ∷ []) $ group ! 7 $ frame ! $
         -- [the events'; the bytes'; the words']
         nothing ! $ move ! (1 ∷ 0 ∷ []) $ fjoin ! $ nothing ! $ fjoin ! $ nothing ! $ fjoin ! $ nothing ! $ fjoin ! $ nothing ! $ fjoin ! $ move ! (1 ∷ 0 ∷ []) $ fjoin ! $ move ! (1 ∷ 0 ∷ []) $ fjoin ! $ nothing ! $ fjoin ! $ nothing ! $ fjoin ! $ frame ! $
@@ -175,15 +175,15 @@ module _ {M : Type 1} (𝓤 : URA M) (H : Heap 𝓤) (A : Atoms 𝓤) (W : Given
 
     -- the same of `fill`
     abbrev to-filling : Consumed → List ℕ → ℕ → GName → Filling 𝓤 H A at-mem run .Ghost
-    to-filling r ls ν δ = (((κ₅, (ν ∷ [], tt)), (q₅, (fullShare, tt)), tt, (ev, (lg δ ls, (countOf r, tt))), (val ev ∷ [], (sg ∷ [], (vint w64 (countOf r) ∷ [], tt)))), tt)
+    to-filling r ls ν δ = (((κ₅, (ν ∷ [], tt)), (q₅, (fullShare, tt)), tt, (ev, (lg δ ls, (eventCount r, tt))), (val ev ∷ [], (sg ∷ [], (vint w64 (eventCount r) ∷ [], tt)))), tt)
 
     abbrev Asked′ : List ℕ → ℕ → GName → List (Item 𝓤)
     Asked′ ls ν δ = ‵ (flft κ₅ q₅) ∷ ‵ (flft (ν ∷ []) fullShare) ∷ ‵ (lends 5 κ₅ R ev) ∷ ‵ (ShrSlice (named 1) (ν ∷ []) u64 .own (lg δ ls) (sg ∷ [])) ∷ []
 
-    goes-filling : (r : Consumed) (ls : List ℕ) (ν : ℕ) (δ : GName) → length ls ≡ 254 → countOf r ≤ 254 → countOf r ≤ length (ev .now) → ent 𝓤 (⋆ 𝓤 H A (Asked′ ls ν δ)) (Filling 𝓤 H A at-mem run .pre (to-filling r ls ν δ))
+    goes-filling : (r : Consumed) (ls : List ℕ) (ν : ℕ) (δ : GName) → length ls ≡ 254 → eventCount r ≤ 254 → eventCount r ≤ length (ev .now) → ent 𝓤 (⋆ 𝓤 H A (Asked′ ls ν δ)) (Filling 𝓤 H A at-mem run .pre (to-filling r ls ν δ))
     goes-filling r ls ν δ len few inside =
         qed W (Asked′ ls ν δ) ∵ says ! (inside, omega (arith, len, few)) $ nothing ! $ move ! (1 ∷ 2 ∷ 0 ∷ []) $ group ! 3 $ frame ! $
-        nothing ! $ owned ! usize (Is usize) (uint-makes 𝓤 H A W w64) (countOf r) _ (refl, omega (arith, few)) $ fjoin ! $ move ! (2 ∷ 0 ∷ []) $ fjoin ! $ move ! (1 ∷ 0 ∷ []) $ fjoin ! $ done !
+        nothing ! $ owned ! usize (Is usize) (uint-makes 𝓤 H A W w64) (eventCount r) _ (refl, omega (arith, few)) $ fjoin ! $ move ! (2 ∷ 0 ∷ []) $ fjoin ! $ move ! (1 ∷ 0 ∷ []) $ fjoin ! $ done !
 
   abbrev arr : Ty
   arr = tyArray word 254
@@ -242,12 +242,12 @@ module _ {M : Type 1} (𝓤 : URA M) (H : Heap 𝓤) (A : Atoms 𝓤) (W : Given
       abbrev At₅ : ℕ → Val → List ℕ → List ℕ → List EventRecord → List (Item 𝓤)
       At₅ n w ws bs zs = ‵ (froom arr l₁₀ 0) ∷ ‵ (flft κ₅ q₅) ∷ ‵ (finally R (ev .name) zs) ∷ Left ws bs (Passed (has tyUnit l₁₉ vunit (Lent n w)))
 
-      module _ (r : Consumed) (w : Val) (is : Is Q r (w ∷ [])) (ws bs ls : List ℕ) (said : after r (contents ws bs) ls ≡ consumed (replicate 254 0)) (lw : length ws ≡ length (wd .now)) (lb : length bs ≡ length (by′ .now)) (len : length ls ≡ 254) where
+      module _ (r : Consumed) (w : Val) (is : Is Q r (w ∷ [])) (ws bs ls : List ℕ) (said : afterConsume r (contents ws bs) ls ≡ consumed (replicate 254 0)) (lw : length ws ≡ length (wd .now)) (lb : length bs ≡ length (by′ .now)) (len : length ls ≡ 254) where
         typed : Holds (hasTy O′.mir w) × WT w
         typed = EL.lawful O.the-type O′.the-laws 𝓤 H A W tt .typed r _ is .0
 
         -- the answer is the result, and the function returns
-        ended : (zs : List EventRecord) → zs ≡ recordsOf (countOf r) ls ++ behind (countOf r) (ev .now) → length zs ≡ length (ev .now) → Sq W (At₅ (countOf r) w ws bs zs) (runs C Λ En body.t-16 (atRet En Post))
+        ended : (zs : List EventRecord) → zs ≡ recordsOf (eventCount r) ls ++ behind (eventCount r) (ev .now) → length zs ≡ length (ev .now) → Sq W (At₅ (eventCount r) w ws bs zs) (runs C Λ En body.t-16 (atRet En Post))
         ended zs e l =
             assigns ! (of-opd ! (load ! (from ! (stop !)) (look ! 35 refl))) (from ! (stop !)) (init ! 55 refl typed) $
             returns ! (look ! 55 refl) $ forget ! 11 refl $ forget ! 13 refl $ forget ! 15 refl $ forget ! 17 refl $ forget ! 19 refl $ forget ! 21 refl $ forget ! 23 refl $ forget ! 25 refl $ forget ! 27 refl $ forget ! 29 refl $ forget ! 31 refl $ forget ! 33 refl $ forget ! 35 refl $ forget ! 37 refl $ forget ! 39 refl $ forget ! 41 refl $ forget ! 43 refl $ forget ! 45 refl $ forget ! 47 refl $ forget ! 49 refl $ forget ! 51 refl $ forget ! 53 refl $ forget ! 55 refl $
@@ -256,7 +256,7 @@ module _ {M : Type 1} (𝓤 : URA M) (H : Heap 𝓤) (A : Atoms 𝓤) (W : Given
             by ! (finished r w is ws bs ls said lw lb zs e l)
 
         -- `fill`: the numbers are lent for a lifetime ν of the call, as a `&`
-        filled : Sq W (At₄ (countOf r) w ws bs ls) (runs C Λ En body.t-15 (atRet En Post))
+        filled : Sq W (At₄ (eventCount r) w ws bs ls) (runs C Λ En body.t-15 (atRet En Post))
         filled =
             use1 W (‵ (row u64 fullShare ls l₁₀ 0)) (whole-out 𝓤 H A W u64 ls l₁₀ 0) $ feqI ! ℕ (length ls) (length ls) refl $ fjoin ! $
             lft-new ! tt (λ ν. move ! (1 ∷ []) $ use1 W (later (some (λ (δ : GName). ‵ (ShrSlice (named 1) (ν ∷ []) u64 .own (lg l₁₀ δ ls) (sliceVal (l₁₀, 0) (length ls) ∷ [])) ⊛ ‵ (flent (ν ∷ []) (arr-parts (parts u64) (length ls) .part fullShare ls l₁₀ 0)))))
@@ -266,9 +266,9 @@ module _ {M : Type 1} (𝓤 : URA M) (H : Heap 𝓤) (A : Atoms 𝓤) (W : Given
             move ! (12 ∷ 2 ∷ 11 ∷ 0 ∷ []) $ cut {W = W} (Asked′ l₁₀ ls ν δ) (raw (Filling 𝓤 H A at-mem run .pre (to-filling l₁₀ r ls ν δ)) ∷ []) _ (goes-filling l₁₀ r ls ν δ len (few r w is ws bs ls said .0) (few r w is ws bs ls said .1)) $
             -- [the callee's pre; the lender's part; the five tokens; the bytes'; the words'; the array dies; _23; …]
             calls-at ! fm (Filling 𝓤 H A at-mem run) known-filling (to-filling l₁₀ r ls ν δ) (and-then ! (load ! (from ! (stop !)) (look ! 14 refl)) (and-then ! (load ! (from ! (stop !)) (look ! 10 refl)) (and-then ! (load ! (from ! (stop !)) (look ! 24 refl)) (no-more !)))) (λ u.
-            use1 W (later (some (λ (t : Unit {0}). ((‵ (flft κ₅ q₅) ⊛ ‵ (flft (ν ∷ []) fullShare) ⊛ ‵ ftrue) ⊛ ‵ (Nothing .own t (u ∷ []))) ⊛ raw (ensured 𝓤 H A filling.ended (filling.clauses 𝓤 H A at-mem run) (κ₅, (ν ∷ [], tt)) (ev, (lg l₁₀ δ ls, (countOf r, tt))) tt t)))) (id⊢ 𝓤 _) $ await ! tt $ pick ! (λ t.
-            split ! $ move ! (1 ∷ []) $ use1 W (some (λ (zs : List EventRecord × (Unit {0} × (Unit {0} × Unit {0}))). ‵ (lasts filling.ended (κ₅, (ν ∷ [], tt)) (ev, (lg l₁₀ δ ls, (countOf r, tt))) zs) ⊛ raw (fact 𝓤 (zs .0 ≡ recordsOf (countOf r) ls ++ behind (countOf r) (ev .now))))) (id⊢ 𝓤 _) $ pick ! (λ zs.
-            split ! $ move ! (1 ∷ []) $ heard ! (zs .0 ≡ recordsOf (countOf r) ls ++ behind (countOf r) (ev .now)) (λ e. fsplit ! $ fsplit ! $ move ! (1 ∷ []) $ feqL ! (λ l. move ! (1 ∷ []) $ drop ! $
+            use1 W (later (some (λ (t : Unit {0}). ((‵ (flft κ₅ q₅) ⊛ ‵ (flft (ν ∷ []) fullShare) ⊛ ‵ ftrue) ⊛ ‵ (Nothing .own t (u ∷ []))) ⊛ raw (ensured 𝓤 H A filling.ended (filling.clauses 𝓤 H A at-mem run) (κ₅, (ν ∷ [], tt)) (ev, (lg l₁₀ δ ls, (eventCount r, tt))) tt t)))) (id⊢ 𝓤 _) $ await ! tt $ pick ! (λ t.
+            split ! $ move ! (1 ∷ []) $ use1 W (some (λ (zs : List EventRecord × (Unit {0} × (Unit {0} × Unit {0}))). ‵ (lasts filling.ended (κ₅, (ν ∷ [], tt)) (ev, (lg l₁₀ δ ls, (eventCount r, tt))) zs) ⊛ raw (fact 𝓤 (zs .0 ≡ recordsOf (eventCount r) ls ++ behind (eventCount r) (ev .now))))) (id⊢ 𝓤 _) $ pick ! (λ zs.
+            split ! $ move ! (1 ∷ []) $ heard ! (zs .0 ≡ recordsOf (eventCount r) ls ++ behind (eventCount r) (ev .now)) (λ e. fsplit ! $ fsplit ! $ move ! (1 ∷ []) $ feqL ! (λ l. move ! (1 ∷ []) $ drop ! $
             move ! (1 ∷ []) $ split ! $ move ! (1 ∷ []) $ feqL ! (λ eu. land ! (from ! (stop !)) (init ! 19 refl (subst (λ (y : Val). Holds (hasTy tyUnit y) × WT y) (sym (ap only eu)) (tt, tt))) $
             rewrite ! 19 (λ (y : Val). ‵ (fat fullShare tyUnit l₁₉ 0 y)) (ap only eu) refl $
             -- [the tokens; the last events; the lender's part; …]: the lifetime is ended, and the numbers are back
@@ -285,8 +285,8 @@ module _ {M : Type 1} (𝓤 : URA M) (H : Heap 𝓤) (A : Atoms 𝓤) (W : Given
             use0 W (raw (Counting 𝓤 H A at-mem run .pre (to-counting r w is ws bs ls said))) (goes-counting r w is ws bs ls said) $
             calls-at ! fm (Counting 𝓤 H A at-mem run) known-counting (to-counting r w is ws bs ls said) (and-then ! (load ! (from ! (stop !)) (look ! 36 refl)) (no-more !)) (λ v.
             use1 W (later (some (λ (m : ℕ). (‵ ftrue ⊛ ‵ (usize .own m (v ∷ []))) ⊛ raw (ensured 𝓤 H A counting.ended (counting.clauses 𝓤 H A at-mem run) tt (r, tt) tt m)))) (id⊢ 𝓤 _) $ await ! tt $ pick ! (λ m.
-            split ! $ move ! (1 ∷ []) $ use1 W (raw (fact 𝓤 (m ≡ countOf r))) (counts r w is ws bs ls said m) $ heard ! (m ≡ countOf r) (λ e. split ! $ drop ! $ rewrite ! 0 (λ (k : ℕ). ‵ (usize .own k (v ∷ []))) e refl $
-            peeks ! usize (Is usize) (shows 𝓤 H A usize) (countOf r) (v ∷ []) (λ iv. land ! (from ! (stop !)) (store ! 26 refl (uint-lawful 𝓤 H A W w64 .typed (countOf r) _ iv .0)) $
+            split ! $ move ! (1 ∷ []) $ use1 W (raw (fact 𝓤 (m ≡ eventCount r))) (counts r w is ws bs ls said m) $ heard ! (m ≡ eventCount r) (λ e. split ! $ drop ! $ rewrite ! 0 (λ (k : ℕ). ‵ (usize .own k (v ∷ []))) e refl $
+            peeks ! usize (Is usize) (shows 𝓤 H A usize) (eventCount r) (v ∷ []) (λ iv. land ! (from ! (stop !)) (store ! 26 refl (uint-lawful 𝓤 H A W w64 .typed (eventCount r) _ iv .0)) $
             rewrite ! 26 (λ (u : Val). ‵ (fat fullShare word l₁₆ 0 u)) (ap only (iv .0)) refl $ drop ! $ filled))))
 
       -- `consume_logged`: the numbers are lent for a lifetime ν of the call
@@ -308,8 +308,8 @@ module _ {M : Type 1} (𝓤 : URA M) (H : Heap 𝓤) (A : Atoms 𝓤) (W : Given
           (and-then ! (load ! (from ! (stop !)) (look ! 37 refl)) (and-then ! (load ! (from ! (stop !)) (look ! 35 refl)) (and-then ! (load ! (from ! (stop !)) (look ! 33 refl)) (and-then ! (load ! (from ! (stop !)) (look ! 19 refl)) (and-then ! (load ! (from ! (stop !)) (look ! 15 refl)) (no-more !))))))))))) (λ w.
           use1 W (later (some (λ (r : Consumed). ((‵ (flft κ₀ q₀) ⊛ ‵ (flft κ₁ q₁) ⊛ ‵ (flft κ₂ q₂) ⊛ ‵ (flft κ₃ q₃) ⊛ ‵ (flft κ₄ q₄) ⊛ ‵ (flft (ν ∷ []) fullShare) ⊛ ‵ ftrue) ⊛ ‵ (Q .own r (w ∷ []))) ⊛ raw (ensured 𝓤 H A logging.ended (logging.clauses 𝓤 H A at-mem run) (to-logging l₁₀ zs ν δ .0 .0) (to-logging l₁₀ zs ν δ .0 .3) tt r)))) (id⊢ 𝓤 _) $ await ! tt $ pick ! (λ r.
           split ! $ move ! (1 ∷ []) $ use1 W (some (λ (us : Unit {0} × (Unit {0} × (List ℕ × (List ℕ × (Unit {0} × (Unit {0} × (Unit {0} × (Unit {0} × (Unit {0} × (List ℕ × Unit {0})))))))))).
-          ‵ (lasts logging.ended (to-logging l₁₀ zs ν δ .0 .0) (to-logging l₁₀ zs ν δ .0 .3) us) ⊛ raw (fact 𝓤 (after r (contents (us .1 .1 .0) (us .1 .1 .1 .0)) (us .1 .1 .1 .1 .1 .1 .1 .1 .1 .0) ≡ consumed zs)))) (id⊢ 𝓤 _) $ pick ! (λ us.
-          split ! $ move ! (1 ∷ []) $ heard ! (after r (contents (us .1 .1 .0) (us .1 .1 .1 .0)) (us .1 .1 .1 .1 .1 .1 .1 .1 .1 .0) ≡ consumed zs) (λ e.
+          ‵ (lasts logging.ended (to-logging l₁₀ zs ν δ .0 .0) (to-logging l₁₀ zs ν δ .0 .3) us) ⊛ raw (fact 𝓤 (afterConsume r (contents (us .1 .1 .0) (us .1 .1 .1 .0)) (us .1 .1 .1 .1 .1 .1 .1 .1 .1 .0) ≡ consumed zs)))) (id⊢ 𝓤 _) $ pick ! (λ us.
+          split ! $ move ! (1 ∷ []) $ heard ! (afterConsume r (contents (us .1 .1 .0) (us .1 .1 .1 .0)) (us .1 .1 .1 .1 .1 .1 .1 .1 .1 .0) ≡ consumed zs) (λ e.
           -- the last words, bytes and numbers
           fsplit ! $ drop ! $ fsplit ! $ drop ! $ fsplit ! $ fsplit ! $ move ! (1 ∷ []) $ feqL ! (λ lw. move ! (1 ∷ []) $ fsplit ! $ fsplit ! $ move ! (1 ∷ []) $ feqL ! (λ lb. move ! (1 ∷ []) $
           fsplit ! $ drop ! $ fsplit ! $ drop ! $ fsplit ! $ drop ! $ fsplit ! $ drop ! $ fsplit ! $ drop ! $ fsplit ! $ fsplit ! $ move ! (1 ∷ []) $ feqL ! (λ ll. move ! (1 ∷ []) $ drop ! $

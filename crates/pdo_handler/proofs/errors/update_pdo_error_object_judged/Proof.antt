@@ -1,7 +1,7 @@
 -- `pdo_handler::errors::update_pdo_error_object_judged` meets its contract: the bit is set. Assumes nothing.
 use mathlib.Core.Path.{sym, ap, _∙_}
 use Rattle.answers.specs.declared.Answer.the-variants.{Done}
-use Rattle.pdo_handler.specs.Errors.{after, updateOf}
+use Rattle.pdo_handler.specs.Errors.{afterUpdate, updateOf}
 use borrow.Author.Needs.{needs}
 use Rattle.pdo_handler.proofs.errors.update_pdo_error_object_judged.Statement.{statement}
 use Rattle.pdo_handler.proofs.errors.update_pdo_error_object_judged.Tie as tie
@@ -10,7 +10,7 @@ returns : tie.Need-returns
 unfolding updateOf
 returns c =
     let b = c .before .before in
-    ap (after Done) (b .set-bit .ensures) ∙ sym (simp (b .before .before .before .before .before .before .pre))
+    ap (afterUpdate Done) (b .set-bit .ensures) ∙ sym (simp (b .before .before .before .before .before .before .pre))
 
 pub update-pdo-error-object-judged-spec : {M : Type 1} → statement M
 update-pdo-error-object-judged-spec =

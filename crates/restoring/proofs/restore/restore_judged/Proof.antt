@@ -5,7 +5,7 @@ use denote.Ref.{now}
 use borrow.Author.Tests.{not-true, not-false}
 use Rattle.entry.specs.Table.{Dict, dict, numberOf}
 use Rattle.fitting.specs.Fit.{rowsFit}
-use Rattle.restoring.specs.Restore.{after, restoreOf}
+use Rattle.restoring.specs.Restore.{afterRestore, restoreOf}
 use Rattle.restoring.specs.declared.Restored.the-variants.{Done}
 use borrow.Author.Needs.{needs}
 use Rattle.restoring.proofs.restore.restore_judged.Statement.{statement}
@@ -43,7 +43,7 @@ returns-2 c =
     let u = c .before .before .before .before .before .before in
     let e = u .before .before .before .before in
     let r = e .before .before .before .before .before in
-    ap (after Done) (u .restore-rows .ensures) ∙ sym (simp (start r .pre, fit e))
+    ap (afterRestore Done) (u .restore-rows .ensures) ∙ sym (simp (start r .pre, fit e))
 
 pub restore-judged-spec : {M : Type 1} → statement M
 restore-judged-spec =

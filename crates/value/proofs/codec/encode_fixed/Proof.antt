@@ -11,7 +11,7 @@ use Rattle.lists.specs.Numbers.{bytesOf}
 use Rattle.lists.specs.Lists.{over}
 use Rattle.lists.proofs.NumberLaws.{length-bytesOf}
 use Rattle.value.specs.declared.Encoded.the-variants.{Wrote}
-use Rattle.value.specs.Codec.{sizeOf, sayable, encoding, after}
+use Rattle.value.specs.Codec.{sizeOf, sayable, encoding, afterEncode}
 use Rattle.value.proofs.CodecLaws.{encode-bad, encode-short, encode-done, sayable-fixed, encoding-fixed}
 use Rattle.value.proofs.codec.encode_fixed.Statement.{statement}
 use Rattle.value.proofs.codec.encode_fixed.Tie as tie
@@ -63,7 +63,7 @@ returns-3 c =
     let o = now (a .args .out) in
     let n = k .size-of .result in
     let e : bytesOf n w ≡ encoding t w [] = ap (λ m. bytesOf m w) (k .size-of .ensures) ∙ sym (bytes a) in
-    ap₂ (λ m l. after (Wrote m) l) (sym (size k)) (p .put-number .ensures ∙ ap (over o 0) e)
+    ap₂ (λ m l. afterEncode (Wrote m) l) (sym (size k)) (p .put-number .ensures ∙ ap (over o 0) e)
     ∙ sym (encode-done t w [] o (fitting (k .before)) (omega (arith, size k)))
 
 pub encode-fixed-spec : {M : Type 1} → statement M

@@ -7,7 +7,7 @@ use denote.Ref.{now}
 use lib.ListN.{length}
 use Rattle.lists.specs.Lists.{over}
 use Rattle.value.specs.declared.Encoded.the-variants.{Wrote}
-use Rattle.value.specs.Codec.{sayable, encoding, after}
+use Rattle.value.specs.Codec.{sayable, encoding, afterEncode}
 use Rattle.value.proofs.CodecLaws.{encode-bad, encode-short, encode-done, sayable-text, encoding-text}
 use Rattle.value.proofs.codec.encode_text.Statement.{statement}
 use Rattle.value.proofs.codec.encode_text.Tie as tie
@@ -66,7 +66,7 @@ returns-4 c =
     let k = p .before .before in
     let a = k .before .before .before .before .before .before .before in
     let e = part-itself a in
-    ap₂ (λ m l. after (Wrote m) l) (sym (ap length e)) (p .lay .ensures ∙ ap (over (now (a .args .out)) 0) (sym e))
+    ap₂ (λ m l. afterEncode (Wrote m) l) (sym (ap length e)) (p .lay .ensures ∙ ap (over (now (a .args .out)) 0) (sym e))
     ∙ sym (encode-done (a .args .t) (a .args .word) (now (a .args .part)) (now (a .args .out)) (good (k .before)) (rw e (k .if2 .left)))
 
 pub encode-text-spec : {M : Type 1} → statement M

@@ -9,7 +9,7 @@ use Rattle.entry.specs.Find.{subAt}
 use Rattle.entry.specs.declared.Found.the-variants.{At}
 use Rattle.entry.specs.declared.Place.{Place}
 use Rattle.entry.proofs.ValueLaws.{rows-of, RowLies, found-lies, value-lies}
-use Rattle.writing.specs.declared.Judged.the-variants.{Kept, Refused}
+use Rattle.writing.specs.declared.Judged.the-variants.{Accepted, Refused}
 use Rattle.writing.specs.Judging.{inPlace, inObject}
 use borrow.Author.Needs.{needs}
 use Rattle.writing.proofs.judging.in_row.Statement.{statement}
@@ -82,13 +82,13 @@ returns-4 : tie.Need-returns-4
 returns-4 c =
     let e = c .before .before in
     let u = e .before .before in
-    sym (ap (λ b. cond b Kept (Refused CountNotWritable)) (sym (c .before .is-mapping .ensures) ∙ c .if2 .taken)) ∙ placed u _ (e .enum-told3 .given .1)
+    sym (ap (λ b. cond b Accepted (Refused CountNotWritable)) (sym (c .before .is-mapping .ensures) ∙ c .if2 .taken)) ∙ placed u _ (e .enum-told3 .given .1)
 
 returns-5 : tie.Need-returns-5
 returns-5 c =
     let e = c .before .before in
     let u = e .before .before in
-    sym (ap (λ b. cond b Kept (Refused CountNotWritable)) (sym (c .before .is-mapping .ensures) ∙ c .if2 .left)) ∙ placed u _ (e .enum-told3 .given .1)
+    sym (ap (λ b. cond b Accepted (Refused CountNotWritable)) (sym (c .before .is-mapping .ensures) ∙ c .if2 .left)) ∙ placed u _ (e .enum-told3 .given .1)
 
 returns-6 : tie.Need-returns-6
 returns-6 c =

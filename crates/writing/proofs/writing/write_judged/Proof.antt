@@ -4,10 +4,10 @@ use denote.Ref.{now}
 use Rattle.entry.specs.Table.{Dict, dict}
 use Rattle.entry.specs.Put.{Contents}
 use Rattle.entry.proofs.KeepLaws.{puts-of}
-use Rattle.commands.specs.Save.{After as Saving}
+use Rattle.commands.specs.Save.{AfterSave}
 use Rattle.writing.specs.declared.Judged.{Judged}
 use Rattle.writing.specs.declared.Wrote.the-variants.{Done}
-use Rattle.writing.specs.Writing.{after, savedAs, actOf, writeOf}
+use Rattle.writing.specs.Writing.{afterWrite, savedAs, writeActOf, writeOf}
 use Rattle.writing.proofs.PutLaws.{judged-fits, judged-facts}
 use borrow.Author.Needs.{needs}
 use Rattle.writing.proofs.writing.write_judged.Statement.{statement}
@@ -22,12 +22,12 @@ start c = c .before .before .before .before .before .before .before .before .bef
 -- what was judged is acted on
 acted : (c : tie.After-judge-write) (q : Judged) → c .judge-write .result ≡ q
     → let s = start c in let a = s .args in
-    actOf (D s) (now (a .store)) (a .sub) (now (a .«data»)) q ≡ writeOf (D s) (now (a .store)) (a .index) (a .sub) (a .t) (now (a .«data»))
+    writeActOf (D s) (now (a .store)) (a .sub) (now (a .«data»)) q ≡ writeOf (D s) (now (a .store)) (a .index) (a .sub) (a .t) (now (a .«data»))
 unfolding writeOf
 acted c q e =
     let s = start c in
     let a = s .args in
-    simp (s .pre) (ap (actOf (D s) (now (a .store)) (a .sub) (now (a .«data»))) (sym e ∙ c .judge-write .ensures))
+    simp (s .pre) (ap (writeActOf (D s) (now (a .store)) (a .sub) (now (a .«data»))) (sym e ∙ c .judge-write .ensures))
 
 put-value-requires : tie.Need-put-value-requires
 put-value-requires c κs =
@@ -41,35 +41,35 @@ save-requires : tie.Need-save-requires
 save-requires c κs = start (c .before .before .before .before .before) .pre
 
 returns : tie.Need-returns
-unfolding actOf
+unfolding writeActOf
 returns c =
     let u = c .before .before .before .before in
     let p = u .before .before .before .before in
     let j = p .before .before in
     let s = start j in
-    ap (λ (x : Contents). after Done (x .words) (x .bytes) (now (s .args .store))) (u .put-value .ensures) ∙ acted j _ (p .p .given .1)
+    ap (λ (x : Contents). afterWrite Done (x .words) (x .bytes) (now (s .args .store))) (u .put-value .ensures) ∙ acted j _ (p .p .given .1)
 
 returns-2 : tie.Need-returns-2
-unfolding actOf
+unfolding writeActOf
 returns-2 c = acted (c .before .before) _ (c .enum-told .given .1)
 
 returns-3 : tie.Need-returns-3
-unfolding actOf
+unfolding writeActOf
 returns-3 c =
     let v = c .before .before .before in
     let e = v .before .before .before .before in
     let j = e .before .before in
     let s = start j in
-    ap (λ x. after x (now (s .args .words)) (now (s .args .bytes)) (v .save .last .1 .1 .1 .1 .1 .0)) (c .saved .ensures)
-    ∙ ap (λ (x : Saving). after (savedAs (x .answer)) (now (s .args .words)) (now (s .args .bytes)) (x .store)) (v .save .ensures)
+    ap (λ x. afterWrite x (now (s .args .words)) (now (s .args .bytes)) (v .save .last .1 .1 .1 .1 .1 .0)) (c .saved .ensures)
+    ∙ ap (λ (x : AfterSave). afterWrite (savedAs (x .answer)) (now (s .args .words)) (now (s .args .bytes)) (x .store)) (v .save .ensures)
     ∙ acted j _ (e .enum-told2 .given .1)
 
 returns-4 : tie.Need-returns-4
-unfolding actOf
+unfolding writeActOf
 returns-4 c = acted (c .before .before) _ (c .enum-told3 .given .1)
 
 returns-5 : tie.Need-returns-5
-unfolding actOf
+unfolding writeActOf
 returns-5 c = let r = c .before in acted (r .before .before) _ (r .r .given .1)
 
 pub write-judged-spec : {M : Type 1} → statement M
