@@ -33,11 +33,11 @@ plainFrom d zero p b = Upto b
 plainFrom d (suc k) p b = cond (plainOk d p b) (plainFrom d k (suc p) (b + roomAt (d .slots) p)) Bad
 
 -- ---- one turn, and the end
-pub plain-step : (d : Dict) (k f j b : ℕ) → j < k → plainFrom d (k - j) (f + j) b ≡ cond (plainOk d (f + j) b) (plainFrom d (k - (j + 1)) (f + (j + 1)) (b + roomAt (d .slots) (f + j))) Bad
+pub plain-step : (d : Dict) (end p b : ℕ) → p < end → plainFrom d (end - p) p b ≡ cond (plainOk d p b) (plainFrom d (end - (p + 1)) (p + 1) (b + roomAt (d .slots) p)) Bad
 unfolding plainFrom
-plain-step d k f j b h =
-    let e : k - j ≡ suc (k - (j + 1)) = omega arith in
-    let q : f + (j + 1) ≡ suc (f + j) = omega arith in
+plain-step d end p b h =
+    let e : end - p ≡ suc (end - (p + 1)) = omega arith in
+    let q : p + 1 ≡ suc p = omega arith in
     rw (e, q)
 
 pub plain-end : (d : Dict) (k p b : ℕ) → k ≡ 0 → plainFrom d k p b ≡ Upto b

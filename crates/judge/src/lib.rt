@@ -6,7 +6,7 @@ ghost use lib.Dec.{eqb, leb};
 ghost use lib.ListN.{length, take, drop, getD};
 ghost use Rattle.text.specs.Machine.{judge};
 ghost use Rattle.value.specs.Codec.{isText, takes, textWord};
-ghost use Rattle.entry.specs.Table.{numberOf, valuesOf, usedOf, rowEnd, slotPlace, slotEnd, countAt, defaultAt, typeAt, startAt, roomAt, dict};
+ghost use Rattle.entry.specs.Table.{numberOf, valuesOf, usedOf, rowEnd, slotPlace, slotEnd, countAt, defaultAt, nameLenAt, typeAt, startAt, roomAt, dict};
 ghost use Rattle.entry.specs.Rules.{isGood, valOk, tight, headOk, extraOk};
 ghost use Rattle.entry.specs.Judge.{reserved, slotsFrom, rowOk, rowFits, rowsFrom, headerOk, wellFormed, Long};
 use entry::Extra;
@@ -54,14 +54,13 @@ fn text_ok(t: u64, s: &[u8], start: usize, len: usize) -> bool
     !((t == 13) & odd)
 }
 
+// A value's word, and a text or bytes, in a room that is no longer than a room may be.
 fn val_ok(t: u64, w: u64, room: u64, s: &[u8], start: usize) -> bool
     requires { ⌜ (w ≤ room → isText t ≡ true → start + w ≤ length (now s)) ⌝ }
+    requires { ⌜ room ≤ 1490 ⌝ }
     ensures { λ r. ⌜ r ≡ valOk t w room (drop start (now (s .entry))) ⌝ }
 {
     if 20 < t {
-        return false;
-    }
-    if 1490 < room {
         return false;
     }
     if value::is_text(t) {
@@ -116,17 +115,20 @@ fn extra_ok(count: u64, extra: Extra) -> bool
 }
 
 // A slot that is not the default's: its room lies from b on, within the bytes that are used, and its value is right.
+// A sum is compared, not a difference: the walk needs it as well. It has no overflow, since the room is judged before.
 fn slot_ok(slots: &[u64], words: &[u64], bytes: &[u8], used: u64, p: usize, b: usize) -> bool
-    requires { ⌜ (p < 6144) × (slotEnd p ≤ length (now slots)) × (p < length (now words)) × (b ≤ used) × (used ≤ length (now bytes)) ⌝ }
+    requires { ⌜ (p < 6144) × (slotEnd p ≤ length (now slots)) × (p < length (now words)) × (b ≤ used) × (used ≤ length (now bytes)) × (used ≤ 32768) ⌝ }
     ensures { λ r. ⌜ r ≡ (eqb (startAt (now (slots .entry)) p) b && (leb (roomAt (now (slots .entry)) p) (used - b) && valOk (typeAt (now (slots .entry)) p) (getD (now (words .entry)) p 0) (roomAt (now (slots .entry)) p) (drop b (now (bytes .entry))))) ⌝ }
 {
     let room = room_at(slots, p);
-    let left = used - b as u64;
     let start = start_at(slots, p);
     if start != b as u64 {
         return false;
     }
-    if left < room {
+    if 1490 < room {
+        return false;
+    }
+    if used < b as u64 + room {
         return false;
     }
     let t = type_at(slots, p);
@@ -145,22 +147,23 @@ fn walk_slots(
     k: usize,
     start: usize,
 ) -> Sum
-    requires { ⌜ (from + k ≤ 6144) × (slotPlace (from + k) ≤ length (now slots)) × (from + k ≤ length (now words)) × (12 ≤ length (now objects)) × (start ≤ usedOf (now objects)) × (usedOf (now objects) ≤ length (now bytes)) ⌝ }
+    requires { ⌜ (from + k ≤ 6144) × (slotPlace (from + k) ≤ length (now slots)) × (from + k ≤ length (now words)) × (12 ≤ length (now objects)) × (start ≤ usedOf (now objects)) × (usedOf (now objects) ≤ length (now bytes)) × (usedOf (now objects) ≤ 32768) ⌝ }
     requires { ⌜ k ≤ elements + 1 ⌝ }
     ensures { λ r. ⌜ r ≡ slotsFrom (dict (now (objects .entry)) (now (slots .entry)) (now (words .entry)) (now (bytes .entry))) elements k from start ⌝ }
 {
     let used = used_of(objects);
-    let mut j = 0;
+    let end = from + k;
+    let mut p = from;
     let mut b = start;
-    while j < k {
-        if !slot_ok(slots, words, bytes, used, from + j, b) {
+    while p < end {
+        if !slot_ok(slots, words, bytes, used, p, b) {
             return Sum::Bad;
         }
-        b += room_at(slots, from + j) as usize;
-        j += 1;
+        b += room_at(slots, p) as usize;
+        p += 1;
     }
     if elements < k as u64 {
-        let q = from + k - 1;
+        let q = end - 1;
         if !tight(type_at(slots, q), words[q], room_at(slots, q)) {
             return Sum::Bad;
         }
@@ -191,17 +194,15 @@ fn row_ok(objects: &[u64], i: usize, v: usize, b: usize, low: u64) -> bool
 
 fn row_fits(objects: &[u64], bytes: &[u8], i: usize, v: usize, b: usize) -> bool
     requires { ⌜ (i < 1024) × (rowEnd i ≤ length (now objects)) × (v ≤ valuesOf (now objects)) × (b ≤ usedOf (now objects)) × (usedOf (now objects) ≤ length (now bytes)) ⌝ }
-    requires { ⌜ (countAt (now objects) i ≤ 254) × (defaultAt (now objects) i ≤ 1) ⌝ }
+    requires { ⌜ (countAt (now objects) i ≤ 254) × (defaultAt (now objects) i ≤ 1) × (nameLenAt (now objects) i ≤ 32) × (valuesOf (now objects) ≤ 6144) × (usedOf (now objects) ≤ 32768) ⌝ }
     ensures { λ r. ⌜ r ≡ rowFits (now (objects .entry)) (now (bytes .entry)) i v b ⌝ }
 {
     let used = count_at(objects, i) + default_at(objects, i);
     let len = name_len_at(objects, i);
-    let values = values_of(objects) - v as u64;
-    let left = used_of(objects) - b as u64;
-    if values < used {
+    if values_of(objects) < v as u64 + used {
         return false;
     }
-    if left < len {
+    if used_of(objects) < b as u64 + len {
         return false;
     }
     is_good(bytes, b, len as usize)

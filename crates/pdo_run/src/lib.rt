@@ -166,6 +166,20 @@ fn gather(words: &[u64], first: usize, n: usize) -> [u64; 254]
     list
 }
 
+// The same of a short list: an array is made and handed back as a whole, and 2 KB of zeros cost more than such a list.
+fn gather_few(words: &[u64], first: usize, n: usize) -> [u64; 16]
+    requires { ⌜ (n ≤ 16) × (first + n ≤ length (now words)) ⌝ }
+    ensures { λ r. ⌜ (length r ≡ 16) × (take n r ≡ take n (drop first (now (words .entry)))) ⌝ }
+{
+    let mut few = [0u64; 16];
+    let mut j = 0;
+    while j < n {
+        few[j] = words[first + j];
+        j += 1;
+    }
+    few
+}
+
 // The words of the list in row r: all are gathered before the first is acted on.
 fn run_row(
     objects: &[u64],
@@ -185,6 +199,22 @@ fn run_row(
 {
     let first = entry::first_at(objects, r) as usize;
     let n = entry::list_count(objects, r) as usize;
+    if n <= 16 {
+        let few = gather_few(words, first, n);
+        return run(
+            objects,
+            slots,
+            words,
+            bytes,
+            payload,
+            sender,
+            number,
+            first,
+            &few[..n],
+            log,
+            begun,
+        );
+    }
     let list = gather(words, first, n);
     run(
         objects,

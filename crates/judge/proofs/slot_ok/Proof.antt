@@ -1,15 +1,21 @@
 -- `judge::slot_ok` meets its contract: each branch is a case of it. Assumes nothing.
 use native.Mathlib.Omega.{arith}
 use borrow.Author.Needs.{needs}
-use borrow.Author.Tests.{le-leb, lt-leb, eq-eqb, ne-eqb}
+use borrow.Author.Tests.{eq-eqb, ne-eqb}
+use mathlib.Core.Path.{sym}
+use Prim.Native.Nat.{_-_}
+use lib.Dec.{eqb, leb}
+use lib.ListN.{drop, getD}
+use Rattle.entry.specs.Table.{typeAt, startAt, roomAt}
+use Rattle.judge.proofs.RoomLaws.{behind, beyond, too-long}
 use Rattle.judge.proofs.slot_ok.Statement.{statement}
 use Rattle.judge.proofs.slot_ok.Tie as tie
 
+abbrev begin : tie.After-room-at → tie.Start
+begin r = r .before .before .before .before
+
 room-at-requires : tie.Need-room-at-requires
 room-at-requires c κs = search needs
-
-sub-left : tie.Need-sub-left
-sub-left c = search needs
 
 start-at-requires : tie.Need-start-at-requires
 start-at-requires c κs = search needs
@@ -19,8 +25,20 @@ returns c = simp (ne-eqb _ _ (rw (c .before .start-at .ensures) at (c .if1 .take
 
 returns-2 : tie.Need-returns-2
 returns-2 c =
-    let s = c .before .before in
-    simp (eq-eqb _ _ (rw (s .start-at .ensures) at (c .before .if1 .left)), lt-leb _ _ (rw (s .before .room-at .ensures) at (c .if2 .taken)))
+    let r = c .before .before .before in
+    let a = begin r .args in
+    let s = a .slots .now in
+    sym (too-long (eqb (startAt s (a .p)) (a .b)) (leb (roomAt s (a .p)) (a .used - a .b)) (typeAt s (a .p)) (getD (a .words .now) (a .p) 0) (roomAt s (a .p)) (drop (a .b) (a .bytes .now)) (omega (arith, r .room-at .ensures, c .if2 .taken)))
+
+add-if3 : tie.Need-add-if3
+add-if3 c = omega (arith, c .if2 .left, begin (c .before .before .before) .pre)
+
+returns-3 : tie.Need-returns-3
+returns-3 c =
+    let s = c .before .before .before in
+    let r = s .before in
+    let a = begin r in
+    simp (eq-eqb _ _ (rw (s .start-at .ensures) at (c .before .before .if1 .left)), beyond (roomAt (a .args .slots .now) (a .args .p)) (a .args .b) (a .args .used) (omega (arith, a .pre)) (omega (arith, c .if3 .taken, r .room-at .ensures)))
 
 type-at-requires : tie.Need-type-at-requires
 type-at-requires c κs = search needs
@@ -32,14 +50,17 @@ shared-slice-read-w : tie.Need-shared-slice-read-w
 shared-slice-read-w c = search needs
 
 val-ok-requires : tie.Need-val-ok-requires
-val-ok-requires c κs = λ h e. omega (arith, h, c .before .before .if2 .left, c .before .before .before .before .before .before .before .before .before .pre)
+val-ok-requires c κs =
+    let e = c .before .before in
+    (λ h t. omega (arith, h, e .if3 .left, begin (e .before .before .before .before) .pre), e .before .if2 .left)
 
-returns-3 : tie.Need-returns-3
-returns-3 c =
+returns-4 : tie.Need-returns-4
+returns-4 c =
     let t = c .before .before in
-    let s = t .before .before .before in
+    let s = t .before .before .before .before in
     let r = s .before in
-    simp (eq-eqb _ _ (rw (s .start-at .ensures) at (t .before .before .if1 .left)), le-leb _ _ (rw (r .room-at .ensures) at (t .before .if2 .left)))
+    let a = begin r .args in
+    simp (eq-eqb _ _ (rw (s .start-at .ensures) at (t .before .before .before .if1 .left)), behind (roomAt (a .slots .now) (a .p)) (a .b) (a .used) (omega (arith, t .before .if3 .left, r .room-at .ensures)))
     (rw (t .type-at .ensures, r .room-at .ensures) at (c .val-ok .ensures))
 
 pub slot-ok-spec : {M : Type 1} → statement M
@@ -47,12 +68,13 @@ slot-ok-spec =
     tie.close
     (tie.spec
     room-at-requires
-    sub-left
     start-at-requires
     returns
     returns-2
+    add-if3
+    returns-3
     type-at-requires
     mul-w
     shared-slice-read-w
     val-ok-requires
-    returns-3)
+    returns-4)

@@ -10,48 +10,43 @@ returns : tie.Need-returns
 unfolding valOk
 returns c = simp (lt-leb _ _ (c .if1 .taken))
 
-returns-2 : tie.Need-returns-2
-unfolding valOk
-returns-2 c = simp (le-leb _ _ (c .before .if1 .left), lt-leb _ _ (c .if2 .taken))
-
 is-text-requires : tie.Need-is-text-requires
 is-text-requires c κs = search needs
 
-returns-3 : tie.Need-returns-3
+returns-2 : tie.Need-returns-2
 unfolding valOk wordOk
-returns-3 c =
+returns-2 c =
     let t = c .before .before in
-    simp (le-leb _ _ (t .before .before .if1 .left), le-leb _ _ (t .before .if2 .left), sym (t .is-text .ensures) ∙ c .before .if3 .taken, lt-leb _ _ (c .if4 .taken))
+    simp (le-leb _ _ (t .before .if1 .left), le-leb _ _ (t .before .before .before .pre .1), sym (t .is-text .ensures) ∙ c .before .if2 .taken, lt-leb _ _ (c .if3 .taken))
 
 text-ok-requires : tie.Need-text-ok-requires
 text-ok-requires c κs =
     let t = c .before .before in
-    t .before .before .before .before .pre (c .if4 .left) (sym (t .is-text .ensures) ∙ c .before .if3 .taken)
+    t .before .before .before .pre .0 (c .if3 .left) (sym (t .is-text .ensures) ∙ c .before .if2 .taken)
 
-returns-4 : tie.Need-returns-4
+returns-3 : tie.Need-returns-3
 unfolding valOk wordOk
-returns-4 c =
+returns-3 c =
     let t = c .before .before .before in
-    simp (le-leb _ _ (t .before .before .if1 .left), le-leb _ _ (t .before .if2 .left), sym (t .is-text .ensures) ∙ c .before .before .if3 .taken, le-leb _ _ (c .before .if4 .left)) (c .text-ok .ensures)
+    simp (le-leb _ _ (t .before .if1 .left), le-leb _ _ (t .before .before .before .pre .1), sym (t .is-text .ensures) ∙ c .before .before .if2 .taken, le-leb _ _ (c .before .if3 .left)) (c .text-ok .ensures)
 
 fits-requires : tie.Need-fits-requires
 fits-requires c κs = search needs
 
-returns-5 : tie.Need-returns-5
+returns-4 : tie.Need-returns-4
 unfolding valOk wordOk
-returns-5 c =
+returns-4 c =
     let t = c .before .before in
-    simp (le-leb _ _ (t .before .before .if1 .left), le-leb _ _ (t .before .if2 .left), sym (t .is-text .ensures) ∙ c .before .if3 .left) (c .fits2 .ensures)
+    simp (le-leb _ _ (t .before .if1 .left), le-leb _ _ (t .before .before .before .pre .1), sym (t .is-text .ensures) ∙ c .before .if2 .left) (c .fits2 .ensures)
 
 pub val-ok-spec : {M : Type 1} → statement M
 val-ok-spec =
     tie.close
     (tie.spec
     returns
-    returns-2
     is-text-requires
-    returns-3
+    returns-2
     text-ok-requires
-    returns-4
+    returns-3
     fits-requires
-    returns-5)
+    returns-4)

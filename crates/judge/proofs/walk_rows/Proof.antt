@@ -85,7 +85,7 @@ row-fits-requires : tie.Need-row-fits-requires Inv-loop μ-loop
 row-fits-requires c κs =
     let k = c .before .before .before in
     let w = within (c .before .before) in
-    ((w .0, w .1, k .loop .inv .1, k .loop .inv .2, begin k .pre .bytes), (head c .count-small, head c .flag-small))
+    ((w .0, w .1, k .loop .inv .1, k .loop .inv .2, begin k .pre .bytes), (head c .count-small, head c .flag-small, head c .len-small, begin k .pre .values, begin k .pre .total))
 
 returns-2 : tie.Need-returns-2 Inv-loop μ-loop
 returns-2 c =
@@ -121,7 +121,7 @@ walk-slots-requires c κs =
     let f = fits e in
     let p = begin (e .before .before .before .before .before) .pre in
     let u = used-is c in
-    ((omega (arith, u, f .values, p .values), omega (arith, u, f .values, p .slots), omega (arith, u, f .values, p .words), omega (arith, p .rows), omega (arith, c .before .name-len-at .ensures, f .bytes), p .bytes), omega (arith, c .before .before .default-at .ensures, head (e .before .before) .flag-small))
+    ((omega (arith, u, f .values, p .values), omega (arith, u, f .values, p .slots), omega (arith, u, f .values, p .words), omega (arith, p .rows), omega (arith, c .before .name-len-at .ensures, f .bytes), p .bytes, p .total), omega (arith, c .before .before .default-at .ensures, head (e .before .before) .flag-small))
 
 enum-known-e : tie.Need-enum-known-e Inv-loop μ-loop
 enum-known-e c = search needs

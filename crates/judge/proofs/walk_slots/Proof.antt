@@ -5,7 +5,6 @@ use borrow.Author.Needs.{needs}
 use mathlib.Core.Path.{_≡_, refl, sym, _∙_}
 use mathlib.Core.Bool.{true, cond}
 use Prim.Native.Nat.{_≤_, _-_, _+_}
-use native.Mathlib.Nat.{add-zero}
 use borrow.Author.Tests.{not-true, not-false}
 use Rattle.entry.specs.Table.{Dict, dict, usedOf, roomAt}
 use Rattle.entry.specs.Judge.{slotsFrom}
@@ -15,10 +14,10 @@ use Rattle.judge.proofs.walk_slots.Statement.{statement}
 use Rattle.judge.proofs.walk_slots.Tie as tie
 
 abbrev Inv-loop : tie.InvT-loop
-Inv-loop objects slots words bytes elements from k start used j₀ b₀ j b = (j ≤ k) × (b ≤ usedOf objects) × (plainFrom (dict objects slots words bytes) k «from» start ≡ plainFrom (dict objects slots words bytes) (k - j) («from» + j) b)
+Inv-loop objects slots words bytes elements from k start used end p₀ b₀ p b = (b ≤ usedOf objects) × (plainFrom (dict objects slots words bytes) k «from» start ≡ plainFrom (dict objects slots words bytes) («from» + k - p) p b)
 
 abbrev μ-loop : tie.MeasureT-loop
-μ-loop objects slots words bytes elements from k start used j₀ b₀ j b = k - j
+μ-loop objects slots words bytes elements from k start used end p₀ b₀ p b = «from» + k - p
 
 -- the function's entry, the dictionary, and what a turn's slot says
 abbrev begin : tie.At-loop Inv-loop μ-loop → tie.Start Inv-loop μ-loop
@@ -27,14 +26,14 @@ begin k = k .before .before .before .before .before .before
 abbrev D : tie.At-loop Inv-loop μ-loop → Dict
 D k = dict (begin k .args .objects .now) (begin k .args .slots .now) (begin k .args .words .now) (begin k .args .bytes .now)
 
-told : (c : tie.After-slot-ok Inv-loop μ-loop) → let k = c .before .before in c .slot-ok .result ≡ plainOk (D k) (begin k .args .«from» + k .loop .j) (k .loop .b)
+told : (c : tie.After-slot-ok Inv-loop μ-loop) → let k = c .before .before in c .slot-ok .result ≡ plainOk (D k) (k .loop .p) (k .loop .b)
 told c = rw (c .before .before .before .used-of .ensures) at (c .slot-ok .ensures)
 
-right : (c : tie.Else1 Inv-loop μ-loop) → let k = c .before .before .before in plainOk (D k) (begin k .args .«from» + k .loop .j) (k .loop .b) ≡ true
+right : (c : tie.Else1 Inv-loop μ-loop) → let k = c .before .before .before in plainOk (D k) (k .loop .p) (k .loop .b) ≡ true
 right c = sym (told (c .before)) ∙ not-false _ (c .if1 .left)
 
-within : (c : tie.Else1 Inv-loop μ-loop) → let k = c .before .before .before in k .loop .b + roomAt (begin k .args .slots .now) (begin k .args .«from» + k .loop .j) ≤ usedOf (begin k .args .objects .now)
-within c = let k = c .before .before .before in plain-within (D k) (begin k .args .«from» + k .loop .j) (k .loop .b) (k .loop .inv .1) (right c)
+within : (c : tie.Else1 Inv-loop μ-loop) → let k = c .before .before .before in k .loop .b + roomAt (begin k .args .slots .now) (k .loop .p) ≤ usedOf (begin k .args .objects .now)
+within c = let k = c .before .before .before in plain-within (D k) (k .loop .p) (k .loop .b) (k .loop .inv .0) (right c)
 
 -- the default's slot
 last : (c : tie.After-tight Inv-loop μ-loop) → let t = c .before .before .before .before in let k = t .before .before in let a = begin k .args in
@@ -48,19 +47,19 @@ last c =
 
 -- all slots were walked
 done : (c : tie.After-loop Inv-loop μ-loop) → let k = c .before in let a = begin k .args in plainFrom (D k) (a .k) (a .«from») (a .start) ≡ Upto (k .loop .b)
-done c = c .before .loop .inv .2 ∙ plain-end _ _ _ _ (omega arith)
+done c = c .before .loop .inv .1 ∙ plain-end _ _ _ _ (omega arith)
 
 used-of-requires : tie.Need-used-of-requires Inv-loop μ-loop
 used-of-requires c κs = search needs
 
+add-end : tie.Need-add-end Inv-loop μ-loop
+add-end c = search needs
+
 loop-holds : tie.Need-loop-holds Inv-loop μ-loop
 loop-holds c =
     let a = c .before .before .before .before .before in
-    let e : a .args .k - 0 ≡ a .args .k = omega arith in
-    (omega arith, omega (arith, a .pre), rw (e, add-zero))
-
-add-slot-ok : tie.Need-add-slot-ok Inv-loop μ-loop
-add-slot-ok c = search needs
+    let e : a .args .«from» + a .args .k - a .args .«from» ≡ a .args .k = omega arith in
+    (omega (arith, a .pre), rw e)
 
 slot-ok-requires : tie.Need-slot-ok-requires Inv-loop μ-loop
 slot-ok-requires c κs = search needs
@@ -70,10 +69,7 @@ returns c =
     let k = c .before .before .before in
     let a = begin k in
     sym (from-bad (D k) (a .args .elements) (a .args .k) (a .args .«from») (a .args .start) (a .pre .1)
-    (k .loop .inv .2 ∙ plain-step (D k) (a .args .k) (a .args .«from») (k .loop .j) (k .loop .b) (c .before .before .loop-test .taken) ∙ simp (sym (told (c .before)) ∙ not-true _ (c .if1 .taken))))
-
-add-room-at : tie.Need-add-room-at Inv-loop μ-loop
-add-room-at c = search needs
+    (k .loop .inv .1 ∙ plain-step (D k) (a .args .«from» + a .args .k) (k .loop .p) (k .loop .b) (c .before .before .loop-test .taken) ∙ simp (sym (told (c .before)) ∙ not-true _ (c .if1 .taken))))
 
 room-at-requires : tie.Need-room-at-requires Inv-loop μ-loop
 room-at-requires c κs = search needs
@@ -81,8 +77,8 @@ room-at-requires c κs = search needs
 add-b : tie.Need-add-b Inv-loop μ-loop
 add-b c = omega (arith, c .room-at .ensures, within (c .before))
 
-add-j : tie.Need-add-j Inv-loop μ-loop
-add-j c = search needs
+add-p : tie.Need-add-p Inv-loop μ-loop
+add-p c = search needs
 
 loop-less : tie.Need-loop-less Inv-loop μ-loop
 loop-less c = search needs
@@ -93,14 +89,10 @@ loop-again c =
     let k = e .before .before .before in
     let a = begin k .args in
     let r = c .room-at .ensures in (
-      omega arith,
       omega (arith, r, within e),
       rw r
-          (k .loop .inv .2 ∙ plain-step (D k) (a .k) (a .«from») (k .loop .j) (k .loop .b) (e .before .before .loop-test .taken) ∙ simp (right e)),
+          (k .loop .inv .1 ∙ plain-step (D k) (a .«from» + a .k) (k .loop .p) (k .loop .b) (e .before .before .loop-test .taken) ∙ simp (right e)),
     )
-
-add-q : tie.Need-add-q Inv-loop μ-loop
-add-q c = search needs
 
 sub-q : tie.Need-sub-q Inv-loop μ-loop
 sub-q c = search needs
@@ -138,17 +130,15 @@ walk-slots-spec =
     Inv-loop
     μ-loop
     used-of-requires
+    add-end
     loop-holds
-    add-slot-ok
     slot-ok-requires
     returns
-    add-room-at
     room-at-requires
     add-b
-    add-j
+    add-p
     loop-less
     loop-again
-    add-q
     sub-q
     type-at-requires
     mul-tight
