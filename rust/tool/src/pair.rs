@@ -119,7 +119,7 @@ fn sent(rig: Rig) -> Result<Side, Problem> {
         Some(other) => {
             let text =
                 format!("expected {SENT:04X}h, what the drive sends, to be an Array or a Record");
-            return Err(Problem::of_line(other.line, text));
+            return Err(other.problem(text));
         }
         None => {
             let text = format!("expected an object {SENT:04X}h, what the drive sends; found none");

@@ -193,12 +193,10 @@ impl Reader {
             Open::Object(index, object) => (index, object),
             Open::Nothing | Open::Broken => return,
         };
-        let line = object.line;
         let before = [self.rig.objects.len(), self.values, self.bytes];
         self.values += object.value_count();
         self.bytes += object.weight();
-        self.rig.objects.insert(index, object);
-        let after = [self.rig.objects.len(), self.values, self.bytes];
+        let after = [before[0] + 1, self.values, self.bytes];
         let bounds = [
             ("objects", MOST_OBJECTS),
             ("values and defaults", MOST_VALUES),
@@ -210,9 +208,10 @@ impl Reader {
                 let text = format!(
                     "expected at most {most} {what} in a rig, found {count} with this object"
                 );
-                self.problems.push(Problem::of_line(line, text));
+                self.problems.push(object.problem(text));
             }
         }
+        self.rig.objects.insert(index, object);
     }
 }
 

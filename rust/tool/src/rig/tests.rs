@@ -277,12 +277,12 @@ fn line_ends_and_marks_of_other_systems() {
 fn the_bounds_of_a_rig() {
     let objects: String = (0..=1024).map(|k| format!("{k:04X}h Variable U8\n")).collect();
     let problem = parse(objects.as_bytes()).unwrap_err().remove(0);
-    assert_eq!(problem.line, Some(1025));
+    assert_eq!((problem.line, problem.column), (Some(1025), Some(1)));
     assert!(problem.text.starts_with("expected at most 1024 objects"), "{}", problem.text);
-    let lists: String = (0..25).map(|k| format!("{k:04X}h Array\n1..254 U8\n")).collect();
-    assert!(parse(lists.as_bytes()).unwrap_err()[0]
-        .text
-        .starts_with("expected at most 6144 values"));
+    let lists: String = (0..25).map(|k| format!("  {k:04X}h Array\n1..254 U8\n")).collect();
+    let problem = parse(lists.as_bytes()).unwrap_err().remove(0);
+    assert_eq!((problem.line, problem.column), (Some(49), Some(3)));
+    assert!(problem.text.starts_with("expected at most 6144 values"), "{}", problem.text);
     let rooms: String = (0..22).map(|k| format!("{k:04X}h Variable Domain room 1490\n")).collect();
     assert!(parse(rooms.as_bytes()).unwrap_err()[0]
         .text
