@@ -17,7 +17,7 @@ pub struct Told {
     /// The places that the payload's channel maps.
     pub mapped: Vec<(u16, u8)>,
     pub written: u64,
-    /// Did a channel look at the payload?
+    /// Did a channel that has a mapping look at the payload?
     pub taken: bool,
     /// What went wrong, in order.
     pub troubles: Vec<(Trouble, String)>,
@@ -68,7 +68,11 @@ impl Told {
 }
 
 pub fn tell(rig: &Rig, received: &Received, consumed: &Consumed, style: Style) -> Told {
-    let taken = matches!(consumed, Consumed::WrongVersion { .. } | Consumed::Taken { .. });
+    let taken = match consumed {
+        Consumed::NotReady | Consumed::NoChannel => false,
+        Consumed::WrongVersion { .. } => true,
+        Consumed::Taken { steps, .. } => !steps.is_empty(),
+    };
     let told = Told { taken, ..Told::default() };
     let mut teller = Teller { rig, received, style, told };
     match consumed {
