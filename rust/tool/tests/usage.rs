@@ -89,6 +89,29 @@ fn every_option_is_in_the_help_and_in_the_document() {
 }
 
 #[test]
+fn no_number_has_a_mark_between_its_thousands() {
+    let (faults, ramp, capture) = (rig("faults.rig"), rig("ramp.rig"), rig("rehearsal.pcap"));
+    let long = "00".repeat(1491);
+    let wide = common::file("wide.rig", b"6000h Variable VisibleString room 1491\n");
+    for (arguments, number) in [
+        (&["check", "--explain", &faults][..], "1491"),
+        (&["check", "--json", &faults], "1491"),
+        (&["check", &wide], "1490"),
+        (&["consume", &ramp, "--from", "5", "--version", "1.2", &long], "1490"),
+        (&["replay", &ramp, &capture], "90000"),
+        (&["pair", &rig("drive.rig"), &ramp], "90000"),
+    ] {
+        let run = run(arguments);
+        let said = run.out + &run.err;
+        assert!(said.contains(number), "{said}");
+        let digit = |at: usize| said.as_bytes().get(at).map_or(false, u8::is_ascii_digit);
+        let marks =
+            said.match_indices(',').filter(|(at, _)| digit(at.wrapping_sub(1)) && digit(at + 1));
+        assert_eq!(marks.count(), 0, "{said}");
+    }
+}
+
+#[test]
 fn the_tool_is_found_within_ten_lines_of_the_readme() {
     let readme = format!("{}/../../README.md", env!("CARGO_MANIFEST_DIR"));
     let readme = std::fs::read_to_string(readme).unwrap();
