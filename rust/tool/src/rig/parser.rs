@@ -77,6 +77,7 @@ impl Reader {
             let kind = cursor.word_ahead(0).and_then(Kind::of_name);
             match numbers::index(word) {
                 Some(number) if kind.is_none() && self.has_elements() && number <= 0xFF => {
+                    self.stand_in(number.into());
                     let wanted = format!(
                         "an element's number in decimal, as in {number}, or an object's kind behind its index"
                     );
@@ -180,6 +181,16 @@ impl Reader {
             object.values.resize(last, value.as_ref().map_or_else(|_| stand_in(), Value::clone));
         }
         value.map(|_| ())
+    }
+
+    /// Counts an element whose line is wrong, so that the next one's number is not.
+    fn stand_in(&mut self, number: usize) {
+        match &mut self.open {
+            Open::Object(_, object) if object.values.len() + 1 == number => {
+                object.values.push(Value::empty());
+            }
+            _ => (),
+        }
     }
 
     /// Closes the object above, and begins what follows.

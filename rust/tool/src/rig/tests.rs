@@ -209,7 +209,7 @@ fn errors_name_the_column() {
 #[test]
 fn all_errors_of_a_file_are_told() {
     let text = "1600h Array\n1 6000h/0 at 0\n2 6000h/0 at 0 length 2\n4 6000h at 2 length x\n5 U8\n6000h Varible\n1 U8\n2 U9\n\
-                6001h Variable U8\n1 U8\n2 U8\n6002 Variable U8\n6001h Variable U8\n";
+                6001h Variable U8\n1 U8\n2 U8\n6002 Variable U8\n6001h Variable U8\n6003h Array\n1h U8\n2 U8\n";
     let problems = parse(text.as_bytes()).unwrap_err();
     let found: Vec<(usize, &str)> = problems
         .iter()
@@ -224,6 +224,7 @@ fn all_errors_of_a_file_are_told() {
         (10, "expected a new object: a Variable has no elements"),
         (12, "expected an index marked as hexadecimal"),
         (13, "expected each index once"),
+        (15, "expected an element's number in decimal"),
     ];
     assert_eq!(found, wanted);
 }
