@@ -28,9 +28,9 @@ fn of_nothing(console: &Side) -> Vec<Finding> {
         let text = "the console's mapping has no element: nothing that the drive sends is written";
         return vec![Finding::Fault(text.to_string())];
     }
-    let whole = |element: &Element| element.mapped.as_ref().map_or(false, |it| it.field.is_some());
-    let broken = console.elements.iter().filter(|element| !whole(element));
-    let faults = broken.filter_map(|element| own_fault(console, element));
+    let takes = |element: &Element| element.mapped.as_ref().map_or(0, Mapped::length) > 0;
+    let others = console.elements.iter().filter(|element| !takes(element));
+    let faults = others.filter_map(|element| own_fault(console, element));
     faults.map(|why| Finding::Fault(format!("of the console, {why}"))).collect()
 }
 

@@ -6,7 +6,7 @@ use crate::explain::{Element, Mapped};
 use crate::failure::{Failure, Status};
 use crate::fields;
 use crate::rig::{Problem, Rig};
-use crate::words;
+use crate::words::{self, Style};
 use loomfinch::PDOVersion;
 use std::io::Write;
 
@@ -65,14 +65,19 @@ pub fn run(
         taken.elements.len(),
         0x1600 + u16::from(channel)
     )?;
-    let mut findings = vec![version(&drive.rig, console.expected_version(channel))];
-    findings.extend(fields::compare(&drive, &taken, options.style));
-    findings.extend(unsent(&drive.rig));
+    let findings = findings(&drive, &taken, console.expected_version(channel), options.style);
     for finding in &findings {
         writeln!(out, "{}", finding.shown())?;
     }
     let fault = findings.iter().any(|finding| matches!(finding, Finding::Fault(_)));
     Ok(if fault { Status::Faults } else { Status::Clean })
+}
+
+fn findings(drive: &Side, taken: &Side, expected: u8, style: Style) -> Vec<Finding> {
+    let mut findings = vec![version(&drive.rig, expected)];
+    findings.extend(fields::compare(drive, taken, style));
+    findings.extend(unsent(&drive.rig));
+    findings
 }
 
 /// What is said of an element, or of the versions.
