@@ -1,5 +1,5 @@
-/* Lays a rig with the calls of loomfinch_dictionary.h, checks its channel and consumes a payload: once with a move time of two bytes
- * mapped onto two, and once with four bytes mapped onto two. examples/build builds it. */
+/* Lays a rig with the calls of loomfinch_dictionary.h, checks its channel and consumes a payload: with a move time of two bytes mapped
+ * onto two, with four bytes mapped onto two, and with a payload that ends early. examples/build builds it. */
 #include "loomfinch_dictionary.h"
 
 #include <stdio.h>
@@ -64,11 +64,15 @@ static int show(uint16_t time_bits, const uint8_t *payload, size_t length) {
         printf("  the check says: %s at element %d\n", loomfinch_answer_name(answer), (int)element);
     }
     printf("  the payload gives %d events, the time %d and the position %d\n", (int)count, (int)time, (int)position);
+    for (uint64_t k = 0; k < count; k++) {
+        int stops = LOOMFINCH_EVENT_KIND(events[k]) == LOOMFINCH_SHORT_FRAME;
+        printf("  %s element %d\n", stops ? "it ends before" : "event at", (int)LOOMFINCH_EVENT_ELEMENT(events[k]));
+    }
     return 1;
 }
 
 int main(void) {
     const uint8_t two_and_a_half_seconds[] = {0xC4, 0x09, 0x10, 0x27, 0x00, 0x00};
     const uint8_t ninety_seconds[] = {0x90, 0x5F, 0x01, 0x00, 0x00, 0x00};
-    return show(16, two_and_a_half_seconds, 6) && show(32, ninety_seconds, 6) ? 0 : 1;
+    return show(16, two_and_a_half_seconds, 6) && show(32, ninety_seconds, 6) && show(16, two_and_a_half_seconds, 5) ? 0 : 1;
 }

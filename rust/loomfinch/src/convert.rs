@@ -3,7 +3,7 @@
 use crate::refusal::Refusal;
 use crate::types::{MacAddress, NetTime, RelativeTime, TimeDifference, TimeOfDay};
 use crate::value::ObjectValue;
-use std::fmt;
+use std::fmt::{self, Write};
 
 /// `From` a type for a value, and `TryFrom` back, which refuses with TypeMismatch a value of another type.
 macro_rules! converts {
@@ -73,7 +73,8 @@ impl From<&str> for ObjectValue {
     }
 }
 
-/// As a rig file writes it: `2500`, `"Act I"`, `[C4 09]`, `12 s 500 ns`.
+/// As a rig file writes it: `2500`, `"Act I"`, `[C4 09]`, `12 s 500 ns`. In texts a quote and a backslash have a backslash before
+/// them, and what would move a cursor or turn the direction of writing is escaped; nothing else is.
 impl fmt::Display for ObjectValue {
     fn fmt(&self, f: &mut fmt::Formatter<'_>) -> fmt::Result {
         match self {
@@ -87,8 +88,8 @@ impl fmt::Display for ObjectValue {
             ObjectValue::Unsigned64(value) => write!(f, "{value}"),
             ObjectValue::Real32(value) => write!(f, "{value}"),
             ObjectValue::Real64(value) => write!(f, "{value}"),
-            ObjectValue::VisibleString(text) => write!(f, "{text:?}"),
-            ObjectValue::UnicodeString(units) => write!(f, "{:?}", String::from_utf16_lossy(units)),
+            ObjectValue::VisibleString(text) => quoted(f, text),
+            ObjectValue::UnicodeString(units) => quoted(f, &String::from_utf16_lossy(units)),
             ObjectValue::OctetString(bytes) | ObjectValue::Domain(bytes) => {
                 let pairs: Vec<String> = bytes.iter().map(|byte| format!("{byte:02X}")).collect();
                 write!(f, "[{}]", pairs.join(" "))
@@ -105,4 +106,24 @@ impl fmt::Display for ObjectValue {
             ObjectValue::IpAddress([a, b, c, d]) => write!(f, "{a}.{b}.{c}.{d}"),
         }
     }
+}
+
+/// A text in double quotes.
+fn quoted(f: &mut fmt::Formatter<'_>, text: &str) -> fmt::Result {
+    f.write_char('"')?;
+    for c in text.chars() {
+        match c {
+            '"' | '\\' => write!(f, "\\{c}")?,
+            '\n' => f.write_str("\\n")?,
+            '\t' => f.write_str("\\t")?,
+            c if c.is_control() || turns(c) => write!(f, "{}", c.escape_unicode())?,
+            c => f.write_char(c)?,
+        }
+    }
+    f.write_char('"')
+}
+
+/// Whether a character ends a line or turns the direction of writing, and is no control character.
+fn turns(c: char) -> bool {
+    matches!(c, '\u{61C}' | '\u{200E}' | '\u{200F}' | '\u{2028}'..='\u{202E}' | '\u{2066}'..='\u{2069}')
 }

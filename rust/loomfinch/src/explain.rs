@@ -37,8 +37,8 @@ pub enum Target {
     },
 }
 
-/// What an element of a mapping maps, and onto what. It displays as a sentence for a person:
-/// `element 1 maps 4 bytes onto 6000h/0, an Unsigned16 of 2 bytes`.
+/// What an element of a mapping maps, and onto what. It displays as a sentence for a person, with the fault's name behind it where
+/// there is one: `element 1 maps 4 bytes onto 6000h/0, an Unsigned16 of 2 bytes: WrongLength`.
 #[derive(Debug, Clone, Copy, PartialEq, Eq, Hash)]
 pub struct Explanation {
     /// The place of the element in the mapping, from 1.

@@ -17,6 +17,24 @@ impl fmt::Display for NodeId {
 #[derive(Debug, Clone, Copy, PartialEq, Eq, PartialOrd, Ord, Hash)]
 pub struct PDOVersion(pub u8);
 
+impl PDOVersion {
+    /// Whether a channel that expects this version takes payloads of another: none takes none alone; else the main versions
+    /// are the same, and the other's sub version is not smaller.
+    ///
+    /// ```
+    /// use loomfinch::PDOVersion;
+    ///
+    /// assert!(PDOVersion(0x10).takes(PDOVersion(0x12)));
+    /// assert!(!PDOVersion(0x12).takes(PDOVersion(0x10)));
+    /// ```
+    pub fn takes(self, received: PDOVersion) -> bool {
+        match self.0 {
+            0 => received.0 == 0,
+            expected => received.0 >> 4 == expected >> 4 && received.0 & 15 >= expected & 15,
+        }
+    }
+}
+
 impl fmt::Display for PDOVersion {
     fn fmt(&self, f: &mut fmt::Formatter<'_>) -> fmt::Result {
         write!(f, "{:X}.{:X}", self.0 >> 4, self.0 & 15)

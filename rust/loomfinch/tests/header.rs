@@ -1,6 +1,8 @@
 //! The headers for C held against the crate: names, numbers and versions.
 
-use loomfinch::{AccessType, Checked, Fault, Refusal, ValueType};
+use loomfinch::{AccessType, Checked, Fault, Kind, Refusal, ValueType};
+use std::path::Path;
+use std::process::Command;
 
 fn file(name: &str) -> String {
     let path = format!("{}/../../include/{name}", env!("CARGO_MANIFEST_DIR"));
@@ -53,6 +55,45 @@ fn constants_have_the_crate_s_numbers() {
     for (access, number) in access.into_iter().zip(0..) {
         has(&format!("ACCESS_{}", constant(&format!("{access:?}"))), number);
     }
+    has("ACCESS_NONE", 7);
+    for (kind, number) in [Kind::Variable, Kind::Array, Kind::Record].into_iter().zip(0..) {
+        has(&constant(&format!("{kind:?}")), number);
+    }
+}
+
+/// What a macro for events takes apart, as the header writes it.
+fn event_part(header: &str, name: &str) -> String {
+    let start = format!("#define LOOMFINCH_EVENT_{name}(e) ");
+    let line = header.lines().find_map(|line| line.strip_prefix(&start));
+    line.unwrap_or_else(|| panic!("{name}")).to_owned()
+}
+
+#[test]
+fn the_parts_of_an_event_are_taken_from_64_bits() {
+    // Where each part begins and how many bits it has, as docs/RULES.md R11.14 puts them together.
+    let header = file("loomfinch.h");
+    assert_eq!(event_part(&header, "KIND"), "((uint64_t)(e) & 0xF)");
+    for (name, start, bits) in [
+        ("ELEMENT", 4, 8),
+        ("INDEX", 12, 16),
+        ("START", 28, 13),
+        ("LENGTH", 41, 13),
+        ("PAYLOAD", 54, 10),
+    ] {
+        let wanted = format!("((uint64_t)(e) >> {start} & 0x{:X})", (1 << bits) - 1);
+        let highest = format!("((uint64_t)(e) >> {start})");
+        let found = event_part(&header, name);
+        assert!(found == wanted || (start + bits == 64 && found == highest), "{found}");
+    }
+}
+
+#[test]
+fn the_terms_of_use_are_said() {
+    let header = file("loomfinch.h");
+    let terms = header.split("*/").next().unwrap();
+    for term in ["Null", "Aliasing", "Alignment", "Threads", "Stack", "System"] {
+        assert!(terms.contains(&format!("\n * {term:<11}")), "{term}");
+    }
 }
 
 #[test]
@@ -80,6 +121,35 @@ fn there_is_one_version() {
         assert!(header.contains(&format!("#define LOOMFINCH_VERSION_{part} {number}\n")), "{part}");
     }
     assert!(file("loomfinch.pc").contains(&format!("\nVersion: {version}\n")));
+}
+
+#[test]
+fn pkg_config_leads_to_the_header_and_the_library() {
+    let include = Path::new(env!("CARGO_MANIFEST_DIR")).join("../../include");
+    let asked = Command::new("pkg-config")
+        .args(["--cflags", "--libs", "loomfinch"])
+        .env("PKG_CONFIG_PATH", &include)
+        .output();
+    let answer = match asked {
+        Ok(asked) => asked,
+        // Where pkg-config is not installed, the file is read as it would.
+        Err(_) => {
+            return assert!(file("loomfinch.pc").contains("\nLibs: -L${libdir} -lloomfinch\n"))
+        }
+    };
+    let text = String::from_utf8_lossy(&answer.stdout).into_owned();
+    assert!(answer.status.success(), "{}", String::from_utf8_lossy(&answer.stderr));
+    let folder = |flag: &str| {
+        let found = text.split_whitespace().find_map(|word| word.strip_prefix(flag));
+        Path::new(found.unwrap_or_else(|| panic!("{text}"))).to_owned()
+    };
+    assert!(folder("-I").join("loomfinch.h").is_file(), "{text}");
+    // The library may not be made yet: its folder is named from the one that holds both.
+    let library = folder("-L");
+    assert!(library.ends_with("target/staticlib"), "{text}");
+    let root = library.ancestors().nth(2).unwrap().canonicalize().unwrap();
+    assert_eq!(root.join("include"), include.canonicalize().unwrap());
+    assert!(text.split_whitespace().any(|word| word == "-lloomfinch"), "{text}");
 }
 
 #[test]

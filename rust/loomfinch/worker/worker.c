@@ -10,6 +10,10 @@
 long read(int file, void *to, size_t count);
 long write(int file, const void *from, size_t count);
 void *realloc(void *old, size_t count);
+typedef void (*handler)(int);
+handler signal(int number, handler to);
+enum { SIGINT = 2 };
+#define SIG_IGN ((handler)1)
 
 // emulated.rs has the same numbers.
 enum {
@@ -165,6 +169,8 @@ int main(void) {
     struct argument arguments[MOST_ARGUMENTS];
     uint64_t *request = 0;
     uint64_t length;
+    // A terminal's Ctrl-C is meant for the program that called: it may have calls to make before it ends.
+    signal(SIGINT, SIG_IGN);
     while (receive(&length, sizeof length)) {
         request = realloc(request, 8 * length);
         if (!request || !receive(request, 8 * length)) {

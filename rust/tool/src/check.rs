@@ -114,7 +114,10 @@ fn sender_words(rig: &Rig, channel: &Channel) -> String {
 
 /// What is no fault, of each channel, of several channels and of the rig.
 fn all_notes(rig: &Rig, channels: &[Channel]) -> Vec<Note> {
-    let of_channel = |channel: &Channel| notes::of_channel(rig, channel.number, &channel.elements);
+    let of_channel = |channel: &Channel| {
+        let takes = sender(rig, channel).is_some();
+        notes::of_channel(rig, channel.number, &channel.elements, takes)
+    };
     let receiving: Vec<Receiving> = channels
         .iter()
         .filter_map(|channel| {

@@ -77,7 +77,7 @@ impl Console {
         let mut dictionary = Dictionary::new(capacity(&rig));
         for (index, object) in &rig.objects {
             let refused = |refusal: Refusal| {
-                Problem::of_line(object.line, format!("the library refuses this object: {refusal}"))
+                object.problem(format!("the library refuses this object: {refusal}"))
             };
             dictionary.insert(*index, entry(object).map_err(refused)?).map_err(refused)?;
         }

@@ -4,7 +4,9 @@ use crate::capture::Capture;
 use crate::check;
 use crate::console::{Console, Consumed, Outcome, Received};
 use crate::consume::give;
+use crate::failure::Status;
 use crate::frame::{self, Frame};
+use crate::pair;
 use crate::rig::{self, Rig};
 use crate::words::Style;
 use loomfinch::Checked;
@@ -75,8 +77,7 @@ fn use_rig(text: &[u8]) -> bool {
     assert_explained(&mut console);
     let mut out = Vec::new();
     for json in [false, true] {
-        let rig = crate::args::Named { path: "x".into(), shown: "x".to_string() };
-        let options = crate::args::Check { rig, json, explain: true, strict: false };
+        let options = crate::args::Check { rig: named(), json, explain: true, strict: false };
         assert!(check::run(&options, &mut console, &mut out).is_ok());
     }
     assert!(!out.is_empty());
@@ -85,6 +86,10 @@ fn use_rig(text: &[u8]) -> bool {
         assert!(!give(&mut console, received, Style::default()).lines.is_empty());
     }
     true
+}
+
+fn named() -> crate::args::Named {
+    crate::args::Named { path: "x".into(), shown: "x".to_string() }
 }
 
 /// The explained elements have just the faults that the check names.
@@ -270,4 +275,70 @@ fn what_is_told_was_written() {
         }
     }
     assert!(written > 300, "only {written} fields were written");
+}
+
+/// What is said of a drive that sends what a text says as received, and of a console.
+fn pair_says(drive: &str, console: &mut Console) -> (Status, String) {
+    let drive = drive.replace("1400h Record", "1800h Record").replace("1600h Array", "1A00h Array");
+    let drive =
+        rig::parse(drive.as_bytes()).unwrap_or_else(|problems| panic!("{}", problems[0].text));
+    let style = Style::default();
+    let options = crate::args::Pair { drive: named(), console: named(), node: Some(5), style };
+    let mut out = Vec::new();
+    let status = pair::run(&options, drive, console, &mut out);
+    let status = status.unwrap_or_else(|_| panic!("{}", String::from_utf8_lossy(&out)));
+    (status, String::from_utf8(out).unwrap())
+}
+
+/// A rig whose fields fit their targets, one behind the other: with every second call one of them is moved, or longer or shorter.
+fn fitting_rig(chance: &mut Chance, types: &[loomfinch::ValueType]) -> String {
+    let (wrong, moved) = (chance.below(2 * types.len()), chance.below(2));
+    let (mut mapping, mut objects) = (String::new(), String::new());
+    let mut end = 0;
+    for (k, of) in types.iter().enumerate() {
+        let (mut offset, mut length) = (end, of.size().unwrap_or(4));
+        end += length;
+        match (wrong == k, moved) {
+            (true, 0) => offset = chance.below(end),
+            (true, _) => length = chance.below(2 * length + 1),
+            (false, _) => (),
+        }
+        mapping += &format!("{} {:04X}h at {offset} length {length}\n", k + 1, 0x6000 + k);
+        objects += &format!("{:04X}h Variable {} room 4\n", 0x6000 + k, of.name());
+    }
+    format!("1400h Record\n1 U8 = 5\n1600h Array\n{mapping}{objects}")
+}
+
+#[test]
+fn what_pair_passes_arrives_whole() {
+    let mut chance = Chance(0x1A00);
+    let mut passed = 0;
+    for round in 0..400 {
+        let types: Vec<loomfinch::ValueType> = (0..1 + chance.below(4))
+            .map(|_| loomfinch::ValueType::from_number(chance.below(21) as u8).unwrap())
+            .collect();
+        let [drive, text] = match round % 4 {
+            0 => [random_rig(&mut chance), random_rig(&mut chance)],
+            _ => [fitting_rig(&mut chance, &types), fitting_rig(&mut chance, &types)],
+        };
+        let rig =
+            rig::parse(text.as_bytes()).unwrap_or_else(|problems| panic!("{}", problems[0].text));
+        let mut console = Console::new(rig).unwrap_or_else(|problem| panic!("{}", problem.text));
+        let (status, said) = pair_says(&drive, &mut console);
+        if status != Status::Clean {
+            assert!(said.contains("FAULT: "), "{said}");
+            continue;
+        }
+        passed += 1;
+        let elements = console.elements(0);
+        let ends = elements.iter().filter_map(|element| Some(element.mapped.as_ref()?.end));
+        let payload: Vec<u8> =
+            (0..ends.max().unwrap_or(0)).map(|_| chance.next() as u8 >> 1).collect();
+        let received = Received { sender: 5, version: 0, ready: true, payload: &payload };
+        let told = give(&mut console, received, Style::default());
+        let troubles: Vec<&str> = told.troubles.iter().map(|trouble| trouble.1.as_str()).collect();
+        assert!(troubles.is_empty(), "{troubles:?}\n{said}\n{drive}\n{text}");
+        assert_eq!(told.written, elements.len() as u64, "{said}\n{text}");
+    }
+    assert!((50..300).contains(&passed), "{passed} of 400 passed");
 }

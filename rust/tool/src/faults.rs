@@ -17,10 +17,21 @@ pub fn sentence(console: &Console, channel: u8, checked: Checked, elements: &[El
         Checked::Element { element, fault } => {
             let named = elements.iter().find(|known| known.number == element);
             named.map_or(format!("element {element}: {fault}"), |known| {
-                of_element(rig, known, fault, first_stop(elements))
+                of_element(rig, known, fault, first_stop(elements)) + &why_stopped(known, elements)
             })
         }
     }
+}
+
+/// Why every payload stops before an element that has the first fault: what stops it has none, so it lies too far.
+fn why_stopped(named: &Element, elements: &[Element]) -> String {
+    let stop = elements.iter().find(|element| element.stops());
+    stop.filter(|stop| stop.number < named.number).map_or(String::new(), |stop| {
+        let end = stop.mapped.as_ref().map_or(0, |mapped| mapped.end);
+        format!(
+            ", which needs a payload of {end} bytes, and none has more than {MOST_PAYLOAD_BYTES}"
+        )
+    })
 }
 
 fn no_sender(console: &Console, channel: u8) -> String {
@@ -133,7 +144,8 @@ fn of_mapping(rig: &Rig, mapped: &Mapped, fault: Fault) -> (String, String) {
     (what, then.to_string())
 }
 
-fn missing(rig: &Rig, entry: &PdoMappingEntry) -> String {
+/// Why there is nothing at a place: `there is no object 6000h`.
+pub fn missing(rig: &Rig, entry: &PdoMappingEntry) -> String {
     match rig.objects.get(&entry.index) {
         None => format!("there is no object {:04X}h", entry.index),
         Some(object) if object.is_list() => {

@@ -1,68 +1,113 @@
 //! The fields of a payload as its sender fills them, held against those that its receiver takes.
 
-use crate::explain::{Element, Mapped};
-use crate::faults::last_bytes;
-use crate::pair::{example, own_fault, Finding, Side};
-use crate::rig::{is_unsigned, Place};
+use crate::explain::{first_stop, Element, Mapped};
+use crate::faults::{self, last_bytes};
+use crate::pair::{Finding, Side};
+use crate::rig::Place;
+use crate::sent::{self, bytes_of};
 use crate::words::{self, named_place, Style};
 use loomfinch::{Target, ValueType};
 use std::ops::Range;
 
-/// What becomes of each field that the drive sends, and which fields of the console it does not fill.
-pub fn compare(drive: &Side, console: &Side, style: Style) -> Vec<Finding> {
-    let unsent =
-        |element: &Element| element.mapped.as_ref().and_then(|it| it.field.as_ref()).is_none();
-    let broken = drive.elements.iter().filter(|element| unsent(element));
-    let mut findings: Vec<Finding> = broken
-        .map(|element| {
-            let why = own_fault(drive, element).unwrap_or_default();
-            Finding::Fault(format!("of the drive, {why}"))
-        })
-        .collect();
-    for sent in drive.fields() {
-        findings.push(of_sent(drive, console, sent, style));
-    }
-    for taken in console.fields() {
-        findings.extend(of_untouched(drive, console, taken));
-    }
-    findings
-}
-
 type Field<'a> = (&'a Element, &'a Mapped);
 
-/// What becomes of a field that the drive sends.
-fn of_sent(drive: &Side, console: &Side, sent: Field, style: Style) -> Finding {
-    let field = range(sent.1);
-    let what = format!(
-        "the drive's element {} sends {} of {}",
-        sent.0.number,
-        bytes_of(&field),
-        place(drive, sent.1)
-    );
-    if let Some(why) = own_fault(drive, sent.0) {
-        return Finding::Fault(format!("of the drive, {why}"));
+/// What becomes of each element that the drive sends, and which fields of the console it does not fill.
+pub fn compare(drive: &Side, console: &Side, style: Style) -> Vec<Finding> {
+    let stop = stop(drive, console);
+    let sent = drive.elements.iter().flat_map(|element| match &element.mapped {
+        Some(mapped) => of_sent(drive, console, (element, mapped), &stop, style),
+        None => vec![Finding::Fault(sent::nothing(element))],
+    });
+    let others = console.fields().filter_map(|taken| of_other(drive, console, taken, &stop));
+    sent.chain(others).chain(of_nothing(console)).collect()
+}
+
+/// What is said of the console's elements that take no field, and of a console that has none.
+fn of_nothing(console: &Side) -> Vec<Finding> {
+    if console.elements.is_empty() {
+        let text = "the console's mapping has no element: nothing that the drive sends is written";
+        return vec![Finding::Fault(text.to_string())];
     }
-    let same = console.fields().find(|taken| range(taken.1).start == field.start);
-    let overlaps = |taken: &Field| {
-        let other = range(taken.1);
-        other.start < field.end && field.start < other.end
-    };
-    match (same, console.fields().find(overlaps)) {
-        (Some(taken), _) => Pairing { drive, console, sent, taken, what }.finding(style),
-        (None, Some(taken)) => Finding::Fault(format!(
-            "{what}, and the console's element {} takes {}: they do not begin at the same byte",
-            taken.0.number,
-            bytes_of(&range(taken.1))
-        )),
-        (None, None) => Finding::Note(format!("{what}, and no element of the console takes them")),
+    let takes = |element: &Element| element.mapped.as_ref().map_or(0, Mapped::length) > 0;
+    let others = console.elements.iter().filter(|element| !takes(element));
+    let faults = others.filter_map(|element| own_fault(console, element));
+    faults.map(|why| Finding::Fault(format!("of the console, {why}"))).collect()
+}
+
+/// Where the drive's payloads stop at the console.
+struct Stop {
+    element: u8,
+    /// `never reached, since every payload stops at element 1`.
+    behind: String,
+}
+
+/// The first element of the console at which every payload stops, or one as long as the drive's elements make it.
+fn stop(drive: &Side, console: &Side) -> Option<Stop> {
+    let filled = filled(drive);
+    let of_length = console.fields().find(|taken| range(taken.1).end > filled);
+    let of_length = of_length.map(|taken| taken.0.number);
+    match (first_stop(&console.elements), of_length) {
+        (Some(element), other) if other.map_or(true, |other| element <= other) => {
+            let behind = format!("never reached, since every payload stops at element {element}");
+            Some(Stop { element, behind })
+        }
+        (_, Some(element)) => {
+            let fills = words::bytes(filled);
+            let behind = format!(
+                "not reached by a payload of the {fills} that the drive's elements fill, which stops at element {element}"
+            );
+            Some(Stop { element, behind })
+        }
+        (_, None) => None,
     }
+}
+
+/// How many bytes of the payload the drive's elements reach over.
+fn filled(drive: &Side) -> usize {
+    drive.fields().map(|sent| range(sent.1).end).max().unwrap_or(0)
+}
+
+/// What becomes of an element that the drive sends.
+fn of_sent(
+    drive: &Side,
+    console: &Side,
+    (element, mapped): Field,
+    stop: &Option<Stop>,
+    style: Style,
+) -> Vec<Finding> {
+    if let Some(fault) = sent::fault(&drive.rig, element, mapped, style) {
+        return vec![Finding::Fault(fault)];
+    }
+    let (field, what) = (range(mapped), sent::what(&drive.rig, element, mapped));
+    if field.is_empty() {
+        return vec![Finding::Note(what)];
+    }
+    if console.fields().any(|taken| begin_alike(taken.1, mapped)) {
+        let same = console.fields().filter(|taken| begin_alike(taken.1, mapped));
+        let pairing = |taken| Pairing { drive, console, sent: mapped, taken, what: what.clone() };
+        return same.map(|taken| pairing(taken).finding(stop, style)).collect();
+    }
+    let apart = console.fields().filter(|taken| overlap(&range(taken.1), &field));
+    let apart: Vec<Finding> = apart
+        .map(|taken| {
+            let (number, takes) = (taken.0.number, bytes_of(&range(taken.1)));
+            Finding::Fault(format!(
+                "{what}, and the console's element {number} takes {takes}: they do not begin at the same byte"
+            ))
+        })
+        .collect();
+    if apart.is_empty() {
+        let them = them(field.len());
+        return vec![Finding::Note(format!("{what}, and no element of the console takes {them}"))];
+    }
+    apart
 }
 
 /// A field that both sides begin at one byte.
 struct Pairing<'a> {
     drive: &'a Side,
     console: &'a Side,
-    sent: Field<'a>,
+    sent: &'a Mapped,
     taken: Field<'a>,
     /// What the drive sends, in words.
     what: String,
@@ -70,18 +115,22 @@ struct Pairing<'a> {
 
 impl Pairing<'_> {
     /// What becomes of it.
-    fn finding(&self, style: Style) -> Finding {
-        let (from, to) = (range(self.sent.1).len(), range(self.taken.1).len());
+    fn finding(&self, stop: &Option<Stop>, style: Style) -> Finding {
+        let (from, to) = (range(self.sent).len(), range(self.taken.1).len());
+        if let Some(stop) = stop.as_ref().filter(|stop| stop.element < self.taken.0.number) {
+            return self.fault(&format!("is {}", stop.behind));
+        }
         if to > from {
             let more = to - from;
             let others =
                 if more == 1 { "byte is".to_string() } else { format!("{more} bytes are") };
             let takes = format!("takes {} onto {}", words::bytes(to), self.at());
-            return self.fault(&format!("{takes}: the last {others} not the drive's"));
+            return self.fault(&format!("{takes}: the last {others} not that element's"));
         }
         if let Some(kept) = self.kept().filter(|kept| *kept < from) {
             let lost = last_bytes(from - kept);
-            let so = self.example(kept, style).map_or(String::new(), |so| format!(", so {so}"));
+            let so = sent::example(&self.drive.rig, self.sent, (from, kept), self.style(style));
+            let so = so.map_or(String::new(), |so| format!(", so {so}"));
             let keeps = format!("keeps {kept} of them in {}", self.at());
             return self.fault(&format!("{keeps}: {lost} would be lost{so}"));
         }
@@ -96,10 +145,12 @@ impl Pairing<'_> {
     }
 
     fn whole(&self) -> Finding {
-        let (number, at) = (self.taken.0.number, self.at());
-        let whole =
-            format!("{}, and the console's element {number} writes them whole to {at}", self.what);
-        match (source_type(self.drive, self.sent.1), target_type(self.taken.1)) {
+        let (number, at, them) = (self.taken.0.number, self.at(), them(range(self.sent).len()));
+        let whole = format!(
+            "{}, and the console's element {number} writes {them} whole to {at}",
+            self.what
+        );
+        match (source_type(self.drive, self.sent), target_type(self.taken.1)) {
             (Some(one), Some(other)) if one != other => {
                 let of = words::type_with_article(one);
                 Finding::Note(format!("{whole}: the drive has {of} there"))
@@ -128,22 +179,18 @@ impl Pairing<'_> {
         }
     }
 
-    /// A number that arrives as another, where the drive sends one.
-    fn example(&self, kept: usize, style: Style) -> Option<String> {
-        let time = is_time(self.drive, self.sent.1) || is_time(self.console, self.taken.1);
-        let example = example(range(self.sent.1).len(), kept, time, style);
-        example.filter(|_| source_type(self.drive, self.sent.1).map_or(false, is_unsigned))
+    /// The style, with times where the console has one.
+    fn style(&self, style: Style) -> Style {
+        Style { times: style.times || is_time(self.console, self.taken.1), ..style }
     }
 }
 
-/// What is said of a field of the console that no field of the drive touches.
-fn of_untouched(drive: &Side, console: &Side, taken: Field) -> Option<Finding> {
+/// What is said of a field of the console that no finding on the drive's elements names.
+fn of_other(drive: &Side, console: &Side, taken: Field, stop: &Option<Stop>) -> Option<Finding> {
     let field = range(taken.1);
-    let touches = |sent: Field| {
-        let other = range(sent.1);
-        other.start == field.start || (other.start < field.end && field.start < other.end)
-    };
-    if drive.fields().any(touches) {
+    let met = |sent: &Field| console.fields().any(|taken| begin_alike(taken.1, sent.1));
+    let touching = || drive.fields().filter(|sent| overlap(&range(sent.1), &field));
+    if touching().any(|sent| begin_alike(taken.1, sent.1) || !met(&sent)) {
         return None;
     }
     let what = format!(
@@ -152,28 +199,50 @@ fn of_untouched(drive: &Side, console: &Side, taken: Field) -> Option<Finding> {
         bytes_of(&field),
         place(console, taken.1)
     );
-    let filled = drive.fields().map(|sent| range(sent.1).end).max().unwrap_or(0);
-    Some(Finding::Fault(if field.end > filled {
-        let fills = words::bytes(filled);
-        format!(
-            "{what}, and the drive's elements fill {fills}: a payload of that length stops there"
-        )
-    } else {
-        format!("{what}, and no element of the drive fills them")
+    let filled = filled(drive);
+    let behind = stop.as_ref().filter(|stop| stop.element < taken.0.number);
+    Some(Finding::Fault(match (behind, touching().next()) {
+        (Some(stop), _) => format!("{what}, and is {}", stop.behind),
+        (None, Some((element, mapped))) => {
+            let (number, sends) = (element.number, bytes_of(&range(mapped)));
+            format!(
+                "{what}, and the drive's element {number} sends {sends}: they do not begin at the same byte"
+            )
+        }
+        (None, None) if field.end > filled => {
+            let fills = words::bytes(filled);
+            format!(
+                "{what}, and the drive's elements fill {fills}: a payload of that length stops there"
+            )
+        }
+        (None, None) => format!("{what}, and no element of the drive fills {}", them(field.len())),
     }))
+}
+
+/// What is wrong with an element of the console in itself.
+fn own_fault(console: &Side, element: &Element) -> Option<String> {
+    let stop = first_stop(&console.elements);
+    element.fault.map(|fault| faults::of_element(&console.rig, element, fault, stop))
+}
+
+fn begin_alike(one: &Mapped, other: &Mapped) -> bool {
+    range(one).start == range(other).start
+}
+
+fn them(bytes: usize) -> &'static str {
+    if bytes == 1 {
+        "it"
+    } else {
+        "them"
+    }
+}
+
+fn overlap(one: &Range<usize>, other: &Range<usize>) -> bool {
+    one.start < other.end && other.start < one.end
 }
 
 fn range(mapped: &Mapped) -> Range<usize> {
     mapped.field.clone().unwrap_or(0..0)
-}
-
-/// `4 bytes (0 to 3)`.
-fn bytes_of(field: &Range<usize>) -> String {
-    match field.len() {
-        0 => "no byte".to_string(),
-        1 => format!("1 byte ({})", field.start),
-        length => format!("{} ({} to {})", words::bytes(length), field.start, field.end - 1),
-    }
 }
 
 fn place(side: &Side, mapped: &Mapped) -> String {

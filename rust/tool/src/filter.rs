@@ -31,7 +31,8 @@ impl Filter {
     /// The lines of a frame that are told.
     pub fn lines<'a>(&self, told: &'a Told) -> Vec<&'a Line> {
         let wanted = |line: &&Line| {
-            let of_object = line.place.map_or(true, |place| self.objects.contains(&place));
+            let named = |place: &(u16, u8)| self.objects.contains(place);
+            let of_object = line.places.is_empty() || line.places.iter().any(named);
             (self.objects.is_empty() || of_object) && (!self.changes || !line.same)
         };
         told.lines.iter().filter(wanted).collect()
@@ -39,5 +40,5 @@ impl Filter {
 }
 
 fn of_place(line: &&Line) -> bool {
-    line.place.is_some()
+    !line.places.is_empty()
 }

@@ -97,14 +97,14 @@ pub const REPLAY: &str = "\
 loomfinch replay RIG CAPTURE [options]
 
 Reads a network capture (pcap or pcapng, of an Ethernet or cooked by Linux),
-gives the payloads of its POWERLINK frames to the rig in their order, and says for each frame what it
-changed, what was refused and why. A table by sender follows: how many frames
-had each kind of trouble, and the first of each, a CUT before all others.
-All frames are consumed and counted, told or not.
+gives the payloads of its POWERLINK frames to the rig in their order, and says
+for each frame what it changed, what was refused and why. A table by sender
+follows: how many frames had each kind of trouble, and the first of each, a CUT
+before all others. All frames are consumed and counted, told or not.
 CAPTURE may be - for the standard input: each packet is told as it comes, and an
 interrupt (Ctrl-C) ends the capture and writes the table:
 
-  tcpdump -U -w - | loomfinch replay RIG -
+  tcpdump -i eth0 -U -w - | loomfinch replay RIG -
 
   --node N      the console's own node: requests of the managing node (PReq)
                 to other nodes are left out, and node N's own responses.
@@ -132,8 +132,8 @@ Example:
        5       7          1               6      1        1        1
           short in No. 7: stopped at element 1 (6000h/0 \"Ramp time\"): it needs
           4 bytes of payload, and 3 came
-          version in No. 8: refused: the payload has version 2.2 (22h), channel 0
-          expects 1.0 to 1.F
+          version in No. 8: refused: the payload has version 2.2 (22h),
+          channel 0 expects 1.0 to 1.F
           damaged in No. 9: not consumed: its size field says 100 bytes of
           payload, and the frame has 36
        9       1          0               0      0        0        0
@@ -142,19 +142,21 @@ Example:
 
 Exit status: 0 nothing was refused, stopped, cut or passed over, 1 something
 was, 2 the command or a file could not be understood; a capture that is damaged
-is told up to the damage. 3 nothing was looked at: the capture is empty, or not
-of an Ethernet, or has no ready payload that a channel of the rig takes.
+is told up to the damage. 3 nothing was looked at: the capture has no packet, is
+not of an Ethernet, or has no ready payload that a channel of the rig takes.
 ";
 
 pub const PAIR: &str = "\
 loomfinch pair DRIVE.rig CONSOLE.rig [--node N] [--times] [--comma]
 
 Holds what a drive sends, the mapping 1A00h of its own rig file, against what
-the console takes from it, field by field: a field that the console keeps in
-part, at another byte, or not at all is a fault.
+the console takes from it, field by field. A fault is a field that the console
+keeps in part or at another byte, one that the drive does not send whole or not
+at all, and one that no payload reaches. What the console does not take is a
+note.
 
-  --node N      the drive's node; without it, the only node that the console's
-                rig takes
+  --node N      the drive's node; without it, the only node that the console
+                takes payloads of
   --times       show the numbers of examples as times, also where the rig files
                 have no 'ms'
   --comma       write decimals with a comma: 2,500 s
@@ -173,6 +175,6 @@ Example:
   move\", and the console's element 2 takes 4 bytes (2 to 5): they do not begin
   at the same byte
 
-Exit status: 0 the console takes all that it takes whole, 1 there is a fault,
-2 the command or a rig file could not be understood.
+Exit status: 0 each field that the console takes arrives whole, 1 there is a
+fault, 2 the command or a rig file could not be understood.
 ";

@@ -31,6 +31,7 @@ mod replay_json;
 mod report;
 mod requests;
 mod rig;
+mod sent;
 mod table;
 mod trouble;
 mod words;

@@ -102,10 +102,13 @@ fn notes_every_node(rig: &Rig, index: u16) -> bool {
     }
 }
 
-/// A version that is none; fields that share bytes; and what is to be said of the targets that are written.
-pub fn of_channel(rig: &Rig, channel: u8, elements: &[Element]) -> Vec<Note> {
-    let mut notes: Vec<Note> = unread_version(rig, channel).into_iter().collect();
-    let written = written(elements);
+/// Fields that share bytes; and of a channel that takes payloads a version that is none, and what is to be said of the targets
+/// that are written.
+pub fn of_channel(rig: &Rig, channel: u8, elements: &[Element], takes: bool) -> Vec<Note> {
+    let version = Some(channel).filter(|_| takes);
+    let mut notes: Vec<Note> =
+        version.and_then(|channel| unread_version(rig, channel)).into_iter().collect();
+    let written = if takes { written(elements) } else { Vec::new() };
     for (k, later) in elements.iter().enumerate() {
         let target = written.iter().find(|found| found.0 == later.number).map(|found| found.1);
         if let Some(target) = target {
@@ -131,9 +134,10 @@ fn unread_version(rig: &Rig, channel: u8) -> Option<Note> {
     let index = 0x1400 + u16::from(channel);
     let text = match rig.place(index, 2) {
         Place::Value(_, value) if value.of != ValueType::Unsigned8 => format!(
-            "{} is {}, not an Unsigned8: payloads of version 0 alone are taken",
+            "{} is {}, not an Unsigned8: payloads of version {} alone are taken",
             place(index, 2),
-            type_with_article(value.of)
+            type_with_article(value.of),
+            words::version(0)
         ),
         _ => return None,
     };

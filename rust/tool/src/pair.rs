@@ -4,10 +4,10 @@ use crate::args::Pair;
 use crate::console::Console;
 use crate::explain::{Element, Mapped};
 use crate::failure::{Failure, Status};
-use crate::faults;
 use crate::fields;
 use crate::rig::{Problem, Rig};
 use crate::words::{self, Style};
+use loomfinch::PDOVersion;
 use std::io::Write;
 
 /// What a controlled node sends: the one mapping of its responses, and the record with its version.
@@ -21,13 +21,12 @@ pub struct Side {
 }
 
 impl Side {
-    /// The elements that have a field of whole bytes.
+    /// The elements that have a field of whole bytes, of one at least.
     pub fn fields(&self) -> impl Iterator<Item = (&Element, &Mapped)> {
-        let whole =
-            |element: &'_ Element| element.mapped.as_ref().map_or(false, |it| it.field.is_some());
+        let mapped = |element: &'_ Element| element.mapped.as_ref().map_or(0, Mapped::length) > 0;
         self.elements
             .iter()
-            .filter(move |element| whole(element))
+            .filter(move |element| mapped(element))
             .filter_map(|element| Some((element, element.mapped.as_ref()?)))
     }
 }
@@ -40,7 +39,7 @@ pub fn run(
 ) -> Result<Status, Failure> {
     let node = match options.node {
         Some(node) => node,
-        None => only_sender(&console.rig)
+        None => only_sender(console)
             .map_err(|text| Failure::Message(format!("{}: {}", options.console.shown, text)))?,
     };
     let drive =
@@ -66,13 +65,19 @@ pub fn run(
         taken.elements.len(),
         0x1600 + u16::from(channel)
     )?;
-    let mut findings = vec![version(&drive.rig, console.expected_version(channel))];
-    findings.extend(fields::compare(&drive, &taken, options.style));
+    let findings = findings(&drive, &taken, console.expected_version(channel), options.style);
     for finding in &findings {
         writeln!(out, "{}", finding.shown())?;
     }
     let fault = findings.iter().any(|finding| matches!(finding, Finding::Fault(_)));
     Ok(if fault { Status::Faults } else { Status::Clean })
+}
+
+fn findings(drive: &Side, taken: &Side, expected: u8, style: Style) -> Vec<Finding> {
+    let mut findings = vec![version(&drive.rig, expected)];
+    findings.extend(fields::compare(drive, taken, style));
+    findings.extend(unsent(&drive.rig));
+    findings
 }
 
 /// What is said of an element, or of the versions.
@@ -92,11 +97,10 @@ impl Finding {
     }
 }
 
-/// The only node whose payloads a rig takes.
-fn only_sender(rig: &Rig) -> Result<u8, String> {
-    let mut senders: Vec<u8> = (0..=255).filter_map(|channel| rig.named_sender(channel)).collect();
-    senders.sort_unstable();
-    senders.dedup();
+/// The only node whose payloads a console takes.
+fn only_sender(console: &Console) -> Result<u8, String> {
+    let senders: Vec<u8> =
+        (1..=u8::MAX).filter(|node| console.channel_of(*node).is_some()).collect();
     match senders.as_slice() {
         [] => Err("no channel names a sender: --node N says which node the drive is".to_string()),
         [node] => Ok(*node),
@@ -119,7 +123,7 @@ fn sent(rig: Rig) -> Result<Side, Problem> {
         Some(other) => {
             let text =
                 format!("expected {SENT:04X}h, what the drive sends, to be an Array or a Record");
-            return Err(Problem::of_line(other.line, text));
+            return Err(other.problem(text));
         }
         None => {
             let text = format!("expected an object {SENT:04X}h, what the drive sends; found none");
@@ -134,11 +138,7 @@ fn sent(rig: Rig) -> Result<Side, Problem> {
 fn version(drive: &Rig, expected: u8) -> Finding {
     let sent = drive.record_u8(SENT_RECORD, 2).unwrap_or(0);
     let (shown, takes) = (words::version(sent), words::versions_from(expected));
-    let right = match expected {
-        0 => sent == 0,
-        _ => sent >> 4 == expected >> 4 && sent & 15 >= expected & 15,
-    };
-    if right {
+    if PDOVersion(expected).takes(PDOVersion(sent)) {
         return Finding::Whole(format!(
             "version: the drive sends {shown}, and the console takes {takes}"
         ));
@@ -148,16 +148,16 @@ fn version(drive: &Rig, expected: u8) -> Finding {
     ))
 }
 
-/// What is wrong with a drive's element in itself, or a console's.
-pub fn own_fault(side: &Side, element: &Element) -> Option<String> {
-    let stop = crate::explain::first_stop(&side.elements);
-    element.fault.map(|fault| faults::of_element(&side.rig, element, fault, stop))
-}
-
-/// The value that shows what is lost, and what is left of it in so many bytes.
-pub fn example(sent: usize, kept: usize, milliseconds: bool, style: Style) -> Option<String> {
-    let number: u64 = if sent > 2 { 90_000 } else { 2_500 };
-    let left = number & ((1 << (8 * kept.min(7))) - 1);
-    let shown = |number: u64| words::number(number, milliseconds, style);
-    (left != number).then(|| format!("{} arrives as {}", shown(number), shown(left)))
+/// Mappings of the drive beside the one that it sends.
+fn unsent(drive: &Rig) -> Option<Finding> {
+    let others = drive.objects.range(SENT + 1..=SENT + 0xFF);
+    let others: Vec<String> = others.map(|(index, _)| format!("{index:04X}h")).collect();
+    let others = Some(others).filter(|others| !others.is_empty())?;
+    Some(Finding::Note(format!(
+        "the drive's {} not looked at: a node that is polled sends {SENT:04X}h alone",
+        match others.as_slice() {
+            [one] => format!("{one} is"),
+            several => format!("{} are", several.join(", ")),
+        }
+    )))
 }

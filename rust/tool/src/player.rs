@@ -174,8 +174,10 @@ impl<'a> Player<'a> {
 
     /// Writes the table. `interrupted` is the last packet before an interrupt, where one came.
     pub fn finish(&self, interrupted: Option<u64>, out: &mut dyn Write) -> io::Result<Status> {
-        let interrupted = interrupted
-            .map(|packet| format!("an interrupt ended the capture after packet {packet}"));
+        let interrupted = interrupted.map(|packet| match packet {
+            0 => "an interrupt ended the capture before its first packet".to_string(),
+            packet => format!("an interrupt ended the capture after packet {packet}"),
+        });
         let notes: Vec<String> =
             self.requests.note(&self.asked).into_iter().chain(interrupted).collect();
         if self.options.json {

@@ -25,8 +25,13 @@ pub fn run(
             options.capture.shown, damage.offset, damage.text
         ))
     };
-    let mut capture = Capture::open(input.reader).map_err(damaged)?;
     let mut player = Player::new(options, console, requests);
+    let mut capture = match Capture::open(input.reader) {
+        Ok(capture) => capture,
+        // An interrupt before the capture has begun: there is nothing to tell.
+        Err(_) if interrupt::came() => return Ok(player.finish(Some(0), out)?),
+        Err(damage) => return Err(damaged(damage)),
+    };
     let mut progress = Progress::new(input.size, options.quiet);
     let ended = loop {
         match capture.next_packet() {

@@ -17,7 +17,7 @@ pub struct Told {
     /// The places that the payload's channel maps.
     pub mapped: Vec<(u16, u8)>,
     pub written: u64,
-    /// Did a channel look at the payload?
+    /// Did a channel that has a mapping look at the payload?
     pub taken: bool,
     /// What went wrong, in order.
     pub troubles: Vec<(Trouble, String)>,
@@ -25,8 +25,8 @@ pub struct Told {
 
 /// A line of the story.
 pub struct Line {
-    /// The place that it is about, or none where it is about the payload as a whole.
-    pub place: Option<(u16, u8)>,
+    /// The places that it is about: none where it is about the payload as a whole, and of a stop also those behind it.
+    pub places: Vec<(u16, u8)>,
     /// Did a value change?
     pub changed: bool,
     /// Was a value written that was there before?
@@ -46,36 +46,40 @@ impl Told {
     /// The story of a frame that could not be consumed.
     pub fn damaged(why: String) -> Told {
         let mut told = Told::default();
-        told.trouble(Trouble::Damaged, None, why);
+        told.trouble(Trouble::Damaged, Vec::new(), why);
         told
     }
 
     /// The story of a payload that was refused as a whole.
     pub fn refused(why: String) -> Told {
         let mut told = Told { taken: true, ..Told::default() };
-        told.trouble(Trouble::Refused, None, why);
+        told.trouble(Trouble::Refused, Vec::new(), why);
         told
     }
 
-    fn line(&mut self, place: Option<(u16, u8)>, text: String) {
-        self.lines.push(Line { place, changed: false, same: false, text });
+    fn line(&mut self, places: Vec<(u16, u8)>, text: String) {
+        self.lines.push(Line { places, changed: false, same: false, text });
     }
 
-    fn trouble(&mut self, kind: Trouble, place: Option<(u16, u8)>, text: String) {
-        self.line(place, text.clone());
+    fn trouble(&mut self, kind: Trouble, places: Vec<(u16, u8)>, text: String) {
+        self.line(places, text.clone());
         self.troubles.push((kind, text));
     }
 }
 
 pub fn tell(rig: &Rig, received: &Received, consumed: &Consumed, style: Style) -> Told {
-    let taken = matches!(consumed, Consumed::WrongVersion { .. } | Consumed::Taken { .. });
+    let taken = match consumed {
+        Consumed::NotReady | Consumed::NoChannel => false,
+        Consumed::WrongVersion { .. } => true,
+        Consumed::Taken { steps, .. } => !steps.is_empty(),
+    };
     let told = Told { taken, ..Told::default() };
     let mut teller = Teller { rig, received, style, told };
     match consumed {
-        Consumed::NotReady => teller.told.line(None, "not ready: nothing happens".to_string()),
+        Consumed::NotReady => teller.nothing("not ready".to_string()),
         Consumed::NoChannel => {
             let node = words::node(rig, received.sender);
-            teller.told.line(None, format!("no channel of the rig takes {node}: nothing happens"));
+            teller.nothing(format!("no channel of the rig takes {node}"));
         }
         Consumed::WrongVersion { channel, expected, elements, noted } => {
             teller.told.mapped = elements.iter().filter_map(place_of).collect();
@@ -85,9 +89,7 @@ pub fn tell(rig: &Rig, received: &Received, consumed: &Consumed, style: Style) -
         Consumed::Taken { channel, steps, noted } => {
             teller.told.mapped = steps.iter().filter_map(|step| place_of(&step.element)).collect();
             if steps.is_empty() {
-                teller
-                    .told
-                    .line(None, format!("channel {channel} has no mapping: nothing happens"));
+                teller.nothing(format!("channel {channel} has no mapping"));
             }
             for (k, step) in steps.iter().enumerate() {
                 teller.step(step, &steps[k + 1..]);
@@ -106,6 +108,10 @@ struct Teller<'a> {
 }
 
 impl Teller<'_> {
+    fn nothing(&mut self, why: String) {
+        self.told.line(Vec::new(), format!("{why}: nothing happens"));
+    }
+
     fn wrong_version(&mut self, channel: u8, expected: u8) {
         let why = format!(
             "refused: the payload has version {}, channel {} expects {}",
@@ -113,7 +119,7 @@ impl Teller<'_> {
             channel,
             words::versions_from(expected)
         );
-        self.told.trouble(Trouble::Version, None, why);
+        self.told.trouble(Trouble::Version, Vec::new(), why);
     }
 
     fn step(&mut self, step: &Step, later: &[Step]) {
@@ -122,7 +128,7 @@ impl Teller<'_> {
             None => words::type_with_article(step.element.element_type),
         };
         let element = format!("element {} ({})", step.element.number, at);
-        let place = place_of(&step.element);
+        let mut places: Vec<(u16, u8)> = place_of(&step.element).into_iter().collect();
         match &step.outcome {
             Outcome::Written(change) => {
                 self.told.written += 1;
@@ -132,19 +138,20 @@ impl Teller<'_> {
             Outcome::PassedOver => {
                 let why = reasons::passed_over(&step.element);
                 let text = format!("{element} is passed over: {why}");
-                self.told.trouble(Trouble::PassedOver, place, text);
+                self.told.trouble(Trouble::PassedOver, places, text);
             }
-            Outcome::HandedOn => self.told.line(place, format!("{element} is handed on to SDO")),
+            Outcome::HandedOn => self.told.line(places, format!("{element} is handed on to SDO")),
             Outcome::Refused(why) => {
                 let why = reasons::refused(*why, &step.element);
                 let text = format!("{element} is not written: {why}");
-                self.told.trouble(Trouble::Refused, place, text);
+                self.told.trouble(Trouble::Refused, places, text);
             }
             Outcome::Stopped(cause) => {
                 let why = reasons::stopped(*cause, &step.element, self.received);
-                self.told.trouble(stop(*cause), place, format!("stopped at {element}: {why}"));
+                places.extend(later.iter().filter_map(|step| place_of(&step.element)));
+                self.told.trouble(stop(*cause), places, format!("stopped at {element}: {why}"));
             }
-            Outcome::NotReached => self.told.line(place, format!("{element} is not reached")),
+            Outcome::NotReached => self.told.line(places, format!("{element} is not reached")),
         }
     }
 
@@ -164,8 +171,8 @@ impl Teller<'_> {
             true => format!("{at}: {after}, as before{again}"),
             false => format!("{at}: {before} -> {after}{again}"),
         };
-        let place = Some((index, sub_index));
-        self.told.lines.push(Line { place, changed: !same, same, text });
+        let places = vec![(index, sub_index)];
+        self.told.lines.push(Line { places, changed: !same, same, text });
         if !same {
             self.told.changes.push(Changed { index, sub_index, before, after });
         }
@@ -211,7 +218,7 @@ impl Teller<'_> {
             words::hex(lost),
             if lost.len() == 1 { "is" } else { "are" }
         );
-        self.told.line(Some((change.index, change.sub_index)), format!("  CUT: {why}"));
+        self.told.line(vec![(change.index, change.sub_index)], format!("  CUT: {why}"));
         self.told.troubles.push((Trouble::Cut, format!("{at}: {why}")));
     }
 
@@ -228,8 +235,8 @@ impl Teller<'_> {
             let text = format!(
                 "{at}: the bit of node {node} is set (byte {k}: {before:02X} -> {after:02X})"
             );
-            let place = Some((change.index, change.sub_index));
-            self.told.lines.push(Line { place, changed: true, same: false, text });
+            let places = vec![(change.index, change.sub_index)];
+            self.told.lines.push(Line { places, changed: true, same: false, text });
         }
         let (index, sub_index) = (change.index, change.sub_index);
         let before = self.shown(index, &change.before);

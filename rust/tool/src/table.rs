@@ -83,10 +83,14 @@ impl Table {
         let link = |other: &Other| matches!(other, Other::Link(_));
         let left_out = |other: &Other| matches!(other, Other::LeftOut(_));
         let known = |sender: &Option<u8>| sender.and_then(|one| console.channel_of(one)).is_some();
+        let ready =
+            |(sender, row): (&Option<u8>, &Row)| known(sender) && row.frames > row.not_ready;
         if self.looked_at > 0 {
             None
         } else if self.senders.is_empty() && self.others.is_empty() {
             Some("the capture has no packet")
+        } else if self.senders().any(ready) {
+            Some("the channels that take these frames have no mapping")
         } else if self.senders.keys().any(known) {
             Some("no frame of a sender that the rig takes was ready")
         } else if !self.senders.is_empty() {

@@ -191,6 +191,12 @@ fn too_far_names_the_first_element_that_is() {
     let later = "element 3 maps 2 bytes onto 6002h/0, an Unsigned16 of 2 bytes: never reached, since every payload stops at \
                  element 2\n";
     assert!(explained.contains(later), "{explained}");
+    let text = text.replace("6002h at 1492", "6002h at 0");
+    let text = text.replace("3 6002h at 0 length 2", "3 6002h at 0 length 4");
+    let behind = run(&["check", &file("far-and-wrong.rig", text.as_bytes())]).out;
+    let why = "element 3 maps 4 bytes onto 6002h/0, an Unsigned16 of 2 bytes: never reached, since every payload stops at element 2, \
+               which needs a payload of 1491 bytes, and none has more than 1490\n";
+    assert!(behind.contains(why), "{behind}");
     let json = run(&["check", "--json", &path]).out;
     let wanted = format!("\"name\": \"TooFar\",\n        \"number\": 39,\n        \"element\": 2,\n        \"text\": \"{wanted}\"");
     assert!(json.contains(&wanted), "{json}");
@@ -228,7 +234,7 @@ fn what_is_no_fault_is_noted() {
                 6000h Variable U8\n";
     let run = run(&["check", &file("notes.rig", text.as_bytes())]);
     let wanted = "channel 0, from node 5, 2 elements: pass
-note: channel 0: 1400h/2 is an Unsigned16, not an Unsigned8: payloads of version 0 alone are taken
+note: channel 0: 1400h/2 is an Unsigned16, not an Unsigned8: payloads of version 0.0 (00h) alone are taken
 note: channel 0: elements 1 and 2 share byte 0 of the payload
 note: channel 0: elements 1 and 2 both map onto 6000h/0: the later one stands
 ";
@@ -287,6 +293,26 @@ fn a_channel_that_takes_no_payload_writes_nothing() {
     let run = run(&["check", &file("untaken.rig", TWO_CHANNELS.as_bytes())]);
     assert!(!run.out.contains("channels 0 and 2"), "{}", run.out);
     assert!(!run.out.contains("channels 1 and 2"), "{}", run.out);
+    let mapping = "1 6001h at 0 length 1\n2 6001h at 0 length 1\n3 1402h/1 at 1 length 1\n4 1011h/1 at 2 length 1\n1011h Array\n1 U8\n";
+    let text = TWO_CHANNELS
+        .replace("1602h Array\n1 6000h at 0 length 2\n", &format!("1602h Array\n{mapping}"))
+        .replace("1402h Record\n1 U8 = 7\n", "1402h Record\n1 U8 = 7\n2 U16 = 10h\n");
+    let untaken = common::run(&["check", &file("untaken-2.rig", text.as_bytes())]).out;
+    let of_it: Vec<&str> =
+        untaken.lines().filter(|line| line.starts_with("note: channel 2")).collect();
+    assert_eq!(of_it, ["note: channel 2: elements 1 and 2 share byte 0 of the payload"]);
+    // The same where payloads come.
+    let text = text.replace("1402h Record\n1 U8 = 7", "1402h Record\n1 U8 = 9");
+    let taken = common::run(&["check", &file("taken-2.rig", text.as_bytes())]).out;
+    for wanted in [
+        "1402h/2 is an Unsigned16, not an Unsigned8: payloads of version 0.0 (00h) alone are taken",
+        "element 2 maps onto 6001h/0, which is ReadOnly: payloads change it all the same",
+        "elements 1 and 2 both map onto 6001h/0: the later one stands",
+        "element 3 maps onto 1402h/1, a record of the channel itself",
+        "element 4 maps onto 1011h/1, which takes a plain value from a payload: nothing is restored",
+    ] {
+        assert!(taken.contains(&format!("note: channel 2: {wanted}")), "{wanted}\n{taken}");
+    }
 }
 
 #[test]

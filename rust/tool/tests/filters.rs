@@ -50,6 +50,16 @@ sender"#;
 }
 
 #[test]
+fn an_object_that_is_not_reached_is_told_with_the_reason() {
+    let out = replay(&["--object", "6200h/3", "--faults"]).out;
+    let wanted = r#"No. 7  0.040400 s  PRes from node 5, Operational, version 1.2 (12h), 3 bytes
+    stopped at element 1 (6000h/0 "Ramp time"): it needs 4 bytes of payload, and 3 came
+    element 2 (6200h/3 "Move times") is not reached
+No. 8"#;
+    assert!(out.contains(wanted), "{out}");
+}
+
+#[test]
 fn a_part_of_the_day_on_a_clock() {
     // The rehearsal begins at 22:13:20 UTC.
     let out = replay(&["--clock", "+01:00", "--comma"]).out;

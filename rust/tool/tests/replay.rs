@@ -281,6 +281,16 @@ fn a_capture_in_which_nothing_was_looked_at() {
 }
 
 #[test]
+fn a_channel_without_a_mapping_looks_at_nothing() {
+    let rig = file("unmapped.rig", b"1400h Record\n1 U8 = 5\n2 U8 = 10h\n6000h Variable U16\n");
+    let run = run(&["replay", &rig, &file("unmapped.pcap", &pcap(false, false, &ramps()))]);
+    assert!(run.out.contains("channel 0 has no mapping: nothing happens\n"), "{}", run.out);
+    let wanted = "nothing was looked at: the channels that take these frames have no mapping\n";
+    assert!(run.out.ends_with(wanted), "{}", run.out);
+    assert_eq!(run.status, 3);
+}
+
+#[test]
 fn requests_come_from_the_managing_node() {
     let text = "1400h Record\n1 U8 = 0\n1600h Array\n1 6000h at 0 length 1\n6000h Variable U8\n";
     let rig = file("request.rig", text.as_bytes());

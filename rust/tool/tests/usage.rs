@@ -25,6 +25,103 @@ fn help_for_all_and_for_each_command() {
 }
 
 #[test]
+fn the_help_fits_a_terminal() {
+    for command in [
+        &["help"][..],
+        &["help", "check"],
+        &["help", "consume"],
+        &["help", "replay"],
+        &["help", "pair"],
+    ] {
+        for line in run(command).out.lines() {
+            assert!(line.chars().count() <= 80, "{line}");
+        }
+    }
+}
+
+/// The options that a text names, as `--comma`.
+fn options_of(text: &str) -> std::collections::BTreeSet<&str> {
+    let ends = |c: char| !(c.is_ascii_lowercase() || c == '-');
+    let starts = text.match_indices("--").map(|(at, _)| &text[at..]);
+    let options = starts.map(|rest| &rest[..rest.find(ends).unwrap_or(rest.len())]);
+    options.filter(|option| option.len() > 2).collect()
+}
+
+#[test]
+fn every_option_is_in_the_help_and_in_the_document() {
+    let document = format!("{}/../../docs/TOOL.md", env!("CARGO_MANIFEST_DIR"));
+    let document = std::fs::read_to_string(document).unwrap();
+    let parts: Vec<&str> = document.split("\n## ").collect();
+    let times = parts.iter().find(|part| part.starts_with("Times\n")).unwrap();
+    for (command, options) in [
+        ("check", &["--comma", "--explain", "--json", "--strict"][..]),
+        ("consume", &["--comma", "--from", "--not-ready", "--times", "--version"]),
+        (
+            "replay",
+            &[
+                "--between",
+                "--changes",
+                "--clock",
+                "--comma",
+                "--faults",
+                "--from",
+                "--json",
+                "--node",
+                "--object",
+                "--quiet",
+                "--times",
+            ],
+        ),
+        ("pair", &["--comma", "--node", "--times"]),
+    ] {
+        let help = run(&["help", command]).out;
+        let named: Vec<&str> = options_of(&help).into_iter().collect();
+        assert_eq!(named, options, "{command}");
+        let part = parts.iter().find(|part| part.starts_with(&format!("{command}\n"))).unwrap();
+        for option in options {
+            let common = ["--comma", "--times"].contains(option) && times.contains(option);
+            assert!(common || options_of(part).contains(option), "{command}: {option}");
+            // It is known: what is said to be wrong is something else.
+            let err = run(&[command, option]).err;
+            assert!(!err.contains("there is no option"), "{command}: {err}");
+        }
+    }
+}
+
+#[test]
+fn no_number_has_a_mark_between_its_thousands() {
+    let (faults, ramp, capture) = (rig("faults.rig"), rig("ramp.rig"), rig("rehearsal.pcap"));
+    let long = "00".repeat(1491);
+    let wide = common::file("wide.rig", b"6000h Variable VisibleString room 1491\n");
+    for (arguments, number) in [
+        (&["check", "--explain", &faults][..], "1491"),
+        (&["check", "--json", &faults], "1491"),
+        (&["check", &wide], "1490"),
+        (&["consume", &ramp, "--from", "5", "--version", "1.2", &long], "1490"),
+        (&["replay", &ramp, &capture], "90000"),
+        (&["pair", &rig("drive.rig"), &ramp], "90000"),
+    ] {
+        let run = run(arguments);
+        let said = run.out + &run.err;
+        assert!(said.contains(number), "{said}");
+        let digit = |at: usize| said.as_bytes().get(at).map_or(false, u8::is_ascii_digit);
+        let marks =
+            said.match_indices(',').filter(|(at, _)| digit(at.wrapping_sub(1)) && digit(at + 1));
+        assert_eq!(marks.count(), 0, "{said}");
+    }
+}
+
+#[test]
+fn the_tool_is_found_within_ten_lines_of_the_readme() {
+    let readme = format!("{}/../../README.md", env!("CARGO_MANIFEST_DIR"));
+    let readme = std::fs::read_to_string(readme).unwrap();
+    let first = readme.lines().take(10).collect::<Vec<_>>().join("\n");
+    for wanted in ["./run", "target/rust/release/loomfinch", "docs/TOOL.md"] {
+        assert!(first.contains(wanted), "{wanted}");
+    }
+}
+
+#[test]
 fn the_rig_of_the_help_is_a_rig() {
     let help = run(&["--help"]).out;
     let lines =

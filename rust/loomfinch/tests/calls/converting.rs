@@ -47,6 +47,20 @@ fn every_type_goes_there_and_back() {
 }
 
 #[test]
+fn texts_are_shown_as_they_are_written() {
+    for (text, shown) in [
+        ("Durée d'accélération", "\"Durée d'accélération\""),
+        ("e\u{301}te\u{301}", "\"e\u{301}te\u{301}\""),
+        ("a\\b\n\t", "\"a\\\\b\\n\\t\""),
+        ("\u{1B}[1m\u{202E}", "\"\\u{1b}[1m\\u{202e}\""),
+    ] {
+        assert_eq!(ObjectValue::from(text).to_string(), shown);
+        let units = ObjectValue::UnicodeString(text.encode_utf16().collect());
+        assert_eq!(units.to_string(), shown);
+    }
+}
+
+#[test]
 fn signed_numbers_are_read() -> Result<(), Refusal> {
     let rig = dictionary([
         (

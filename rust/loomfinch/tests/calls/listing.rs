@@ -60,6 +60,20 @@ fn the_channel_of_a_node() -> Result<(), Refusal> {
 }
 
 #[test]
+fn a_version_takes_what_a_channel_takes() -> Result<(), Refusal> {
+    for expected in [0, 1, 0x0F, 0x10, 0x12, 0x1F, 0xF0, 0xFF].map(PDOVersion) {
+        let node = NodeId(5);
+        let of = [node.0, expected.0].map(ObjectValue::Unsigned8);
+        let mut channel = dictionary([(0x1400, record(of))])?;
+        for received in (0..=u8::MAX).map(PDOVersion) {
+            let events = channel.consume_pdo_payload(node, &[], received, true)?;
+            assert_eq!(expected.takes(received), events.is_empty(), "{expected} {received}");
+        }
+    }
+    Ok(())
+}
+
+#[test]
 fn memory_that_is_no_dictionary_has_nothing() -> Result<(), Refusal> {
     let mut parts = rig(16)?.into_parts();
     parts.objects[12] = u64::MAX;

@@ -9,7 +9,7 @@ pub struct Cursor {
     at: usize,
     /// The token that was taken last: problems name its column.
     taken: usize,
-    pub line: usize,
+    line: usize,
     /// The column behind the line's last token.
     end: usize,
 }
@@ -95,6 +95,12 @@ impl Cursor {
 
     /// An error of the line as a whole, at its beginning.
     pub fn problem_of_line(&self, text: impl Into<String>) -> Problem {
-        Problem::at(self.line, self.tokens.first().map_or(1, |found| found.1), text)
+        let (line, column) = self.start();
+        Problem::at(line, column, text)
+    }
+
+    /// The line, and the column where its first token begins.
+    pub fn start(&self) -> (usize, usize) {
+        (self.line, self.tokens.first().map_or(1, |found| found.1))
     }
 }

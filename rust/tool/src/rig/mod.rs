@@ -49,6 +49,7 @@ pub struct Object {
     pub default: Option<Value>,
     /// Where the file describes it.
     pub line: usize,
+    pub column: usize,
 }
 
 #[derive(Clone, Debug)]
@@ -87,6 +88,11 @@ impl Object {
             (true, k) if k > 0 => Some(k - 1),
             _ => None,
         }
+    }
+
+    /// What is wrong with the object as a whole.
+    pub fn problem(&self, text: impl Into<String>) -> Problem {
+        Problem::at(self.line, self.column, text)
     }
 
     /// How many values the object takes in the dictionary, its default counted.

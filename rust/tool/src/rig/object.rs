@@ -11,7 +11,7 @@ use loomfinch::AccessType;
 
 /// An object's line behind its index.
 pub fn object(cursor: &mut Cursor) -> Result<Object, Problem> {
-    let line = cursor.line;
+    let (line, column) = cursor.start();
     let token = cursor.next();
     let kind = match &token {
         Some(Token::Word(word)) => Kind::of_name(word),
@@ -43,7 +43,7 @@ pub fn object(cursor: &mut Cursor) -> Result<Object, Problem> {
     }
     let values = if kind == Kind::Variable { vec![parts.finish(cursor)?] } else { Vec::new() };
     let name = name.unwrap_or_default();
-    Ok(Object { kind, access, name, values, default, line })
+    Ok(Object { kind, access, name, values, default, line, column })
 }
 
 fn object_parts(kind: Kind) -> &'static str {

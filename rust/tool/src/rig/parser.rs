@@ -77,6 +77,7 @@ impl Reader {
             let kind = cursor.word_ahead(0).and_then(Kind::of_name);
             match numbers::index(word) {
                 Some(number) if kind.is_none() && self.has_elements() && number <= 0xFF => {
+                    self.stand_in(number.into());
                     let wanted = format!(
                         "an element's number in decimal, as in {number}, or an object's kind behind its index"
                     );
@@ -182,6 +183,16 @@ impl Reader {
         value.map(|_| ())
     }
 
+    /// Counts an element whose line is wrong, so that the next one's number is not.
+    fn stand_in(&mut self, number: usize) {
+        match &mut self.open {
+            Open::Object(_, object) if object.values.len() + 1 == number => {
+                object.values.push(Value::empty());
+            }
+            _ => (),
+        }
+    }
+
     /// Closes the object above, and begins what follows.
     fn begin(&mut self, next: Open) {
         self.finish_object();
@@ -193,12 +204,10 @@ impl Reader {
             Open::Object(index, object) => (index, object),
             Open::Nothing | Open::Broken => return,
         };
-        let line = object.line;
         let before = [self.rig.objects.len(), self.values, self.bytes];
         self.values += object.value_count();
         self.bytes += object.weight();
-        self.rig.objects.insert(index, object);
-        let after = [self.rig.objects.len(), self.values, self.bytes];
+        let after = [before[0] + 1, self.values, self.bytes];
         let bounds = [
             ("objects", MOST_OBJECTS),
             ("values and defaults", MOST_VALUES),
@@ -210,9 +219,10 @@ impl Reader {
                 let text = format!(
                     "expected at most {most} {what} in a rig, found {count} with this object"
                 );
-                self.problems.push(Problem::of_line(line, text));
+                self.problems.push(object.problem(text));
             }
         }
+        self.rig.objects.insert(index, object);
     }
 }
 

@@ -4,7 +4,7 @@
 pub struct Problem {
     /// The line, from 1; none where the file as a whole is meant.
     pub line: Option<usize>,
-    /// The column, from 1, counted in characters; none where the line as a whole is meant.
+    /// The column, from 1, counted in characters; none where the file as a whole is meant.
     pub column: Option<usize>,
     pub text: String,
 }
@@ -12,10 +12,6 @@ pub struct Problem {
 impl Problem {
     pub fn at(line: usize, column: usize, text: impl Into<String>) -> Problem {
         Problem { line: Some(line), column: Some(column), text: text.into() }
-    }
-
-    pub fn of_line(line: usize, text: impl Into<String>) -> Problem {
-        Problem { line: Some(line), column: None, text: text.into() }
     }
 
     pub fn of_file(text: impl Into<String>) -> Problem {

@@ -209,7 +209,7 @@ fn errors_name_the_column() {
 #[test]
 fn all_errors_of_a_file_are_told() {
     let text = "1600h Array\n1 6000h/0 at 0\n2 6000h/0 at 0 length 2\n4 6000h at 2 length x\n5 U8\n6000h Varible\n1 U8\n2 U9\n\
-                6001h Variable U8\n1 U8\n2 U8\n6002 Variable U8\n6001h Variable U8\n";
+                6001h Variable U8\n1 U8\n2 U8\n6002 Variable U8\n6001h Variable U8\n6003h Array\n1h U8\n2 U8\n";
     let problems = parse(text.as_bytes()).unwrap_err();
     let found: Vec<(usize, &str)> = problems
         .iter()
@@ -224,6 +224,7 @@ fn all_errors_of_a_file_are_told() {
         (10, "expected a new object: a Variable has no elements"),
         (12, "expected an index marked as hexadecimal"),
         (13, "expected each index once"),
+        (15, "expected an element's number in decimal"),
     ];
     assert_eq!(found, wanted);
 }
@@ -277,12 +278,12 @@ fn line_ends_and_marks_of_other_systems() {
 fn the_bounds_of_a_rig() {
     let objects: String = (0..=1024).map(|k| format!("{k:04X}h Variable U8\n")).collect();
     let problem = parse(objects.as_bytes()).unwrap_err().remove(0);
-    assert_eq!(problem.line, Some(1025));
+    assert_eq!((problem.line, problem.column), (Some(1025), Some(1)));
     assert!(problem.text.starts_with("expected at most 1024 objects"), "{}", problem.text);
-    let lists: String = (0..25).map(|k| format!("{k:04X}h Array\n1..254 U8\n")).collect();
-    assert!(parse(lists.as_bytes()).unwrap_err()[0]
-        .text
-        .starts_with("expected at most 6144 values"));
+    let lists: String = (0..25).map(|k| format!("  {k:04X}h Array\n1..254 U8\n")).collect();
+    let problem = parse(lists.as_bytes()).unwrap_err().remove(0);
+    assert_eq!((problem.line, problem.column), (Some(49), Some(3)));
+    assert!(problem.text.starts_with("expected at most 6144 values"), "{}", problem.text);
     let rooms: String = (0..22).map(|k| format!("{k:04X}h Variable Domain room 1490\n")).collect();
     assert!(parse(rooms.as_bytes()).unwrap_err()[0]
         .text
