@@ -15,7 +15,7 @@ use Rattle.entry.specs.declared.Place.the-variants.{NoObject, NoSub, Count, Val
 use Rattle.od.specs.declared.Answer.{Answer}
 use Rattle.od.specs.declared.Answer.the-variants.{Done, Refused}
 
--- "a U32 Variable at 0 or a U32 Record element, never an Array's"
+-- R8.4: "A U32 Variable at sub-index 0, or a Record's U32 element"; "never an Array's"
 abbrev pub ofU32 : Dict → Place → Found
 ofU32 d (Value p) = cond (eqb (typeAt (d .slots) p) 7) (At p) Nothing
 ofU32 d (Count n) = Nothing
@@ -29,7 +29,7 @@ inRow d sub Nothing = Nothing
 unfoldable pub counterAt : Dict → ℕ → ℕ → Found
 counterAt d x sub = inRow d sub (findRow (d .objects) x)
 
--- "adds 1 modulo 2^32"; "elsewhere nothing happens"
+-- "grows by 1 modulo 2^32"; "Elsewhere nothing happens."
 abbrev pub counted : List ℕ → Found → List ℕ
 counted words (At p) = set words p ((getD words p 0 + 1) % 2 ^ 32)
 counted words Nothing = words

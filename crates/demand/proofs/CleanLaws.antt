@@ -2,11 +2,9 @@
 use mathlib.Core.Path.{_≡_, refl}
 use mathlib.Core.Bool.{Bool, true, false, cond, not, _&&_}
 use mathlib.Core.List.{List}
-use mathlib.Core.Logic.{_⊎_, inl, inr, ⊎-elim}
-use Prim.Native.Nat.{ℕ, _+_, _%_, _<_, _≤_}
-use native.Mathlib.Decide.{decLt}
+use Prim.Native.Nat.{ℕ, _+_, _%_, _≤_}
 use native.Mathlib.Omega.{arith}
-use borrow.Author.Tests.{eqb-true, leb-true, le-ltb, le-leb}
+use borrow.Author.Tests.{eqb-true, leb-true, le-ltb}
 use lib.Dec.{eqb, leb, ltb}
 use lib.ListN.{length}
 use Rattle.lists.proofs.NumberLaws.{part-length}
@@ -21,9 +19,11 @@ use Rattle.entry.specs.Find.{placeOf}
 use Rattle.entry.specs.declared.Place.{Place}
 use Rattle.entry.specs.declared.Place.the-variants.{NoObject, NoSub, Count, Value}
 use Rattle.entry.proofs.JudgeLaws.{and-true}
+use Rattle.aim.specs.Aims.{aimOf, between, classOf}
+use Rattle.aim.specs.declared.Class.the-variants as class
+use Rattle.aim.proofs.ClassLaws.{value-class}
 use Rattle.pdo_step.specs.declared.Outcome.the-variants.{Stored}
-use Rattle.pdo_step.specs.Outcomes.{part, within, onValue, onIndex, outcomeOf}
-use Rattle.pdo_step.proofs.CaseLaws.{within-low, within-high}
+use Rattle.pdo_step.specs.Outcomes.{part, onValue, outcomeOf}
 use Rattle.element.specs.declared.Verdict.the-variants.{Clean, Faulty}
 use Rattle.element.specs.declared.Fault.the-variants as fault
 use Rattle.element.specs.Elements.{lengthFits, onTarget, onField, wordVerdict}
@@ -35,7 +35,7 @@ pub record CleanWord (objects slots : List ℕ) (w : ℕ) : Type 0 where
   pub start : ℕ
   pub len : ℕ
   pub field : fieldOf (entryOf w) ≡ field.Whole start len
-  pub away : within 0x1200 0x12FF (entryOf w .index) ≡ false
+  pub away : between 0x1200 0x12FF (entryOf w .index) ≡ false
   pub placed : placeOf objects (entryOf w .index) (entryOf w .«sub_index») ≡ Value target
   pub fits : lengthFits (typeAt slots target) (roomAt slots target) len ≡ true
 
@@ -46,48 +46,27 @@ clean-word objects slots w e = fielded (fieldOf (entryOf w)) refl e
     x : ℕ
     x = entryOf w .index
 
-    length-is : (s n p : ℕ) → fieldOf (entryOf w) ≡ field.Whole s n → within 0x1200 0x12FF x ≡ false → placeOf objects x (entryOf w .«sub_index») ≡ Value p
+    length-is : (s n p : ℕ) → fieldOf (entryOf w) ≡ field.Whole s n → between 0x1200 0x12FF x ≡ false → placeOf objects x (entryOf w .«sub_index») ≡ Value p
         → (b : Bool) → lengthFits (typeAt slots p) (roomAt slots p) n ≡ b → cond b Clean (Faulty fault.WrongLength) ≡ Clean → CleanWord objects slots w
     length-is s n p f a q true l e = record { target = p; start = s; len = n; field = f; away = a; placed = q; fits = l }
     length-is s n p f a q false l e = let z : _≡_ {A = ℕ} 0 1 = cc in absurd (omega arith)
 
-    target-is : (s n : ℕ) → fieldOf (entryOf w) ≡ field.Whole s n → within 0x1200 0x12FF x ≡ false → (q : Place) → placeOf objects x (entryOf w .«sub_index») ≡ q → onTarget slots n q ≡ Clean → CleanWord objects slots w
+    target-is : (s n : ℕ) → fieldOf (entryOf w) ≡ field.Whole s n → between 0x1200 0x12FF x ≡ false → (q : Place) → placeOf objects x (entryOf w .«sub_index») ≡ q → onTarget slots n q ≡ Clean → CleanWord objects slots w
     target-is s n f a NoObject q e = let z : _≡_ {A = ℕ} 0 1 = cc in absurd (omega arith)
     target-is s n f a NoSub q e = let z : _≡_ {A = ℕ} 0 1 = cc in absurd (omega arith)
     target-is s n f a (Count k) q e = let z : _≡_ {A = ℕ} 0 1 = cc in absurd (omega arith)
     target-is s n f a (Value p) q e = length-is s n p f a q (lengthFits (typeAt slots p) (roomAt slots p) n) refl e
 
-    range : (s n : ℕ) → fieldOf (entryOf w) ≡ field.Whole s n → (b : Bool) → within 0x1200 0x12FF x ≡ b → cond b (Faulty fault.HandOff) (onTarget slots n (placeOf objects x (entryOf w .«sub_index»))) ≡ Clean → CleanWord objects slots w
+    range : (s n : ℕ) → fieldOf (entryOf w) ≡ field.Whole s n → (b : Bool) → between 0x1200 0x12FF x ≡ b → cond b (Faulty fault.HandOff) (onTarget slots n (placeOf objects x (entryOf w .«sub_index»))) ≡ Clean → CleanWord objects slots w
     range s n f true a e = let z : _≡_ {A = ℕ} 0 1 = cc in absurd (omega arith)
     range s n f false a e = target-is s n f a (placeOf objects x (entryOf w .«sub_index»)) refl e
 
     fielded : (f : Field) → fieldOf (entryOf w) ≡ f → onField objects slots (entryOf w) f ≡ Clean → CleanWord objects slots w
     fielded field.Misaligned f e = let z : _≡_ {A = ℕ} 0 1 = cc in absurd (omega arith)
-    fielded (field.Whole s n) f e = range s n f (within 0x1200 0x12FF x) refl e
+    fielded (field.Whole s n) f e = range s n f (between 0x1200 0x12FF x) refl e
 
--- ---- the range, and its halves
-range-false : (low high x : ℕ) → within low high x ≡ false → (x < low) ⊎ (high < x)
-range-false low high x e = go (decLt x low) (decLt high x)
-  where
-    go : Dec (x < low) → Dec (high < x) → (x < low) ⊎ (high < x)
-    go (yes a) b = inl a
-    go (no a) (yes b) = inr b
-    go (no a) (no b) =
-        let q : within low high x ≡ true = rw (le-leb low x (omega arith), le-leb x high (omega arith)) in
-        let z : _≡_ {A = ℕ} 0 1 = cc in absurd (omega arith)
-
-pub no-server : (x : ℕ) → within 0x1200 0x12FF x ≡ false → within 0x1200 0x127F x ≡ false
-no-server x e = ⊎-elim (λ a. within-low 0x1200 0x127F x a) (λ a. within-high 0x1200 0x127F x (omega (arith, a))) (range-false 0x1200 0x12FF x e)
-
-pub no-client : (x : ℕ) → within 0x1200 0x12FF x ≡ false → within 0x1280 0x12FF x ≡ false
-no-client x e = ⊎-elim (λ a. within-low 0x1280 0x12FF x (omega (arith, a))) (λ a. within-high 0x1280 0x12FF x a) (range-false 0x1200 0x12FF x e)
-
-pub joined-range : (x : ℕ) → within 0x1200 0x127F x ≡ false → within 0x1280 0x12FF x ≡ false → within 0x1200 0x12FF x ≡ false
-joined-range x e f =
-    ⊎-elim
-    (λ a. within-low 0x1200 0x12FF x a)
-    (λ a. ⊎-elim (λ b. absurd (omega (arith, a, b))) (λ b. within-high 0x1200 0x12FF x b) (range-false 0x1280 0x12FF x f))
-    (range-false 0x1200 0x127F x e)
+pub clean-class : (objects slots : List ℕ) (w : ℕ) (c : CleanWord objects slots w) → classOf (aimOf objects w) ≡ class.Value (c .start) (c .len) (c .target)
+clean-class objects slots w c = value-class (aimOf objects w) (c .start) (c .len) (c .target) (record { field = c .field; away = c .away; placed = c .placed })
 
 -- ---- a length that fits is decoded, and has room
 pub taken : (slots payload : List ℕ) (p start n : ℕ) → start + n ≤ length payload → lengthFits (typeAt slots p) (roomAt slots p) n ≡ true → (typeAt slots p ≡ 11 → judge (part payload start n) ≡ Good)
@@ -119,7 +98,7 @@ taken slots payload p start n h fits good = go (isText t) refl
         rw (q, le-ltb (length s) (sizeOf t) (omega (arith, z, long)), q)
 
 pub clean-stored : (objects slots payload : List ℕ) (w : ℕ) (c : CleanWord objects slots w) → c .start + c .len ≤ length payload → TextAt objects slots payload w → outcomeOf objects slots payload w ≡ Stored (c .target) (c .start) (c .len)
-unfolding outcomeOf onIndex
+unfolding outcomeOf
 clean-stored objects slots payload w c h t =
-    rw (c .field, le-ltb (length payload) (c .start + c .len) h, no-server (entryOf w .index) (c .away), no-client (entryOf w .index) (c .away), c .placed)
-    (taken slots payload (c .target) (c .start) (c .len) h (c .fits) (t .good (c .target) (c .start) (c .len) (c .field) (c .away) (c .placed)))
+    rw (clean-class objects slots w c, c .field, le-ltb (length payload) (c .start + c .len) h)
+    (taken slots payload (c .target) (c .start) (c .len) h (c .fits) (t .good (c .start) (c .len) (c .target) (clean-class objects slots w c)))

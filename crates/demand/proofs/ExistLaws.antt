@@ -43,7 +43,7 @@ zero-good k [] z = refl
 zero-good k (b ∷ s) z = rw (z .0) (zero-good (k + 1) s (z .1))
 
 pub zero-text : (objects slots : List ℕ) (m w : ℕ) → TextAt objects slots (replicate m 0) w
-zero-text objects slots m w = record { good = λ p start n f a q t. zero-good 0 (part (replicate m 0) start n) (zero-take n (drop start (replicate m 0)) (zero-drop start (replicate m 0) (zero-replicate m))) }
+zero-text objects slots m w = record { good = λ start n p q t. zero-good 0 (part (replicate m 0) start n) (zero-take n (drop start (replicate m 0)) (zero-drop start (replicate m 0) (zero-replicate m))) }
 
 pub zero-texts : (objects slots : List ℕ) (m p : ℕ) (ws : List ℕ) (j : ℕ) → Texts objects slots (replicate m 0) p ws j
 zero-texts objects slots m p [] j = tt

@@ -26,17 +26,13 @@ use Rattle.pdo_cycle.proofs.KeepLaws.{cycle-keeps}
 use Rattle.channel.specs.declared.Checked.the-variants.{Pass}
 use Rattle.channel.specs.Check.{checkOf}
 use Rattle.demand.specs.Demand.{Admitted, Written}
-use Rattle.demand.specs.Lasting.{Shaped, SameWords, Keeps, Call, look, insert, write, increment-counter, update-pdo-error-object, consume-pdo-payload, consume-cycle, restore, left, leftBy, Given, AllGiven, Shaping, AllShaping}
+use Rattle.demand.specs.Lasting.{Shaped, SameWords, Keeps, Call, look, insert, write, increment-counter, update-pdo-error-object, consume-pdo-payload, consume-cycle, restore, left, leftBy, Given, AllGiven, Kept, Shaping, AllShaping}
 use Rattle.demand.proofs.DemandLaws.{passed}
 use Rattle.demand.proofs.LastLaws.{pass-lasts, shaped-keeps}
 use Rattle.demand.proofs.CallLaws.{filled-shaped, shaped-trans, insert-shaped}
 use Rattle.demand.proofs.BytesLaws.{insert-bytes, write-bytes, consume-bytes, cycle-bytes}
 
 -- ---- each call keeps the dictionary well-formed and of bytes, a restore too
-pub record Kept (d : Dict) : Type 0 where
-  pub well : wellFormed d ≡ true
-  pub bytes : Bytes (d .bytes)
-
 pub call-keeps : (c : Call) (d : Dict) → Given c → Kept d → Kept (left c d)
 unfolding updateOf counterOf
 call-keeps look d g k = k

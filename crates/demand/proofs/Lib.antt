@@ -5,6 +5,7 @@ pub mod DemandLaws
 pub mod ExistLaws
 pub mod ExactLaws
 pub mod NamedLaws
+pub mod BackLaws
 pub mod FirstLaws
 pub mod ReasonLaws
 pub mod ExplainLaws

@@ -78,7 +78,7 @@ a-sender d i w e = go (u8At d (commIndex i) 1) refl e
     go Nothing s e = let z : _≡_ {A = ℕ} 0 1 = cc in absurd (omega arith)
     go (At v) s e = same v s (firstMatch d (senderFor v)) refl e
 
-sender-there : (d : Dict) (i : ℕ) → Sender d i → hasSender d i (u8At d (commIndex i) 1) ≡ true
+pub sender-there : (d : Dict) (i : ℕ) → Sender d i → hasSender d i (u8At d (commIndex i) 1) ≡ true
 sender-there d i s =
     let b = sent-by d i (s .sender) (s .first) in
     let first : firstMatch d (senderFor (b .value)) ≡ At i = ap (firstMatch d) (b .same) ∙ s .first in

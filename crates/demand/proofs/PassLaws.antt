@@ -30,7 +30,7 @@ use Rattle.element.specs.declared.Verdict.the-variants.{Clean, Faulty}
 use Rattle.element.specs.Elements.{lengthFits, wordVerdict, verdictOf}
 use Rattle.demand.specs.Demand.{Long, TextAt, Texts, Whole, putWord, putAll, AllWhole}
 use Rattle.demand.specs.Saying.{AllClean}
-use Rattle.demand.proofs.CleanLaws.{clean-word, clean-stored}
+use Rattle.demand.proofs.CleanLaws.{clean-word, clean-stored, clean-class}
 
 -- ---- what was put is encoded as what was put
 pub put-encodes : (d : Dict) (p : ℕ) (s : List ℕ) → ValueFacts d p → Bytes s → (isText (typeAt (d .slots) p) ≡ false → length s ≡ sizeOf (typeAt (d .slots) p))
@@ -85,7 +85,7 @@ module _ (f : Frame) (b : Bytes (f .payload)) where
       let e = put-encodes d (k .target) (part (f .payload) (k .start) (k .len)) y (bytes-take (k .len) _ (bytes-drop (k .start) (f .payload) b)) (λ z. long ∙ fixed-fits _ _ _ (k .fits) z) in
       record {
         whole = record { target = k .target; start = k .start; len = k .len; field = k .field; stores = q; encodes = rw q e };
-        acts = rw (q, k .field, k .placed);
+        acts = rw (q, clean-class (f .objects) (f .slots) w k);
         stays = rw q;
         silent = λ i k. rw q;
       }

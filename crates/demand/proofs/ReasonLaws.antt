@@ -30,8 +30,12 @@ use Rattle.entry.specs.Encode.{encodingIn}
 use Rattle.entry.specs.declared.Place.{Place}
 use Rattle.entry.specs.declared.Place.the-variants.{NoObject, NoSub, Count, Value}
 use Rattle.pdo_validator.specs.Counting.{isMapping}
+use Rattle.aim.specs.Aims.{aimOf, between}
+use Rattle.aim.proofs.RangeLaws.{joined-range, no-server, no-client}
+use Rattle.aim.proofs.ClassLaws.{value-class}
 use Rattle.pdo_step.specs.declared.Outcome.the-variants as outcome
-use Rattle.pdo_step.specs.Outcomes.{part, within, onCount, onPlace, onIndex, outcomeOf}
+use Rattle.pdo_step.specs.Outcomes.{part, onCount}
+use Rattle.pdo_step.proofs.FormLaws.{onPlace, onIndex, outcome-form}
 use Rattle.pdo_run.specs.Run.{Frame, frame, decided, actOf}
 use Rattle.element.specs.declared.Fault.{Fault}
 use Rattle.element.specs.declared.Fault.the-variants as fault
@@ -40,7 +44,6 @@ use Rattle.element.specs.Elements.{lengthFits, onTarget, onField, wordVerdict, 
 use Rattle.demand.specs.Demand.{Long, TextAt, Admitted, Whole}
 use Rattle.demand.specs.Saying.{listStart, listWords, elementType, elementWord, Never}
 use Rattle.demand.specs.Reasons.{HandedOff, server, client, Counted, ignored, refused, empty, Misfit, too-short, cut, odd, no-text, over-room, Misfits, Reason}
-use Rattle.demand.proofs.CleanLaws.{joined-range, no-server, no-client}
 use Rattle.demand.proofs.WholeLaws.{not-odd, whole-clean}
 
 -- what a fixed type takes is as long as the type
@@ -78,28 +81,26 @@ module _ (f : Frame) (c : Contents) (w : ℕ) (reach : endOf (entryOf w) ≤ len
   inside s n q = let k = whole-field (entryOf w) (entry-in-range w) s n q in omega (arith, k .end, reach)
 
   reached : (s n : ℕ) → fieldOf (entryOf w) ≡ field.Whole s n → decided f w ≡ onIndex (f .objects) (f .slots) (f .payload) (entryOf w) s n
-  unfolding outcomeOf
-  reached s n q = rw (q, le-ltb (length (f .payload)) (s + n) (inside s n q))
+  reached s n q = outcome-form (f .objects) (f .slots) (f .payload) w ∙ rw (q, le-ltb (length (f .payload)) (s + n) (inside s n q))
 
   -- ---- each fault of a word
   misaligned : fieldOf (entryOf w) ≡ field.Misaligned → decided f w ≡ outcome.Misaligned
-  unfolding outcomeOf
-  misaligned q = rw q
+  misaligned q = outcome-form (f .objects) (f .slots) (f .payload) w ∙ rw q
 
-  handed-off : (s n : ℕ) → fieldOf (entryOf w) ≡ field.Whole s n → within 0x1200 0x12FF (entryOf w .index) ≡ true → HandedOff f w
+  handed-off : (s n : ℕ) → fieldOf (entryOf w) ≡ field.Whole s n → between 0x1200 0x12FF (entryOf w .index) ≡ true → HandedOff f w
   unfolding onIndex
-  handed-off s n q a = go (within 0x1200 0x127F (entryOf w .index)) refl (within 0x1280 0x12FF (entryOf w .index)) refl
+  handed-off s n q a = go (between 0x1200 0x127F (entryOf w .index)) refl (between 0x1280 0x12FF (entryOf w .index)) refl
     where
-      go : (b : Bool) → within 0x1200 0x127F (entryOf w .index) ≡ b → (d : Bool) → within 0x1280 0x12FF (entryOf w .index) ≡ d → HandedOff f w
+      go : (b : Bool) → between 0x1200 0x127F (entryOf w .index) ≡ b → (d : Bool) → between 0x1280 0x12FF (entryOf w .index) ≡ d → HandedOff f w
       go true b d e = server s n q (reached s n q ∙ rw b)
       go false b true e = client s n q (reached s n q ∙ rw (b, e))
       go false b false e = let u = joined-range (entryOf w .index) b e in let z : _≡_ {A = ℕ} 0 1 = cc in absurd (omega arith)
 
-  placed : (s n : ℕ) → fieldOf (entryOf w) ≡ field.Whole s n → within 0x1200 0x12FF (entryOf w .index) ≡ false → (g : Place) → placeOf (f .objects) (entryOf w .index) (entryOf w .«sub_index») ≡ g → decided f w ≡ onPlace (f .slots) (f .payload) (entryOf w .index) s n g
+  placed : (s n : ℕ) → fieldOf (entryOf w) ≡ field.Whole s n → between 0x1200 0x12FF (entryOf w .index) ≡ false → (g : Place) → placeOf (f .objects) (entryOf w .index) (entryOf w .«sub_index») ≡ g → decided f w ≡ onPlace (f .slots) (f .payload) (entryOf w .index) s n g
   unfolding onIndex
   placed s n q a g e = reached s n q ∙ rw (no-server (entryOf w .index) a, no-client (entryOf w .index) a, e)
 
-  counted : (s n k : ℕ) → fieldOf (entryOf w) ≡ field.Whole s n → within 0x1200 0x12FF (entryOf w .index) ≡ false → placeOf (f .objects) (entryOf w .index) (entryOf w .«sub_index») ≡ Count k → Counted f w
+  counted : (s n k : ℕ) → fieldOf (entryOf w) ≡ field.Whole s n → between 0x1200 0x12FF (entryOf w .index) ≡ false → placeOf (f .objects) (entryOf w .index) (entryOf w .«sub_index») ≡ Count k → Counted f w
   unfolding onCount
   counted s n k q a e = go (eqb n 0) refl (isMapping (entryOf w .index)) refl
     where
@@ -108,7 +109,7 @@ module _ (f : Frame) (c : Contents) (w : ℕ) (reach : endOf (entryOf w) ≤ len
       go false b true m = ignored (placed s n q a (Count k) e ∙ rw (b, m))
       go false b false m = refused (placed s n q a (Count k) e ∙ rw (b, m))
 
-  misfit : (s n p : ℕ) → fieldOf (entryOf w) ≡ field.Whole s n → within 0x1200 0x12FF (entryOf w .index) ≡ false → placeOf (f .objects) (entryOf w .index) (entryOf w .«sub_index») ≡ Value p
+  misfit : (s n p : ℕ) → fieldOf (entryOf w) ≡ field.Whole s n → between 0x1200 0x12FF (entryOf w .index) ≡ false → placeOf (f .objects) (entryOf w .index) (entryOf w .«sub_index») ≡ Value p
       → lengthFits (typeAt (f .slots) p) (roomAt (f .slots) p) n ≡ false → Misfit f c w p s n
   unfolding wordVerdict
   misfit s n p q a e l = go (wordAt (typeAt (f .slots) p) (part (f .payload) s n)) refl
@@ -159,24 +160,24 @@ module _ (f : Frame) (c : Contents) (w : ℕ) (reach : endOf (entryOf w) ≤ len
       is : (g : Fault) → Faulty g ≡ Faulty v → Reason g f c t w → Reason v f c t w
       is g q r = let u : g ≡ v = cc in subst (λ (h : Fault). Reason h f c t w) u r
 
-      length-is : (s n p : ℕ) → fieldOf (entryOf w) ≡ field.Whole s n → within 0x1200 0x12FF (entryOf w .index) ≡ false → placeOf (f .objects) (entryOf w .index) (entryOf w .«sub_index») ≡ Value p
+      length-is : (s n p : ℕ) → fieldOf (entryOf w) ≡ field.Whole s n → between 0x1200 0x12FF (entryOf w .index) ≡ false → placeOf (f .objects) (entryOf w .index) (entryOf w .«sub_index») ≡ Value p
           → (b : Bool) → lengthFits (typeAt (f .slots) p) (roomAt (f .slots) p) n ≡ b → cond b Clean (Faulty fault.WrongLength) ≡ Faulty v → Reason v f c t w
       length-is s n p q a g true l e = let z : _≡_ {A = ℕ} 0 1 = cc in absurd (omega arith)
-      length-is s n p q a g false l e = is fault.WrongLength e (record { target = p; start = s; len = n; field = q; away = a; placed = g; how = misfit s n p q a g l })
+      length-is s n p q a g false l e = is fault.WrongLength e (record { target = p; start = s; len = n; class = value-class (aimOf (f .objects) w) s n p (record { field = q; away = a; placed = g }); how = misfit s n p q a g l })
 
-      target-is : (s n : ℕ) → fieldOf (entryOf w) ≡ field.Whole s n → within 0x1200 0x12FF (entryOf w .index) ≡ false → (g : Place) → placeOf (f .objects) (entryOf w .index) (entryOf w .«sub_index») ≡ g → onTarget (f .slots) n g ≡ Faulty v → Reason v f c t w
+      target-is : (s n : ℕ) → fieldOf (entryOf w) ≡ field.Whole s n → between 0x1200 0x12FF (entryOf w .index) ≡ false → (g : Place) → placeOf (f .objects) (entryOf w .index) (entryOf w .«sub_index») ≡ g → onTarget (f .slots) n g ≡ Faulty v → Reason v f c t w
       target-is s n q a NoObject g e = is fault.NoTarget e (placed s n q a NoObject g)
       target-is s n q a NoSub g e = is fault.NoTarget e (placed s n q a NoSub g)
       target-is s n q a (Count k) g e = is fault.CountTarget e (counted s n k q a g)
       target-is s n q a (Value p) g e = length-is s n p q a g (lengthFits (typeAt (f .slots) p) (roomAt (f .slots) p) n) refl e
 
-      range : (s n : ℕ) → fieldOf (entryOf w) ≡ field.Whole s n → (b : Bool) → within 0x1200 0x12FF (entryOf w .index) ≡ b → cond b (Faulty fault.HandOff) (onTarget (f .slots) n (placeOf (f .objects) (entryOf w .index) (entryOf w .«sub_index»))) ≡ Faulty v → Reason v f c t w
+      range : (s n : ℕ) → fieldOf (entryOf w) ≡ field.Whole s n → (b : Bool) → between 0x1200 0x12FF (entryOf w .index) ≡ b → cond b (Faulty fault.HandOff) (onTarget (f .slots) n (placeOf (f .objects) (entryOf w .index) (entryOf w .«sub_index»))) ≡ Faulty v → Reason v f c t w
       range s n q true a e = is fault.HandOff e (handed-off s n q a)
       range s n q false a e = target-is s n q a (placeOf (f .objects) (entryOf w .index) (entryOf w .«sub_index»)) refl e
 
       fielded : (g : Field) → fieldOf (entryOf w) ≡ g → onField (f .objects) (f .slots) (entryOf w) g ≡ Faulty v → Reason v f c t w
       fielded field.Misaligned q e = is fault.Misaligned e (misaligned q)
-      fielded (field.Whole s n) q e = range s n q (within 0x1200 0x12FF (entryOf w .index)) refl e
+      fielded (field.Whole s n) q e = range s n q (between 0x1200 0x12FF (entryOf w .index)) refl e
 
 pub reason : (f : Frame) (c : Contents) (t w : ℕ) (v : Fault) → verdictOf (f .objects) (f .slots) t w ≡ Faulty v → (t ≡ 8 → endOf (entryOf w) ≤ length (f .payload)) → Reason v f c t w
 reason f c t w v e reach = go (eqb t 8) refl e
@@ -217,5 +218,5 @@ text-over f c w m t y = go (m .how)
     go (too-short x l e) = let z : _≡_ {A = ℕ} 0 1 = cc in absurd (omega arith)
     go (cut x l e o) = let z : _≡_ {A = ℕ} 0 1 = cc in absurd (omega arith)
     go (odd x l e) = absurd (omega (arith, x, y))
-    go (no-text x l n e) = absurd (n (t .good (m .target) (m .start) (m .len) (m .field) (m .away) (m .placed) y))
+    go (no-text x l n e) = absurd (n (t .good (m .start) (m .len) (m .target) (m .class) y))
     go (over-room x l e) = e

@@ -1,4 +1,4 @@
--- "Two fields with one target: the later stands": after a payload that is written, a target encodes the last field that is mapped onto it, and
+-- R11.8: "of two fields with one target the later stands": after a payload that is written, a target encodes the last field that is mapped onto it, and
 -- what no element maps is encoded as before. Assumes nothing.
 use mathlib.Core.Path.{_≡_, refl, sym, ap, _∙_, subst}
 use mathlib.Core.Bool.{Bool, true, false}
@@ -22,6 +22,8 @@ use Rattle.entry.specs.Encode.{encodingIn, encodingAt}
 use Rattle.entry.specs.declared.Place.the-variants.{Value}
 use Rattle.entry.proofs.ValueLaws.{ValueFacts, element-of, element-one, element-facts, every-value}
 use Rattle.entry.proofs.ChangeLaws.{put-other}
+use Rattle.aim.specs.Aims.{aimOf}
+use Rattle.aim.proofs.ClassLaws.{value-class}
 use Rattle.pdo_step.specs.Outcomes.{part}
 use Rattle.pdo_step.specs.Steps.{applied}
 use Rattle.pdo_step.proofs.OutcomeLaws.{stored-by}
@@ -64,7 +66,8 @@ module _ (f : Frame) (b : Bytes (f .payload)) where
   unfolding actOf applied
   whole-puts c w h =
       let s = stored-at (f .objects) (f .slots) (f .payload) w (h .target) (h .start) (h .len) (h .field) (h .stores) in
-      record { placed = s .placed; acts = rw (h .stores, h .field, s .placed); puts = rw (h .field, s .placed) }
+      let k = value-class (aimOf (f .objects) w) (h .start) (h .len) (h .target) (record { field = h .field; away = s .away; placed = s .placed }) in
+      record { placed = s .placed; acts = rw (h .stores, k); puts = rw k }
 
   next : (c : Contents) (w : ℕ) → Whole f c w → Sane f c → Sane f (putWord f c w)
   next c w h s = subst (Sane f) (whole-puts c w h .acts) (act-sane f b c w s)

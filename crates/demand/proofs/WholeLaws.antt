@@ -22,18 +22,20 @@ use Rattle.entry.specs.Put.{Contents}
 use Rattle.entry.specs.declared.Place.{Place}
 use Rattle.entry.specs.declared.Place.the-variants.{NoObject, NoSub, Count, Value}
 use Rattle.pdo_validator.specs.Counting.{isMapping}
+use Rattle.aim.specs.Aims.{between}
+use Rattle.aim.proofs.RangeLaws.{joined-range}
 use Rattle.pdo_step.specs.declared.Outcome.the-variants as outcome
-use Rattle.pdo_step.specs.Outcomes.{part, within, onCount, onValue, onPlace, onIndex, outcomeOf}
+use Rattle.pdo_step.specs.Outcomes.{part, onCount, onValue, outcomeOf}
+use Rattle.pdo_step.proofs.FormLaws.{onPlace, onIndex, outcome-form}
 use Rattle.pdo_run.specs.Run.{Frame}
 use Rattle.element.specs.declared.Verdict.the-variants.{Clean}
 use Rattle.element.specs.Elements.{lengthFits, wordVerdict}
 use Rattle.demand.specs.Demand.{Whole}
-use Rattle.demand.proofs.CleanLaws.{joined-range}
 
 -- ---- what is stored comes from: the field is within the payload, outside of both ranges, at a value that takes it and has room
 pub record StoredAt (objects slots payload : List ℕ) (w p start n : ℕ) : Type 0 where
   pub within-payload : start + n ≤ length payload
-  pub away : within 0x1200 0x12FF (entryOf w .index) ≡ false
+  pub away : between 0x1200 0x12FF (entryOf w .index) ≡ false
   pub placed : placeOf objects (entryOf w .index) (entryOf w .«sub_index») ≡ Value p
   pub even : isText (typeAt slots p) ≡ true → not (eqb (typeAt slots p) 13 && eqb (n % 2) 1) ≡ true
   pub roomy : isText (typeAt slots p) ≡ true → n ≤ roomAt slots p
@@ -59,7 +61,7 @@ module _ (objects slots payload : List ℕ) (w p start n : ℕ) (f : fieldOf (en
       go false a true r e = let z : _≡_ {A = ℕ} 0 1 = cc in absurd (omega arith)
       go false a false r e = refl
 
-  at-value : (q : ℕ) → placeOf objects x sub ≡ Value q → start + n ≤ length payload → within 0x1200 0x12FF x ≡ false → (v : Word) → wordAt (typeAt slots q) (part payload start n) ≡ v → onValue slots q start n v ≡ outcome.Stored p start n → StoredAt objects slots payload w p start n
+  at-value : (q : ℕ) → placeOf objects x sub ≡ Value q → start + n ≤ length payload → between 0x1200 0x12FF x ≡ false → (v : Word) → wordAt (typeAt slots q) (part payload start n) ≡ v → onValue slots q start n v ≡ outcome.Stored p start n → StoredAt objects slots payload w p start n
   at-value q l h a (Fails c) k e = let z : _≡_ {A = ℕ} 0 1 = cc in absurd (omega arith)
   at-value q l h a (Takes v) k e = room (isText (typeAt slots q)) refl (ltb (roomAt slots q) n) refl e
     where
@@ -71,7 +73,7 @@ module _ (objects slots payload : List ℕ) (w p start n : ℕ) (f : fieldOf (en
       room true t false r e = let u : q ≡ p = cc in same u (λ y. ltb-false _ _ r)
       room false t b r e = let u : q ≡ p = cc in same u (λ y. let z : _≡_ {A = ℕ} 0 1 = cc in absurd (omega arith))
 
-  at-place : (q : Place) → placeOf objects x sub ≡ q → start + n ≤ length payload → within 0x1200 0x12FF x ≡ false → onPlace slots payload x start n q ≡ outcome.Stored p start n → StoredAt objects slots payload w p start n
+  at-place : (q : Place) → placeOf objects x sub ≡ q → start + n ≤ length payload → between 0x1200 0x12FF x ≡ false → onPlace slots payload x start n q ≡ outcome.Stored p start n → StoredAt objects slots payload w p start n
   unfolding onCount
   at-place NoObject l h a e = let z : _≡_ {A = ℕ} 0 1 = cc in absurd (omega arith)
   at-place NoSub l h a e = let z : _≡_ {A = ℕ} 0 1 = cc in absurd (omega arith)
@@ -84,10 +86,10 @@ module _ (objects slots payload : List ℕ) (w p start n : ℕ) (f : fieldOf (en
   at-place (Value q) l h a e = at-value q l h a (wordAt (typeAt slots q) (part payload start n)) refl e
 
   pub stored-at : outcomeOf objects slots payload w ≡ outcome.Stored p start n → StoredAt objects slots payload w p start n
-  unfolding outcomeOf onIndex
-  stored-at e = go (ltb (length payload) (start + n)) refl (within 0x1200 0x127F x) refl (within 0x1280 0x12FF x) refl (rw f at e)
+  unfolding onIndex
+  stored-at e = go (ltb (length payload) (start + n)) refl (between 0x1200 0x127F x) refl (between 0x1280 0x12FF x) refl (rw f at (sym (outcome-form objects slots payload w) ∙ e))
     where
-      go : (l : Bool) → ltb (length payload) (start + n) ≡ l → (s : Bool) → within 0x1200 0x127F x ≡ s → (c : Bool) → within 0x1280 0x12FF x ≡ c
+      go : (l : Bool) → ltb (length payload) (start + n) ≡ l → (s : Bool) → between 0x1200 0x127F x ≡ s → (c : Bool) → between 0x1280 0x12FF x ≡ c
           → cond l outcome.Short (cond s (outcome.Server x start n) (cond c (outcome.Client x start n) (onPlace slots payload x start n (placeOf objects x sub)))) ≡ outcome.Stored p start n → StoredAt objects slots payload w p start n
       go true l s q c r e = let z : _≡_ {A = ℕ} 0 1 = cc in absurd (omega arith)
       go false l true q c r e = let z : _≡_ {A = ℕ} 0 1 = cc in absurd (omega arith)

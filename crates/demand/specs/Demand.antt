@@ -9,17 +9,17 @@ use Rattle.lists.specs.Numbers.{Bytes}
 use Rattle.text.specs.declared.Text.the-variants.{Good}
 use Rattle.text.specs.Machine.{judge}
 use Rattle.mapping.specs.Word.{entryOf, fieldOf, endOf}
-use Rattle.mapping.specs.declared.Field.{Field}
 use Rattle.mapping.specs.declared.Field.the-variants as field
 use Rattle.entry.specs.Table.{Dict, kindAt, listCount, firstAt, typeAt, roomAt}
-use Rattle.entry.specs.Find.{findRow, placeOf}
+use Rattle.entry.specs.Find.{findRow}
 use Rattle.entry.specs.Put.{Contents, contents, putIn}
 use Rattle.entry.specs.Encode.{encodingIn}
 use Rattle.entry.specs.declared.Found.the-variants.{At}
-use Rattle.entry.specs.declared.Place.{Place}
-use Rattle.entry.specs.declared.Place.the-variants.{NoObject, NoSub, Count, Value}
+use Rattle.aim.specs.Aims.{aimOf, classOf}
+use Rattle.aim.specs.declared.Class.{Class}
+use Rattle.aim.specs.declared.Class.the-variants as class
 use Rattle.pdo_step.specs.declared.Outcome.the-variants.{Stored}
-use Rattle.pdo_step.specs.Outcomes.{part, within}
+use Rattle.pdo_step.specs.Outcomes.{part}
 use Rattle.pdo_channel.specs.Channel.{firstMatch, expectedOf, rightVersion}
 use Rattle.pdo_run.specs.Run.{Frame, frame, decided, actOf, ran, listIn}
 use Rattle.pdo_handler.specs.Consume.{receivedBy}
@@ -32,8 +32,7 @@ Long slots payload p (w ∷ ws) j = (typeAt slots (p + j) ≡ 8 → endOf (entry
 
 -- "every VisibleString field (aligned, target outside 1200h..12FFh) is UTF-8"
 pub record TextAt (objects slots payload : List ℕ) (w : ℕ) : Type 0 where
-  pub good : (p start n : ℕ) → fieldOf (entryOf w) ≡ field.Whole start n → within 0x1200 0x12FF (entryOf w .index) ≡ false
-      → placeOf objects (entryOf w .index) (entryOf w .«sub_index») ≡ Value p → typeAt slots p ≡ 11 → judge (part payload start n) ≡ Good
+  pub good : (start n p : ℕ) → classOf (aimOf objects w) ≡ class.Value start n p → typeAt slots p ≡ 11 → judge (part payload start n) ≡ Good
 
 abbrev pub Texts : List ℕ → List ℕ → List ℕ → ℕ → List ℕ → ℕ → Type 0
 Texts objects slots payload p [] j = Unit {0}
@@ -58,15 +57,16 @@ pub record Whole (f : Frame) (c : Contents) (w : ℕ) : Type 0 where
   pub encodes : encodingIn (f .slots) (actOf f c (decided f w) .words) (actOf f c (decided f w) .bytes) target ≡ part (f .payload) start len
 
 -- R12.6: "putting (R5.7) each field at its target, in list order"
-abbrev pub putField : Frame → Contents → Field → Place → Contents
-putField f c field.Misaligned q = c
-putField f c (field.Whole start n) NoObject = c
-putField f c (field.Whole start n) NoSub = c
-putField f c (field.Whole start n) (Count k) = c
-putField f c (field.Whole start n) (Value p) = putIn (f .slots) c p (part (f .payload) start n)
+abbrev pub putField : Frame → Contents → Class → Contents
+putField f c class.Misaligned = c
+putField f c (class.Server start n) = c
+putField f c (class.Client start n) = c
+putField f c class.NoTarget = c
+putField f c (class.Count start n) = c
+putField f c (class.Value start n p) = putIn (f .slots) c p (part (f .payload) start n)
 
 abbrev pub putWord : Frame → Contents → ℕ → Contents
-putWord f c w = putField f c (fieldOf (entryOf w)) (placeOf (f .objects) (entryOf w .index) (entryOf w .«sub_index»))
+putWord f c w = putField f c (classOf (aimOf (f .objects) w))
 
 unfoldable pub putAll : Frame → List ℕ → Contents → Contents
 putAll f [] c = c

@@ -20,7 +20,8 @@ use Rattle.fitting.specs.Records.{recordFrom}
 use Rattle.fitting.specs.Fit.{chosenAt, fitsRoom, valuesFit, rowsFit}
 use Rattle.restoring.specs.Restore.{restoredBy, valuesRestored, rowsRestored, restoreOf}
 use Rattle.pdo_validator.specs.Counting.{endsFrom}
-use Rattle.pdo_step.specs.Outcomes.{outcomeOf, onIndex, onCount}
+use Rattle.pdo_step.specs.Outcomes.{outcomeOf, onCount}
+use Rattle.aim.specs.Aims.{classOf}
 use Rattle.pdo_step.specs.Steps.{applied}
 use Rattle.pdo_channel.specs.Channel.{channelFrom}
 use Rattle.pdo_run.specs.Run.{actOf, runFrom}
@@ -52,5 +53,5 @@ own = rig (value 8 0x0040000000021600 ∷ value 8 0x0010004000006000 ∷ [])
 
 -- the payload makes element 2 map 6001h, which is not there; it is itself still written whole
 pub rewritten : (checkOf own 0 ≡ Pass) × (checkOf (filled own (consumeOf own (0x01 ∷ 0x60 ∷ 0x00 ∷ 0x00 ∷ 0x40 ∷ 0x00 ∷ 0x10 ∷ 0x00 ∷ 0x2A ∷ 0x00 ∷ []) 5 0 true 254 [] .contents)) 0 ≡ Element 2 NoTarget)
-unfolding checkOf wellFormed headerOk reserved rowsFrom rowFits rowOk extraOk isEdition slotsFrom slotOk headOk heldOk valOk wordOk textWord judgeAt channelFrom faultFrom wordVerdict endsFrom entryOf fieldOf findFrom subAt listCount sizeOf allSlots allWords allBytes rowsOf slotsOf wordsOf rooms consumeOf consumedBy runFrom actOf applied outcomeOf onIndex onCount putIn wordAt number over
+unfolding checkOf wellFormed headerOk reserved rowsFrom rowFits rowOk extraOk isEdition slotsFrom slotOk headOk heldOk valOk wordOk textWord judgeAt channelFrom faultFrom wordVerdict endsFrom entryOf fieldOf findFrom subAt listCount sizeOf allSlots allWords allBytes rowsOf slotsOf wordsOf rooms consumeOf consumedBy runFrom actOf applied outcomeOf classOf onCount putIn wordAt number over
 rewritten = (refl, refl)

@@ -1,13 +1,14 @@
 -- How long a pass lasts: RULES.md R12.9 to R12.11. Assumes nothing.
 use Prim.Native.Nat.{ℕ, _+_, _<_}
 use mathlib.Core.Path.{_≡_}
-use mathlib.Core.Bool.{Bool}
+use mathlib.Core.Bool.{Bool, true}
 use mathlib.Core.List.{List, [], _∷_}
 use lib.ListN.{getD}
 use Rattle.lists.specs.Numbers.{Bytes}
 use Rattle.mapping.specs.Word.{entryOf}
 use Rattle.entry.specs.Table.{Dict, kindAt, countAt, listCount, firstAt, typeAt, roomAt}
 use Rattle.entry.specs.Find.{findRow, placeOf}
+use Rattle.entry.specs.Judge.{wellFormed}
 use Rattle.entry.specs.Put.{contents, filled}
 use Rattle.entry.specs.declared.Found.the-variants.{At}
 use Rattle.entry.specs.declared.Place.the-variants.{Value}
@@ -96,6 +97,11 @@ Given (restore s first last) = Bytes s
 abbrev pub AllGiven : List Call → Type 0
 AllGiven [] = Unit {0}
 AllGiven (c ∷ cs) = Given c × AllGiven cs
+
+-- what each call keeps: the dictionary is well-formed, and of bytes
+pub record Kept (d : Dict) : Type 0 where
+  pub well : wellFormed d ≡ true
+  pub bytes : Bytes (d .bytes)
 
 -- R12.11: "A restore that answers Done ends every pass, whatever its range; a refused one ends none. Every other call keeps .."
 abbrev pub Shaping : Call → Dict → Type 0

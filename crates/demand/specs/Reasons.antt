@@ -9,12 +9,12 @@ use Rattle.value.specs.declared.Fault.the-variants as cause
 use Rattle.mapping.specs.Word.{entryOf, fieldOf}
 use Rattle.mapping.specs.declared.Field.the-variants as field
 use Rattle.entry.specs.Table.{typeAt, roomAt}
-use Rattle.entry.specs.Find.{placeOf}
 use Rattle.entry.specs.Put.{Contents}
 use Rattle.entry.specs.Encode.{encodingIn}
-use Rattle.entry.specs.declared.Place.the-variants.{Value}
+use Rattle.aim.specs.Aims.{aimOf, classOf}
+use Rattle.aim.specs.declared.Class.the-variants as class
 use Rattle.pdo_step.specs.declared.Outcome.the-variants as outcome
-use Rattle.pdo_step.specs.Outcomes.{part, within}
+use Rattle.pdo_step.specs.Outcomes.{part}
 use Rattle.pdo_run.specs.Run.{Frame, decided, actOf}
 use Rattle.element.specs.declared.Fault.{Fault}
 use Rattle.element.specs.declared.Fault.the-variants as fault
@@ -46,9 +46,7 @@ pub record Misfits (f : Frame) (c : Contents) (w : ℕ) : Type 0 where
   pub target : ℕ
   pub start : ℕ
   pub len : ℕ
-  pub field : fieldOf (entryOf w) ≡ field.Whole start len
-  pub away : within 0x1200 0x12FF (entryOf w .index) ≡ false
-  pub placed : placeOf (f .objects) (entryOf w .index) (entryOf w .«sub_index») ≡ Value target
+  pub class : classOf (aimOf (f .objects) w) ≡ class.Value start len target
   pub how : Misfit f c w target start len
 
 -- an element of type t and word w, under a payload that reaches its end

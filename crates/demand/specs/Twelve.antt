@@ -19,7 +19,8 @@ use Rattle.entry.specs.Model.{Val, Obj, noExtra, allObjects, allSlots, allWords
 use Rattle.entry.specs.Table.{Dict, dict, listCount}
 use Rattle.entry.specs.Find.{findFrom, subAt}
 use Rattle.entry.specs.Put.{contents, putIn}
-use Rattle.pdo_step.specs.Outcomes.{outcomeOf, onIndex, onCount}
+use Rattle.pdo_step.specs.Outcomes.{outcomeOf, onCount}
+use Rattle.aim.specs.Aims.{classOf}
 use Rattle.pdo_step.specs.Steps.{applied}
 use Rattle.pdo_step.specs.Bits.{bitAt, markedIn}
 use Rattle.pdo_channel.specs.Channel.{rightVersion, channelFrom}
@@ -129,7 +130,7 @@ each f (c ∷ cs) = f c ∷ each f cs
 
 -- ---- the theorem
 pub twelve : each answers table ≡ each wants table
-unfolding answers wants each entryOf fieldOf decodeOf wordAt textWord sizeOf number readings markedIn bitAt consumedBy channelFrom runFrom actOf applied outcomeOf onIndex onCount findFrom subAt listCount putIn over checkOf wellFormed headerOk reserved rowsFrom rowFits rowOk extraOk isEdition slotsFrom slotOk headOk heldOk valOk wordOk judgeAt faultFrom wordVerdict endsFrom allSlots allWords allBytes rowsOf slotsOf wordsOf rooms
+unfolding answers wants each entryOf fieldOf decodeOf wordAt textWord sizeOf number readings markedIn bitAt consumedBy channelFrom runFrom actOf applied outcomeOf classOf onCount findFrom subAt listCount putIn over checkOf wellFormed headerOk reserved rowsFrom rowFits rowOk extraOk isEdition slotsFrom slotOk headOk heldOk valOk wordOk judgeAt faultFrom wordVerdict endsFrom allSlots allWords allBytes rowsOf slotsOf wordsOf rooms
 twelve = refl
 
 -- and case 8's channel passes: the check refuses no right one

@@ -6,8 +6,9 @@ use lib.Dec.{eqb, leb}
 use Rattle.value.specs.Codec.{isText}
 use Rattle.mapping.specs.declared.PdoMappingEntry.{PdoMappingEntry}
 use Rattle.mapping.specs.declared.Field.{Field}
+use Rattle.entry.specs.Find.{placeOf}
 use Rattle.entry.specs.declared.Place.{Place}
-use Rattle.pdo_step.specs.Outcomes.{within}
+use Rattle.aim.specs.Aims.{between}
 use Rattle.element.specs.declared.Fault.the-variants as fault
 use Rattle.element.specs.declared.Verdict.{Verdict}
 use Rattle.element.specs.declared.Verdict.the-variants.{Clean, Faulty}
@@ -28,11 +29,11 @@ ontoTarget n target.NoSub = Faulty fault.NoTarget
 ontoTarget n target.Count = Faulty fault.CountTarget
 ontoTarget n (target.Value t most) = cond (fitsIn t most n) Clean (Faulty fault.WrongLength)
 
--- NotMapping: "the element is not U64"; Misaligned: R4.3; HandOff: "the target's index is 1200h..12FFh". A refusal explains no element.
+-- NotMapping: "the element is not U64"; Misaligned: R4.3; HandOff (R12.2): "the target's index is 1200h..12FFh". A refusal explains no element.
 abbrev pub saidOf : Explained → Verdict
 saidOf (explained.Other t) = Faulty fault.NotMapping
 saidOf (explained.Misaligned x sub offset len t) = Faulty fault.Misaligned
-saidOf (explained.Field x sub start n t) = cond (within 0x1200 0x12FF x) (Faulty fault.HandOff) (ontoTarget n t)
+saidOf (explained.Field x sub start n t) = cond (between 0x1200 0x12FF x) (Faulty fault.HandOff) (ontoTarget n t)
 saidOf (explained.Refused r) = Clean
 
 -- ---- of an element
@@ -43,7 +44,7 @@ abbrev pub onTarget : List ℕ → ℕ → Place → Verdict
 onTarget slots n q = ontoTarget n (targetOf slots q)
 
 abbrev pub onField : List ℕ → List ℕ → PdoMappingEntry → Field → Verdict
-onField objects slots e f = saidOf (ofField objects slots e f)
+onField objects slots e f = saidOf (ofField slots e (placeOf objects (e .index) (e .«sub_index»)) f)
 
 unfoldable pub wordVerdict : List ℕ → List ℕ → ℕ → Verdict
 wordVerdict objects slots w = saidOf (ofWord objects slots w)

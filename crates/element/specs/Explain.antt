@@ -6,17 +6,17 @@ use lib.Dec.{eqb}
 use lib.ListN.{getD}
 use Rattle.answers.specs.declared.Refusal.the-variants.{Malformed, ObjectNotFound, SubObjectNotFound}
 use Rattle.value.specs.Codec.{isText, sizeOf}
-use Rattle.mapping.specs.Word.{entryOf, fieldOf}
 use Rattle.mapping.specs.declared.PdoMappingEntry.{PdoMappingEntry}
 use Rattle.mapping.specs.declared.Field.{Field}
 use Rattle.mapping.specs.declared.Field.the-variants as field
 use Rattle.entry.specs.Table.{Dict, kindAt, typeAt, roomAt}
-use Rattle.entry.specs.Find.{findRow, subAt, placeOf}
+use Rattle.entry.specs.Find.{findRow, subAt}
 use Rattle.entry.specs.Judge.{wellFormed}
 use Rattle.entry.specs.declared.Found.{Found}
 use Rattle.entry.specs.declared.Found.the-variants.{At, Nothing}
 use Rattle.entry.specs.declared.Place.{Place}
 use Rattle.entry.specs.declared.Place.the-variants as place
+use Rattle.aim.specs.Aims.{aimOf}
 use Rattle.element.specs.declared.Target.{Target}
 use Rattle.element.specs.declared.Target.the-variants as target
 use Rattle.element.specs.declared.Explained.{Explained}
@@ -34,14 +34,12 @@ targetOf slots (place.Count n) = target.Count
 targetOf slots (place.Value p) = target.Value (typeAt slots p) (holds (typeAt slots p) (roomAt slots p))
 
 -- "offset and length in bytes, or in bits where one of them is not whole bytes"
-abbrev pub ofField : List ℕ → List ℕ → PdoMappingEntry → Field → Explained
-ofField objects slots e field.Misaligned =
-    explained.Misaligned (e .index) (e .«sub_index») (e .«offset_bits») (e .«length_bits») (targetOf slots (placeOf objects (e .index) (e .«sub_index»)))
-ofField objects slots e (field.Whole start n) =
-    explained.Field (e .index) (e .«sub_index») start n (targetOf slots (placeOf objects (e .index) (e .«sub_index»)))
+abbrev pub ofField : List ℕ → PdoMappingEntry → Place → Field → Explained
+ofField slots e q field.Misaligned = explained.Misaligned (e .index) (e .«sub_index») (e .«offset_bits») (e .«length_bits») (targetOf slots q)
+ofField slots e q (field.Whole start n) = explained.Field (e .index) (e .«sub_index») start n (targetOf slots q)
 
 abbrev pub ofWord : List ℕ → List ℕ → ℕ → Explained
-ofWord objects slots w = ofField objects slots (entryOf w) (fieldOf (entryOf w))
+ofWord objects slots w = let a = aimOf objects w in ofField slots (a .entry) (a .place) (a .field)
 
 -- "only the type of one that is not U64"
 abbrev pub ofElement : List ℕ → List ℕ → ℕ → ℕ → Explained

@@ -1,10 +1,10 @@
 // What an element of a channel's list maps, and onto what.
 ghost use mathlib.Core.Path.{_≡_};
 ghost use mathlib.Core.Bool.{true};
-ghost use Prim.Native.Nat.{_<_, _≤_};
+ghost use Prim.Native.Nat.{ℕ, _<_, _≤_};
 ghost use lib.ListN.{length};
 ghost use Rattle.entry.specs.Table.{dict, slotEnd};
-ghost use Rattle.entry.specs.Find.{findRow, placeOf};
+ghost use Rattle.entry.specs.Find.{findRow};
 ghost use Rattle.entry.specs.Judge.{wellFormed};
 ghost use Rattle.entry.specs.declared.Place.the-variants.{Value};
 ghost use Rattle.pdo_step.specs.Outcomes.{Shape};
@@ -15,7 +15,6 @@ use answers::Refusal;
 use entry::Found;
 use entry::Place;
 use mapping::Field;
-use mapping::PdoMappingEntry;
 
 // How many bytes a value takes: its type's size, or its room.
 fn holds(t: u64, room: u64) -> u64
@@ -38,11 +37,11 @@ fn target_value(slots: &[u64], p: usize) -> Target
     }
 }
 
-fn target_at(objects: &[u64], slots: &[u64], index: u16, sub: u8) -> Target
-    requires { ⌜ Shape (now objects) (now slots) ⌝ }
-    ensures { λ r. ⌜ r ≡ targetOf (now (slots .entry)) (placeOf (now (objects .entry)) index sub) ⌝ }
+fn target_at(slots: &[u64], place: Place) -> Target
+    requires { ⌜ ((p : ℕ) → place ≡ Value p → (p < 6144) × (slotEnd p ≤ length (now slots))) ⌝ }
+    ensures { λ r. ⌜ r ≡ targetOf (now (slots .entry)) place ⌝ }
 {
-    match entry::locate(objects, index, sub) {
+    match place {
         Place::NoObject => Target::NoObject,
         Place::NoSub => Target::NoSub,
         Place::Count(_) => Target::Count,
@@ -55,13 +54,16 @@ pub fn of_word(objects: &[u64], slots: &[u64], word: u64) -> Explained
     requires { ⌜ Shape (now objects) (now slots) ⌝ }
     ensures { λ r. ⌜ r ≡ ofWord (now (objects .entry)) (now (slots .entry)) word ⌝ }
 {
-    let e = PdoMappingEntry::from_u64(word);
+    let a = aim::aim_of(objects, word);
+    let place = a.place;
+    let target = target_at(slots, place);
+    let e = a.entry;
     let index = e.index;
     let sub_index = e.sub_index;
     let offset_bits = e.offset_bits;
     let length_bits = e.length_bits;
-    let target = target_at(objects, slots, index, sub_index);
-    let Field::Whole { start, length } = e.field() else {
+    let field = a.field;
+    let Field::Whole { start, length } = field else {
         return Explained::Misaligned {
             index,
             sub_index,

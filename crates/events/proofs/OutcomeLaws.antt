@@ -19,8 +19,10 @@ use Rattle.entry.specs.Table.{typeAt, roomAt}
 use Rattle.entry.specs.Find.{placeOf}
 use Rattle.entry.specs.declared.Place.{Place}
 use Rattle.entry.specs.declared.Place.the-variants.{NoObject, NoSub, Count, Value}
+use Rattle.aim.specs.Aims.{between}
 use Rattle.pdo_validator.specs.Counting.{isMapping}
-use Rattle.pdo_step.specs.Outcomes.{part, onCount, onValue, onPlace, within, onIndex, onField, outcomeOf}
+use Rattle.pdo_step.specs.Outcomes.{part, onCount, onValue, outcomeOf}
+use Rattle.pdo_step.proofs.FormLaws.{onPlace, onIndex, onField, outcome-form}
 use Rattle.pdo_step.specs.declared.Outcome.the-variants as outcome
 use Rattle.pdo_step.proofs.OutcomeLaws.{reach-within}
 use Rattle.pdo_run.specs.Run.{one, eventOf}
@@ -50,8 +52,8 @@ module _ (objects slots payload : List ℕ) where
   place-kept x start n (Value p) = value-kept p start n (wordAt (typeAt slots p) (part payload start n))
 
   target-small : (w : ℕ) → target (outcomeOf objects slots payload w) < 65536
-  unfolding outcomeOf onIndex
-  target-small w = fielded (fieldOf (entryOf w))
+  unfolding onIndex
+  target-small w = rw outcome-form (fielded (fieldOf (entryOf w)))
     where
       e : PdoMappingEntry
       e = entryOf w
@@ -68,7 +70,7 @@ module _ (objects slots payload : List ℕ) where
 
       fielded : (f : Field) → target (onField objects slots payload (entryOf w) f) < 65536
       fielded field.Misaligned = omega arith
-      fielded (field.Whole start n) = go start n (ltb (length payload) (start + n)) (within 0x1200 0x127F (e .index)) (within 0x1280 0x12FF (e .index))
+      fielded (field.Whole start n) = go start n (ltb (length payload) (start + n)) (between 0x1200 0x127F (e .index)) (between 0x1280 0x12FF (e .index))
 
   -- element k of payload number i, in a payload that is not too long
   pub word-noted : (i k w : ℕ) → k < 256 → length payload ≤ 1490 → map recordOf (one (eventOf i k (outcomeOf objects slots payload w))) ≡ map (noted i k) (reported (outcomeOf objects slots payload w))

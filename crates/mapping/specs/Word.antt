@@ -1,5 +1,4 @@
--- The mapping word of EPSG DS 301 (6.4, 7.3): "Mapping entry, UNSIGNED64: bits 0..15 index, 16..23 sub-index, 24..31 reserved, 32..47 offset in bits,
--- 48..63 length in bits". Document 01, "Types": "24..31 dropped". Assumes nothing.
+-- The mapping word, as EPSG DS 301 (6.4, 7.3) has it, in which bits 24..31 are reserved: RULES.md R4.1 to R4.4. Assumes nothing.
 use Prim.Native.Nat.{ℕ, _+_, _*_, _/_, _%_, _^_, _<_}
 use mathlib.Core.Bool.{cond, _&&_}
 use lib.Dec.{eqb}
@@ -10,7 +9,7 @@ use Rattle.mapping.specs.declared.Aligned.the-variants.{Bytes}
 use Rattle.mapping.specs.declared.Field.{Field}
 use Rattle.mapping.specs.declared.Field.the-variants.{Whole}
 
--- the entry that a word says: "bits 0..15 index, 16..23 sub-index, .. 32..47 offset in bits, 48..63 length in bits"
+-- R4.1, the entry that a word says: "bits 0..15 index, 16..23 sub-index, .. 32..47 offset in bits, 48..63 length in bits"
 unfoldable pub entryOf : ℕ → PdoMappingEntry
 entryOf w = record { index = bits 0 16 w; «sub_index» = bits 16 8 w; «offset_bits» = bits 32 16 w; «length_bits» = bits 48 16 w }
 
@@ -25,11 +24,11 @@ pub record InRange (e : PdoMappingEntry) : Type 0 where
   pub offset : e .«offset_bits» < 2 ^ 16
   pub length : e .«length_bits» < 2 ^ 16
 
--- a number of bits in bytes. Document 01, "A received payload": "offset or length not a multiple of 8: skipped"
+-- a number of bits in bytes. R4.3: "A word is aligned when its offset and its length are both multiples of 8."
 abbrev pub alignedOf : ℕ → Aligned
 alignedOf n = cond (eqb (n % 8) 0) (Bytes (n / 8)) Aligned.Misaligned
 
--- the first byte behind the field. Document 01, "Reading and writing": "offset + length, rounded up to bytes", of misaligned words too
+-- the first byte behind the field. R4.4: "offset + length, a sum of up to 131,070 bits, rounded up to bytes; for misaligned words too"
 abbrev pub endOf : PdoMappingEntry → ℕ
 endOf e = (e .«offset_bits» + e .«length_bits» + 7) / 8
 

@@ -27,7 +27,7 @@ unfoldable pub nameFrom : Dict → List ℕ → ℕ → ℕ → ByName
 nameFrom d name zero i = Refused ObjectNotFound
 nameFrom d name (suc k) i = cond (same (nameOf d i) name) (At (indexAt (d .objects) i)) (nameFrom d name k (suc i))
 
--- "find_by_name gives the lowest index of that name"; a name over 32 bytes or not UTF-8 is BadValue
+-- R7.6: "It answers the lowest index of that name"; a name over 32 bytes or not UTF-8 is BadValue
 unfoldable pub byNameOf : Dict → List ℕ → ByName
 byNameOf d name =
     cond (wellFormed d)

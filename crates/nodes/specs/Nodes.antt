@@ -25,7 +25,7 @@ nodesFrom slots words zero k p = []
 nodesFrom slots words (suc n) k p =
     cond (configured (typeAt slots p) (getD words p 0)) (k ∷ nodesFrom slots words n (suc k) (suc p)) (nodesFrom slots words n (suc k) (suc p))
 
--- "lists element number k of Array 1F81h": its elements; none where it is missing or no Array
+-- R7.7: "each element number k of Array 1F81h": its elements; none where it is missing or no Array
 abbrev pub spanOf : ℕ → ℕ → Span
 spanOf n p = record { count = n; first = p }
 

@@ -27,7 +27,7 @@ readAt d (Value p) = stored.Is (typeAt (d .slots) p) (getD (d .words) p 0) (star
 unfoldable pub readOf : Dict → ℕ → ℕ → Stored
 readOf d x sub = cond (wellFormed d) (readAt d (placeOf (d .objects) x sub)) (stored.Refused Malformed)
 
--- "A string read hands back the part of the caller's arena that holds it": empty where a number, or nothing, is read
+-- R7.4: "A string read hands back the part of the caller's `bytes` that holds it": empty where a number, or nothing, is read
 abbrev pub partIn : List ℕ → Stored → List ℕ
 partIn bytes (stored.Is kind word start) = cond (isText kind) (take word (drop start bytes)) []
 partIn bytes (stored.Refused r) = []

@@ -77,6 +77,29 @@ fn receive_all(
     }
 }
 
+// Consumes the payloads of a cycle into a dictionary that was judged.
+pub fn consume_cycle_judged(
+    objects: &[u64],
+    slots: &[u64],
+    words: &mut [u64],
+    bytes: &mut [u8],
+    delivered: &[u8],
+    payloads: &[u64],
+    log: &mut [u64],
+) -> Cycle
+    requires { ⌜ wellFormed (dict (now objects) (now slots) (now words) (now bytes)) ≡ true ⌝ }
+    ensures { λ r. ⌜ after r (contents (now (words .exit)) (now (bytes .exit))) (now (log .exit)) ≡ cycleOf (dict (now (objects .entry)) (now (slots .entry)) (now (words .entry)) (now (bytes .entry))) (now (delivered .entry)) (now (payloads .entry)) (now (log .entry)) ⌝ }
+{
+    let judged = judge(delivered.len() as u64, payloads);
+    if !(shaped(payloads) & judged.placed) {
+        return Cycle::Refused(Refusal::BadValue);
+    }
+    if !judged.short {
+        return Cycle::Refused(Refusal::PayloadTooLong);
+    }
+    receive_all(objects, slots, words, bytes, delivered, payloads, log)
+}
+
 // Consumes the payloads of a cycle; each event is a number of the log, from the first on, and says its payload.
 pub fn consume_cycle(
     objects: &[u64],
@@ -92,12 +115,5 @@ pub fn consume_cycle(
     if !judge::well_formed(objects, slots, words, bytes) {
         return Cycle::Refused(Refusal::Malformed);
     }
-    let judged = judge(delivered.len() as u64, payloads);
-    if !(shaped(payloads) & judged.placed) {
-        return Cycle::Refused(Refusal::BadValue);
-    }
-    if !judged.short {
-        return Cycle::Refused(Refusal::PayloadTooLong);
-    }
-    receive_all(objects, slots, words, bytes, delivered, payloads, log)
+    consume_cycle_judged(objects, slots, words, bytes, delivered, payloads, log)
 }

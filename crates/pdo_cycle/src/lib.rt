@@ -4,6 +4,7 @@ mod payloads;
 
 use answers::Refusal;
 pub use cycling::consume_cycle;
+pub use cycling::consume_cycle_judged;
 
 // How many payloads were consumed and how many events there are, or why nothing was consumed.
 pub enum Cycle {

@@ -1,13 +1,14 @@
 // Consuming a payload: its channel, its version, its words.
 ghost use mathlib.Core.Path.{_≡_};
 ghost use mathlib.Core.Bool.{true};
-ghost use Prim.Native.Nat.{_+_, _<_, _≤_};
+ghost use Prim.Native.Nat.{ℕ, _+_, _<_, _≤_};
 ghost use lib.ListN.{length};
 ghost use Rattle.entry.specs.Table.{dict};
 ghost use Rattle.entry.specs.Judge.{wellFormed};
 ghost use Rattle.entry.specs.Put.{contents};
+ghost use Rattle.entry.specs.declared.Found.the-variants.{At};
 ghost use Rattle.pdo_run.specs.Run.{frame, logged, finished};
-ghost use Rattle.pdo_handler.specs.Consume.{consumedBy, receivedBy, after, consumeOf};
+ghost use Rattle.pdo_handler.specs.Consume.{onChannel, consumedBy, receivedBy, after, consumeOf};
 use crate::Consumed;
 use answers::Refusal;
 use entry::Found;
@@ -18,8 +19,9 @@ use pdo_run::note;
 use pdo_run::packed;
 use pdo_run::run_list;
 
-// A payload that is ready; the number of events in the log, where so many had begun it.
-fn consume_ready(
+// A payload that is ready, of a sender whose channel is known, or that has none; the number of events in the log, where so many had
+// begun it.
+pub fn consume_on_channel(
     objects: &[u64],
     slots: &[u64],
     words: &mut [u64],
@@ -28,14 +30,16 @@ fn consume_ready(
     sender: u8,
     version: u8,
     number: u64,
+    channel: Found,
     log: &mut [u64],
     begun: usize,
 ) -> usize
     requires { ⌜ wellFormed (dict (now objects) (now slots) (now words) (now bytes)) ≡ true ⌝ }
     requires { ⌜ (length (now payload) ≤ 1490) × (number < 1024) × (begun + 254 ≤ length (now log)) ⌝ }
-    ensures { λ n. ⌜ logged (contents (now (words .exit)) (now (bytes .exit))) (now (log .exit)) n ≡ finished (consumedBy (frame (now (objects .entry)) (now (slots .entry)) (now (payload .entry)) sender number) (contents (now (words .entry)) (now (bytes .entry))) version) (now (log .entry)) begun ⌝ }
+    requires { ⌜ ((i : ℕ) → channel ≡ At i → i < 256) ⌝ }
+    ensures { λ n. ⌜ logged (contents (now (words .exit)) (now (bytes .exit))) (now (log .exit)) n ≡ finished (onChannel (frame (now (objects .entry)) (now (slots .entry)) (now (payload .entry)) sender number) (contents (now (words .entry)) (now (bytes .entry))) version channel) (now (log .entry)) begun ⌝ }
 {
-    let Found::At(i) = first_match(objects, slots, words, bytes, sender) else {
+    let Found::At(i) = channel else {
         return begun;
     };
     let expected = version_of(objects, slots, words, bytes, i);
@@ -55,6 +59,39 @@ fn consume_ready(
     }
     pdo_step::set_bit(objects, slots, words, bytes, 0x1C80, sender);
     note(log, begun, packed(number, 1, 0, 0, 0, 0))
+}
+
+// A payload that is ready; the number of events in the log, where so many had begun it.
+fn consume_ready(
+    objects: &[u64],
+    slots: &[u64],
+    words: &mut [u64],
+    bytes: &mut [u8],
+    payload: &[u8],
+    sender: u8,
+    version: u8,
+    number: u64,
+    log: &mut [u64],
+    begun: usize,
+) -> usize
+    requires { ⌜ wellFormed (dict (now objects) (now slots) (now words) (now bytes)) ≡ true ⌝ }
+    requires { ⌜ (length (now payload) ≤ 1490) × (number < 1024) × (begun + 254 ≤ length (now log)) ⌝ }
+    ensures { λ n. ⌜ logged (contents (now (words .exit)) (now (bytes .exit))) (now (log .exit)) n ≡ finished (consumedBy (frame (now (objects .entry)) (now (slots .entry)) (now (payload .entry)) sender number) (contents (now (words .entry)) (now (bytes .entry))) version) (now (log .entry)) begun ⌝ }
+{
+    let channel = first_match(objects, slots, words, bytes, sender);
+    consume_on_channel(
+        objects,
+        slots,
+        words,
+        bytes,
+        payload,
+        sender,
+        version,
+        number,
+        channel,
+        log,
+        begun,
+    )
 }
 
 // A payload, ready or not.
@@ -92,8 +129,8 @@ pub fn receive(
     )
 }
 
-// Consumes a payload, where the event list has room for so many records; each event is a number of the log, from the first on.
-pub fn consume_logged(
+// Consumes a payload into a dictionary that was judged.
+pub fn consume_logged_judged(
     objects: &[u64],
     slots: &[u64],
     words: &mut [u64],
@@ -105,12 +142,10 @@ pub fn consume_logged(
     room: usize,
     log: &mut [u64],
 ) -> Consumed
+    requires { ⌜ wellFormed (dict (now objects) (now slots) (now words) (now bytes)) ≡ true ⌝ }
     requires { ⌜ (254 ≤ room → 254 ≤ length (now log)) ⌝ }
     ensures { λ r. ⌜ after r (contents (now (words .exit)) (now (bytes .exit))) (now (log .exit)) ≡ consumeOf (dict (now (objects .entry)) (now (slots .entry)) (now (words .entry)) (now (bytes .entry))) (now (payload .entry)) sender version ready room (now (log .entry)) ⌝ }
 {
-    if !judge::well_formed(objects, slots, words, bytes) {
-        return Consumed::Refused(Refusal::Malformed);
-    }
     if room < 254 {
         return Consumed::Refused(Refusal::NoEventRoom);
     }
@@ -130,4 +165,37 @@ pub fn consume_logged(
         log,
         0,
     ))
+}
+
+// Consumes a payload, where the event list has room for so many records; each event is a number of the log, from the first on.
+pub fn consume_logged(
+    objects: &[u64],
+    slots: &[u64],
+    words: &mut [u64],
+    bytes: &mut [u8],
+    payload: &[u8],
+    sender: u8,
+    version: u8,
+    ready: bool,
+    room: usize,
+    log: &mut [u64],
+) -> Consumed
+    requires { ⌜ (254 ≤ room → 254 ≤ length (now log)) ⌝ }
+    ensures { λ r. ⌜ after r (contents (now (words .exit)) (now (bytes .exit))) (now (log .exit)) ≡ consumeOf (dict (now (objects .entry)) (now (slots .entry)) (now (words .entry)) (now (bytes .entry))) (now (payload .entry)) sender version ready room (now (log .entry)) ⌝ }
+{
+    if !judge::well_formed(objects, slots, words, bytes) {
+        return Consumed::Refused(Refusal::Malformed);
+    }
+    consume_logged_judged(
+        objects,
+        slots,
+        words,
+        bytes,
+        payload,
+        sender,
+        version,
+        ready,
+        room,
+        log,
+    )
 }

@@ -1,4 +1,5 @@
 pub mod BitLaws
+pub mod FormLaws
 pub mod OutcomeLaws
 pub mod CaseLaws
 pub mod MarkLaws

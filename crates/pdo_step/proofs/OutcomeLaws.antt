@@ -27,11 +27,13 @@ use Rattle.entry.proofs.ValueLaws.{rows-of, element-of, element-facts}
 use Rattle.entry.specs.Put.{contents, filled, putIn}
 use Rattle.entry.proofs.PutLaws.{put-text, put-fixed}
 use Rattle.entry.proofs.KeepLaws.{Fits, put-element}
+use Rattle.aim.specs.Aims.{between}
 use Rattle.pdo_validator.specs.Counting.{isMapping}
 use Rattle.pdo_step.specs.declared.Outcome.{Outcome}
 use Rattle.pdo_step.specs.declared.Outcome.the-variants as outcome
-use Rattle.pdo_step.specs.Outcomes.{part, onCount, onValue, onPlace, within, onIndex, onField, outcomeOf, Shape, reach}
+use Rattle.pdo_step.specs.Outcomes.{part, onCount, onValue, outcomeOf, Shape, reach}
 use Rattle.pdo_step.specs.Steps.{applied}
+use Rattle.pdo_step.proofs.FormLaws.{onPlace, onIndex, onField, outcome-form}
 
 pub shape-of : (d : Dict) → wellFormed d ≡ true → Shape (d .objects) (d .slots)
 shape-of d e =
@@ -79,8 +81,8 @@ module _ (d : Dict) (payload : List ℕ) (p a n : ℕ) where
   at-place x sub b m h (Value q) l e = at-value x sub q b m l h (wordAt (typeAt (d .slots) q) (part payload b m)) refl e
 
   pub stored-by : (w : ℕ) → outcomeOf (d .objects) (d .slots) payload w ≡ outcome.Stored p a n → StoredBy d payload p a n
-  unfolding outcomeOf onIndex
-  stored-by w e = fielded (fieldOf (entryOf w)) refl e
+  unfolding onIndex
+  stored-by w e = fielded (fieldOf (entryOf w)) refl (sym (outcome-form (d .objects) (d .slots) payload w) ∙ e)
     where
       x : ℕ
       x = entryOf w .index
@@ -93,14 +95,14 @@ module _ (d : Dict) (payload : List ℕ) (p a n : ℕ) where
       client b m h false e = at-place x sub b m h (placeOf (d .objects) x sub) refl e
 
       server : (b m : ℕ) → Lies b m → (c : Bool)
-          → cond c (outcome.Server x b m) (cond (within 0x1280 0x12FF x) (outcome.Client x b m) (onPlace (d .slots) payload x b m (placeOf (d .objects) x sub))) ≡ outcome.Stored p a n → StoredBy d payload p a n
+          → cond c (outcome.Server x b m) (cond (between 0x1280 0x12FF x) (outcome.Client x b m) (onPlace (d .slots) payload x b m (placeOf (d .objects) x sub))) ≡ outcome.Stored p a n → StoredBy d payload p a n
       server b m h true e = let z : _≡_ {A = ℕ} 0 1 = cc in absurd (omega arith)
-      server b m h false e = client b m h (within 0x1280 0x12FF x) e
+      server b m h false e = client b m h (between 0x1280 0x12FF x) e
 
       short : (b m : ℕ) → fieldOf (entryOf w) ≡ field.Whole b m → (c : Bool) → ltb (length payload) (b + m) ≡ c → cond c outcome.Short (onIndex (d .objects) (d .slots) payload (entryOf w) b m) ≡ outcome.Stored p a n → StoredBy d payload p a n
       short b m q true l e = let z : _≡_ {A = ℕ} 0 1 = cc in absurd (omega arith)
       short b m q false l e =
-          server b m (record { within = ltb-false (length payload) (b + m) l; small = whole-field (entryOf w) (entry-in-range w) b m q .end-small }) (within 0x1200 0x127F x) e
+          server b m (record { within = ltb-false (length payload) (b + m) l; small = whole-field (entryOf w) (entry-in-range w) b m q .end-small }) (between 0x1200 0x127F x) e
 
       fielded : (f : Field) → fieldOf (entryOf w) ≡ f → onField (d .objects) (d .slots) payload (entryOf w) f ≡ outcome.Stored p a n → StoredBy d payload p a n
       fielded field.Misaligned q e = let z : _≡_ {A = ℕ} 0 1 = cc in absurd (omega arith)
@@ -129,8 +131,8 @@ module _ (objects slots payload : List ℕ) (w : ℕ) where
   reach-place x b m h (Value q) = reach-value q b m h (wordAt (typeAt slots q) (part payload b m))
 
   pub reach-within : reach (outcomeOf objects slots payload w) ≤ length payload
-  unfolding outcomeOf onIndex
-  reach-within = fielded (fieldOf (entryOf w))
+  unfolding onIndex
+  reach-within = rw outcome-form (fielded (fieldOf (entryOf w)))
     where
       e : PdoMappingEntry
       e = entryOf w
@@ -144,7 +146,7 @@ module _ (objects slots payload : List ℕ) (w : ℕ) where
 
       fielded : (f : Field) → reach (onField objects slots payload (entryOf w) f) ≤ length payload
       fielded field.Misaligned = omega arith
-      fielded (field.Whole b m) = go b m (ltb (length payload) (b + m)) (within 0x1200 0x127F (e .index)) (within 0x1280 0x12FF (e .index)) refl
+      fielded (field.Whole b m) = go b m (ltb (length payload) (b + m)) (between 0x1200 0x127F (e .index)) (between 0x1280 0x12FF (e .index)) refl
 
 -- ---- a step keeps the dictionary well-formed
 pub step-keeps : (d : Dict) (payload : List ℕ) (w : ℕ) → wellFormed d ≡ true → Bytes payload → wellFormed (filled d (applied (d .slots) payload (contents (d .words) (d .bytes)) (outcomeOf (d .objects) (d .slots) payload w))) ≡ true

@@ -1,22 +1,22 @@
 -- What a mapping word comes to: RULES.md 11, the table of R11.5. Assumes nothing.
 use Prim.Native.Nat.{ℕ, _+_, _<_, _≤_}
 use mathlib.Core.Path.{_≡_}
-use mathlib.Core.Bool.{Bool, cond, _&&_}
+use mathlib.Core.Bool.{cond, _&&_}
 use mathlib.Core.List.{List}
-use lib.Dec.{eqb, leb, ltb}
+use lib.Dec.{eqb, ltb}
 use lib.ListN.{length, take, drop}
 use Rattle.value.specs.Codec.{isText, wordAt}
 use Rattle.value.specs.declared.Word.{Word}
 use Rattle.value.specs.declared.Word.the-variants.{Takes, Fails}
 use Rattle.value.specs.declared.Fault.the-variants as fault
-use Rattle.mapping.specs.Word.{entryOf, fieldOf}
-use Rattle.mapping.specs.declared.PdoMappingEntry.{PdoMappingEntry}
 use Rattle.mapping.specs.declared.Field.{Field}
 use Rattle.mapping.specs.declared.Field.the-variants as field
 use Rattle.entry.specs.Table.{slotEnd, typeAt, roomAt}
 use Rattle.entry.specs.Find.{Rows, placeOf}
-use Rattle.entry.specs.declared.Place.{Place}
-use Rattle.entry.specs.declared.Place.the-variants.{NoObject, NoSub, Count, Value}
+use Rattle.entry.specs.declared.Place.the-variants.{Value}
+use Rattle.aim.specs.Aims.{aimOf, classOf}
+use Rattle.aim.specs.declared.Class.{Class}
+use Rattle.aim.specs.declared.Class.the-variants as class
 use Rattle.pdo_validator.specs.Counting.{isMapping}
 use Rattle.pdo_step.specs.declared.Outcome.{Outcome}
 use Rattle.pdo_step.specs.declared.Outcome.the-variants as outcome
@@ -35,32 +35,23 @@ onValue slots p start n (Fails f) = outcome.Undecodable f
 onValue slots p start n (Takes w) =
     cond (isText (typeAt slots p) && ltb (roomAt slots p) n) outcome.TooLong (outcome.Stored p start n)
 
--- step 4: "the target is missing"
-abbrev pub onPlace : List ℕ → List ℕ → ℕ → ℕ → ℕ → Place → Outcome
-onPlace slots payload x start n NoObject = outcome.NoTarget
-onPlace slots payload x start n NoSub = outcome.NoTarget
-onPlace slots payload x start n (Count c) = onCount x n
-onPlace slots payload x start n (Value p) = onValue slots p start n (wordAt (typeAt slots p) (part payload start n))
-
--- step 3: "index 1200h..127Fh: to the SDO server", "1280h..12FFh: to the SDO client"
-abbrev pub within : ℕ → ℕ → ℕ → Bool
-within low high x = leb low x && leb x high
-
-unfoldable pub onIndex : List ℕ → List ℕ → List ℕ → PdoMappingEntry → ℕ → ℕ → Outcome
-onIndex objects slots payload e start n =
-    cond (within 0x1200 0x127F (e .index))
-    (outcome.Server (e .index) start n)
-    (cond (within 0x1280 0x12FF (e .index))
-    (outcome.Client (e .index) start n)
-    (onPlace slots payload (e .index) start n (placeOf objects (e .index) (e .«sub_index»))))
+-- steps 3 to 8, of a word whose index is x
+abbrev pub onClass : List ℕ → List ℕ → ℕ → Class → Outcome
+onClass slots payload x class.Misaligned = outcome.Misaligned
+onClass slots payload x (class.Server start n) = outcome.Server x start n
+onClass slots payload x (class.Client start n) = outcome.Client x start n
+onClass slots payload x class.NoTarget = outcome.NoTarget
+onClass slots payload x (class.Count start n) = onCount x n
+onClass slots payload x (class.Value start n p) = onValue slots p start n (wordAt (typeAt slots p) (part payload start n))
 
 -- steps 1 and 2: "misaligned", "the field ends past the payload"
-abbrev pub onField : List ℕ → List ℕ → List ℕ → PdoMappingEntry → Field → Outcome
-onField objects slots payload e field.Misaligned = outcome.Misaligned
-onField objects slots payload e (field.Whole start n) = cond (ltb (length payload) (start + n)) outcome.Short (onIndex objects slots payload e start n)
+abbrev pub inside : List ℕ → Field → Outcome → Outcome
+inside payload field.Misaligned next = outcome.Misaligned
+inside payload (field.Whole start n) next = cond (ltb (length payload) (start + n)) outcome.Short next
 
 unfoldable pub outcomeOf : List ℕ → List ℕ → List ℕ → ℕ → Outcome
-outcomeOf objects slots payload w = onField objects slots payload (entryOf w) (fieldOf (entryOf w))
+outcomeOf objects slots payload w =
+    let a = aimOf objects w in inside payload (a .field) (onClass slots payload (a .entry .index) (classOf a))
 
 -- what deciding needs
 pub record Shape (objects slots : List ℕ) : Type 0 where

@@ -1,15 +1,14 @@
 // What a mapping word comes to. It depends on the dictionary's shape alone, not on its values.
 ghost use mathlib.Core.Path.{_≡_};
-ghost use Prim.Native.Nat.{_+_, _≤_, _<_};
+ghost use Prim.Native.Nat.{ℕ, _+_, _≤_, _<_};
 ghost use lib.ListN.{length};
 ghost use Rattle.value.specs.Codec.{wordAt};
 ghost use Rattle.entry.specs.Table.{slotEnd, typeAt};
-ghost use Rattle.entry.specs.Find.{placeOf};
-ghost use Rattle.pdo_step.specs.Outcomes.{part, Shape, onCount, onValue, onPlace, outcomeOf};
+ghost use Rattle.aim.specs.declared.Class.the-variants.{Value};
+ghost use Rattle.pdo_step.specs.Outcomes.{part, Shape, onCount, onValue, onClass, outcomeOf};
 use crate::Outcome;
-use entry::Place;
+use aim::Class;
 use mapping::Field;
-use mapping::PdoMappingEntry;
 use value::Fault;
 use value::Word;
 
@@ -45,54 +44,33 @@ fn at_value(slots: &[u64], payload: &[u8], p: usize, start: usize, len: usize) -
     }
 }
 
-// At the place that an index and a sub-index name.
-fn at_place(
-    objects: &[u64],
-    slots: &[u64],
-    payload: &[u8],
-    index: u16,
-    sub: u8,
-    start: usize,
-    len: usize,
-) -> Outcome
-    requires { ⌜ Shape (now objects) (now slots) ⌝ }
-    requires { ⌜ start + len ≤ length (now payload) ⌝ }
-    ensures { λ r. ⌜ r ≡ onPlace (now (slots .entry)) (now (payload .entry)) index start len (placeOf (now (objects .entry)) index sub) ⌝ }
+// By what the word is, of an index; a value's field lies within the payload.
+fn at_class(slots: &[u64], payload: &[u8], index: u16, class: Class) -> Outcome
+    requires { ⌜ ((start n p : ℕ) → class ≡ Value start n p → (p < 6144) × (slotEnd p ≤ length (now slots)) × (start + n ≤ length (now payload))) ⌝ }
+    ensures { λ r. ⌜ r ≡ onClass (now (slots .entry)) (now (payload .entry)) index class ⌝ }
 {
-    let found = entry::locate(objects, index, sub);
-    if let Place::Count(_) = found {
-        return at_count(index, len);
+    match class {
+        Class::Misaligned => Outcome::Misaligned,
+        Class::Server { start, len } => Outcome::Server { index, start, len },
+        Class::Client { start, len } => Outcome::Client { index, start, len },
+        Class::NoTarget => Outcome::NoTarget,
+        Class::Count { start: _, len } => at_count(index, len),
+        Class::Value { start, len, p } => at_value(slots, payload, p, start, len),
     }
-    let Place::Value(p) = found else {
-        return Outcome::NoTarget;
-    };
-    at_value(slots, payload, p, start, len)
 }
 
 pub fn decide(objects: &[u64], slots: &[u64], payload: &[u8], word: u64) -> Outcome
     requires { ⌜ Shape (now objects) (now slots) ⌝ }
     ensures { λ r. ⌜ r ≡ outcomeOf (now (objects .entry)) (now (slots .entry)) (now (payload .entry)) word ⌝ }
 {
-    let e = PdoMappingEntry::from_u64(word);
-    let Field::Whole { start, length } = e.field() else {
+    let a = aim::aim_of(objects, word);
+    let field = a.field;
+    let Field::Whole { start, length } = field else {
         return Outcome::Misaligned;
     };
     if payload.len() < start + length {
         return Outcome::Short;
     }
-    let index = e.index;
-    let sub = e.sub_index;
-    match index {
-        0x1200..=0x127F => Outcome::Server {
-            index,
-            start,
-            len: length,
-        },
-        0x1280..=0x12FF => Outcome::Client {
-            index,
-            start,
-            len: length,
-        },
-        _ => at_place(objects, slots, payload, index, sub, start, length),
-    }
+    let e = a.entry;
+    at_class(slots, payload, e.index, aim::classify(a))
 }

@@ -18,7 +18,7 @@ use Rattle.od.specs.declared.Answer.the-variants.{Done, Refused}
 use Rattle.pdo_validator.specs.declared.Mapped.{Mapped}
 use Rattle.pdo_validator.specs.declared.Mapped.the-variants.{Upto, Missing}
 
--- R4.1: "1600h..16FFh, 1A00h..1AFFh"
+-- "A mapping index is one of 1600h..16FFh, 1A00h..1AFFh."
 abbrev pub receives : ℕ → Bool
 receives x = leb 0x1600 x && leb x 0x16FF
 
@@ -51,7 +51,7 @@ abbrev pub within : ℕ → Mapped → Answer
 within limit (Upto e) = cond (leb e limit) Done (Refused PdoMapOverrun)
 within limit Missing = Refused MissingEntries
 
--- "must be an Array", "all of its first n elements must be there"
+-- R9.2: "the object must be an Array"; "All of its first n elements must be there"
 unfoldable pub countOn : Dict → ℕ → ℕ → Found → Answer
 countOn d x n (At i) =
     cond (eqb (kindAt (d .objects) i) 1)

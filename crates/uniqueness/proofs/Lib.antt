@@ -5,4 +5,7 @@ pub mod Asks
 pub mod AsksC
 pub mod Refused
 pub mod RefusedC
+pub mod Stays
+pub mod StaysC
 pub mod Demanded
+pub mod DemandedC

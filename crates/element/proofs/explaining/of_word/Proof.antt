@@ -1,68 +1,60 @@
 -- `element::explaining::of_word` meets its contract: whole bytes or not. Assumes nothing.
 use mathlib.Core.Path.{_≡_, sym, ap, _∙_}
 use denote.Ref.{now}
-use Rattle.mapping.specs.Word.{entryOf, fieldOf}
-use Rattle.mapping.specs.declared.Field.{Field}
-use Rattle.mapping.specs.declared.PdoMappingEntry.{PdoMappingEntry}
-use Rattle.mapping.proofs.WordLaws.{WholeField, entry-in-range, whole-field}
-use Rattle.element.specs.Explain.{ofField, ofWord}
 use native.Mathlib.Omega.{arith}
+use Rattle.mapping.specs.Word.{entryOf}
+use Rattle.mapping.specs.declared.Field.{Field}
+use Rattle.mapping.proofs.WordLaws.{WholeField, entry-in-range, whole-field}
+use Rattle.aim.specs.declared.Aim.{Aim}
+use Rattle.element.specs.Explain.{ofField, ofWord}
 use borrow.Author.Needs.{needs}
 use Rattle.element.proofs.explaining.of_word.Statement.{statement}
 use Rattle.element.proofs.explaining.of_word.Tie as tie
 
-abbrev start : tie.After-field → tie.Start
-start c = c .before .before .before .before .before
+abbrev start : tie.After-aim-of → tie.Start
+start m = m .before .before .before
 
--- what was taken apart, with the field that was found
-fielded : (c : tie.After-field) (f : Field) → c .field .result ≡ f → let a = start c .args in ofField (now (a .objects)) (now (a .slots)) (c .before .before .from-u64 .result) f ≡ ofWord (now (a .objects)) (now (a .slots)) (a .word)
-fielded c f e =
-    let a = start c .args in
-    let t = c .before .before in
-    ap (ofField (now (a .objects)) (now (a .slots)) (t .from-u64 .result)) (sym e ∙ c .field .ensures) ∙ ap (λ (z : PdoMappingEntry). ofField (now (a .objects)) (now (a .slots)) z (fieldOf z)) (t .from-u64 .ensures)
+abbrev read : tie.After-aim-of → Aim
+read m = m .aim-of .result
 
-small : (c : tie.After-start) → WholeField (entryOf (start (c .before .before) .args .word)) (c .start .given .0 .0) (c .start .given .0 .1 .0)
-small c =
-    let f = c .before .before in
-    whole-field (entryOf (start f .args .word)) (entry-in-range (start f .args .word)) _ _ (sym (f .field .ensures ∙ ap fieldOf (f .before .before .from-u64 .ensures)) ∙ c .start .given .1)
+-- what was read, with the field that was found
+fielded : (t : tie.After-target-at) (f : Field) → read (t .before) .field ≡ f → let a = start (t .before) .args in
+    ofField (now (a .slots)) (read (t .before) .entry) (read (t .before) .place) f ≡ ofWord (now (a .objects)) (now (a .slots)) (a .word)
+fielded t f e =
+    let m = t .before in
+    let slots = now (start m .args .slots) in
+    ap (ofField slots (read m .entry) (read m .place)) (sym e) ∙ ap (λ (z : Aim). ofField slots (z .entry) (z .place) (z .field)) (m .aim-of .ensures)
 
-from-u64-requires : tie.Need-from-u64-requires
-from-u64-requires c κs = search needs
+small : (f : tie.After-field) → WholeField (entryOf (start (f .before .before .before .before) .args .word)) (f .field .given .0 .0) (f .field .given .0 .1 .0)
+small f =
+    let m = f .before .before .before .before in
+    let w = start m .args .word in
+    whole-field (entryOf w) (entry-in-range w) _ _ (sym (ap (λ (z : Aim). z .field) (m .aim-of .ensures)) ∙ f .field .given .1)
 
 target-at-requires : tie.Need-target-at-requires
-target-at-requires c κs = c .before .before .before .pre
-
-field-requires : tie.Need-field-requires
-field-requires c κs = search needs
-
-enum-known-start : tie.Need-enum-known-start
-enum-known-start c = search needs
-
-enum-told : tie.Need-enum-told
-enum-told c = search needs
+target-at-requires c κs p e = start c .pre .value _ _ _ (sym (ap (λ (z : Aim). z .place) (c .aim-of .ensures)) ∙ e)
 
 returns : tie.Need-returns
-returns c = let f = c .before .before in rw (f .before .target-at .ensures) (fielded f _ (c .enum-told .given .1))
+returns c = let t = c .before .before .before in rw (t .target-at .ensures) (fielded t _ (c .enum-told .given .1))
 
-cast-t13 : tie.Need-cast-t13
-cast-t13 c = omega (arith, small (c .before) .start-small)
+cast-t15 : tie.Need-cast-t15
+cast-t15 c = omega (arith, small (c .before) .start-small)
 
-cast-t14 : tie.Need-cast-t14
-cast-t14 c = omega (arith, small (c .before) .length-small)
+cast-t16 : tie.Need-cast-t16
+cast-t16 c = omega (arith, small (c .before) .length-small)
 
 returns-2 : tie.Need-returns-2
-returns-2 c = let f = c .before .before .before in rw (f .before .target-at .ensures) (fielded f _ (c .before .start .given .1))
+returns-2 c = let f = c .before in let t = f .before .before .before in rw (t .target-at .ensures) (fielded t _ (f .field .given .1))
 
 pub of-word-spec : {M : Type 1} → statement M
 of-word-spec =
     tie.close
     (tie.spec
-    from-u64-requires
+    (λ c κs. c .before .before .pre .rows)
     target-at-requires
-    field-requires
-    enum-known-start
-    enum-told
+    (λ c. search needs)
+    (λ c. search needs)
     returns
-    cast-t13
-    cast-t14
+    cast-t15
+    cast-t16
     returns-2)

@@ -1,48 +1,25 @@
--- `pdo_handler::errors::update_pdo_error_object` meets its contract: the dictionary is judged, then the bit is set. Assumes nothing.
-use mathlib.Core.Path.{_≡_, sym, ap, _∙_}
-use mathlib.Core.Bool.{true}
-use denote.Ref.{now}
+-- `pdo_handler::errors::update_pdo_error_object` meets its contract: the dictionary is judged, then the call is made. Assumes nothing.
+use mathlib.Core.Path.{sym, _∙_}
 use borrow.Author.Tests.{not-true, not-false}
-use Rattle.entry.specs.Table.{Dict, dict}
-use Rattle.entry.specs.Judge.{wellFormed}
-use Rattle.od.specs.declared.Answer.the-variants.{Done}
-use Rattle.pdo_handler.specs.Errors.{after, updateOf}
+use Rattle.pdo_handler.specs.Errors.{updateOf}
 use borrow.Author.Needs.{needs}
 use Rattle.pdo_handler.proofs.errors.update_pdo_error_object.Statement.{statement}
 use Rattle.pdo_handler.proofs.errors.update_pdo_error_object.Tie as tie
-
-abbrev D : tie.Start → Dict
-D s = dict (now (s .args .objects)) (now (s .args .slots)) (now (s .args .words)) (now (s .args .bytes))
-
-abbrev start : tie.After-well-formed → tie.Start
-start c = c .before .before .before .before .before .before
-
-formed : (c : tie.Else1) → wellFormed (D (start (c .before))) ≡ true
-formed c = sym (c .before .well-formed .ensures) ∙ not-false _ (c .if1 .left)
-
-well-formed-requires : tie.Need-well-formed-requires
-well-formed-requires c κs = search needs
-
-same-length : tie.Need-same-length
-same-length c = search needs
 
 returns : tie.Need-returns
 unfolding updateOf
 returns c = simp (sym (c .before .well-formed .ensures) ∙ not-true _ (c .if1 .taken))
 
-set-bit-requires : tie.Need-set-bit-requires
-set-bit-requires c κs = formed (c .before)
-
-same-length-2 : tie.Need-same-length-2
-same-length-2 c = search needs
-
-returns-2 : tie.Need-returns-2
-unfolding updateOf
-returns-2 c =
-    let b = c .before .before in
-    ap (after Done) (b .set-bit .ensures) ∙ sym (simp (formed (b .before .before)))
+update-pdo-error-object-judged-requires : tie.Need-update-pdo-error-object-judged-requires
+update-pdo-error-object-judged-requires c κs = let e = c .before in sym (e .before .well-formed .ensures) ∙ not-false _ (e .if1 .left)
 
 pub update-pdo-error-object-spec : {M : Type 1} → statement M
 update-pdo-error-object-spec =
     tie.close
-    (tie.spec well-formed-requires same-length returns set-bit-requires same-length-2 returns-2)
+    (tie.spec
+    (λ c κs. search needs)
+    (λ c. search needs)
+    returns
+    update-pdo-error-object-judged-requires
+    (λ c. search needs)
+    (λ c. search needs))
