@@ -1,7 +1,7 @@
 -- The walks over the rows and their values, one turn at a time, and what a well-formed dictionary says of them.
 -- Assumes nothing.
 use mathlib.Core.Path.{_≡_, refl, sym, ap, _∙_}
-use mathlib.Core.Bool.{Bool, true, false, cond, _&&_}
+use mathlib.Core.Bool.{Bool, true, false, cond}
 use mathlib.Core.List.{List, [], _++_}
 use Prim.Native.Nat.{ℕ, zero, suc, _+_, _-_, _≤_, _<_}
 use native.Mathlib.Omega.{arith}
@@ -14,7 +14,10 @@ use Rattle.entry.specs.Table.{Dict, numberOf, indexAt, accessAt, countAt, first
 use Rattle.entry.specs.Judge.{wellFormed}
 use Rattle.entry.specs.Encode.{encodingAt, Lays}
 use Rattle.entry.proofs.ValueLaws.{ValueFacts, value-facts}
-use Rattle.image.specs.Image.{inList, stores, offers, recsIn, offeredFrom, offered, bodies}
+use Rattle.image.specs.Image.{stores, toStore, offers, recsIn, offeredFrom, offeredIn, bodies}
+use Rattle.image.specs.Ranges.{covers, Spans}
+use Rattle.image.specs.declared.ranging.Span.{Span}
+use Rattle.image.proofs.RangeLaws.{row-covered, walk-from, walk-end}
 use Rattle.commands.specs.Save.{Row, lengthIn}
 
 -- ---- one turn of each walk
@@ -43,28 +46,40 @@ module _ (d : Dict) (i : ℕ) where
   unfolding recsIn bodies
   one-body k = length-append (encodingAt d (firstAt (d .objects) i + k)) [] ∙ omega arith
 
-module _ (d : Dict) (l : ℕ) where
-  pub offered-step : (n i : ℕ) → i < n → offeredFrom d l (n - i) i ≡ recsIn d i (offers (d .objects) l i) 0 ++ offeredFrom d l (n - (i + 1)) (i + 1)
+module _ (d : Dict) (first last : ℕ) where
+  pub offered-step : (n i : ℕ) → i < n → offeredFrom d first last (n - i) i ≡ recsIn d i (offers (d .objects) first last i) 0 ++ offeredFrom d first last (n - (i + 1)) (i + 1)
   unfolding offeredFrom
   offered-step n i h =
       let e : n - i ≡ suc (n - (i + 1)) = omega arith in
       let q : i + 1 ≡ suc i = omega arith in
       rw (e, q)
 
-  pub offered-end : (n i : ℕ) → n ≤ i → offeredFrom d l (n - i) i ≡ []
-  unfolding offeredFrom
-  offered-end n i h = let e : n - i ≡ 0 = omega arith in rw e
-
-  pub offered-all : (n : ℕ) → n ≡ numberOf (d .objects) → offeredFrom d l (n - 0) 0 ≡ offered d l
-  offered-all n q = let e : n - 0 ≡ numberOf (d .objects) = omega arith in rw e
-
-  pub offers-few : (i : ℕ) → offers (d .objects) l i ≤ countAt (d .objects) i
-  unfolding offers
-  offers-few i = go (inList l (indexAt (d .objects) i) && stores (accessAt (d .objects) i))
+  pub offers-few : (i : ℕ) → offers (d .objects) first last i ≤ countAt (d .objects) i
+  unfolding offers toStore
+  offers-few i = go (covers first last (indexAt (d .objects) i)) (stores (accessAt (d .objects) i))
     where
-      go : (b : Bool) → cond b (countAt (d .objects) i) 0 ≤ countAt (d .objects) i
-      go true = omega arith
-      go false = omega arith
+      go : (a b : Bool) → cond a (cond b (countAt (d .objects) i) 0) 0 ≤ countAt (d .objects) i
+      go true true = omega arith
+      go true false = omega arith
+      go false b = omega arith
+
+  -- a row outside the range offers nothing
+  skip : (n i : ℕ) → covers first last (indexAt (d .objects) i) ≡ false → offeredFrom d first last (suc n) i ≡ offeredFrom d first last n (suc i)
+  unfolding offeredFrom offers recsIn
+  skip n i e = rw e
+
+  -- ---- the rows of the range
+  module _ {s : Span} (c : Spans (d .objects) first last s) where
+    pub offered-from : offeredIn d first last ≡ offeredFrom d first last (numberOf (d .objects) - s .from) (s .from)
+    offered-from = walk-from c (offeredFrom d first last) skip
+
+    pub offered-end : (i : ℕ) → s .end ≤ i → i ≤ numberOf (d .objects) → offeredFrom d first last (numberOf (d .objects) - i) i ≡ []
+    unfolding offeredFrom
+    offered-end i h k = walk-end c (offeredFrom d first last) skip i h k
+
+    pub offers-row : (i m : ℕ) → s .from ≤ i → i < s .end → m ≡ toStore (d .objects) i → m ≡ offers (d .objects) first last i
+    unfolding offers
+    offers-row i m h k q = rw (row-covered c i h k) q
 
 -- ---- of a well-formed dictionary
 module _ (d : Dict) (e : wellFormed d ≡ true) (i n : ℕ) (r : Row (d .objects) i n) (k : ℕ) (h : k < n) where

@@ -16,6 +16,7 @@ use Rattle.entry.proofs.JudgeLaws.{and-true, head-ok}
 use Rattle.entry.proofs.FactLaws.{row-facts}
 use Rattle.entry.proofs.ApartLaws.{rising}
 use Rattle.entry.proofs.EncodeLaws.{exact-stored}
+use Rattle.image.specs.Ranges.{rangeOf}
 use Rattle.image.specs.Image.{Rec, imageOf, subIn, offers, recAt, recsIn, offeredFrom, offered, bodies, newTable}
 use Rattle.commands.specs.Save.{Row, fits}
 use Rattle.image.specs.Readable.{keyOf, recOk, recsOk, Right}
@@ -100,17 +101,17 @@ module _ (d : Dict) (e : wellFormed d ≡ true) (i n : ℕ) (r : Row (d .objects
       go false z = list-rises (eqb-false kind 0 z) rest q n 0 low (omega arith) (omega arith)
 
 -- ---- all rows
-rows-rise : (d : Dict) → wellFormed d ≡ true → (l n i low : ℕ) → i + n ≡ numberOf (d .objects) → (i < numberOf (d .objects) → low ≤ 256 * indexAt (d .objects) i) → recsOk low (offeredFrom d l n i) ≡ true
+rows-rise : (d : Dict) → wellFormed d ≡ true → (first last n i low : ℕ) → i + n ≡ numberOf (d .objects) → (i < numberOf (d .objects) → low ≤ 256 * indexAt (d .objects) i) → recsOk low (offeredFrom d first last n i) ≡ true
 unfolding offeredFrom recsOk
-rows-rise d e l zero i low h b = refl
-rows-rise d e l (suc n) i low h b =
-    row-rises d e i (offers (d .objects) l i) (record { below = omega arith; within = offers-few d l i }) (offeredFrom d l n (suc i))
-    (rows-rise d e l n (suc i) (256 * indexAt (d .objects) i + 255) (omega arith) (λ m. omega (arith, rising d e i (suc i) (omega arith) m)))
+rows-rise d e first last zero i low h b = refl
+rows-rise d e first last (suc n) i low h b =
+    row-rises d e i (offers (d .objects) first last i) (record { below = omega arith; within = offers-few d first last i }) (offeredFrom d first last n (suc i))
+    (rows-rise d e first last n (suc i) (256 * indexAt (d .objects) i + 255) (omega arith) (λ m. omega (arith, rising d e i (suc i) (omega arith) m)))
     low (b (omega arith))
 
 -- R10.6, R10.7 of what is offered
 pub offered-rises : (d : Dict) → wellFormed d ≡ true → (l : ℕ) → recsOk 0 (offered d l) ≡ true
-offered-rises d e l = rows-rise d e l (numberOf (d .objects)) 0 0 (omega arith) (λ h. omega arith)
+offered-rises d e l = rows-rise d e (rangeOf l .first) (rangeOf l .last) (numberOf (d .objects)) 0 0 (omega arith) (λ h. omega arith)
 
 -- what a save lays is a right table
 pub saved-right : (d : Dict) → wellFormed d ≡ true → (l : ℕ) (store : List ℕ) → fits (newTable d l store) store ≡ true → Right (newTable d l store)

@@ -10,7 +10,9 @@ use Rattle.lists.specs.Lists.{over}
 use Rattle.entry.specs.Table.{Dict, numberOf, indexAt, kindAt, firstAt, typeAt}
 use Rattle.entry.specs.Judge.{wellFormed}
 use Rattle.entry.specs.Encode.{encodingAt, Lays}
-use Rattle.image.specs.Image.{subIn, headOf, recsIn, offers, offeredFrom, heads, bodies}
+use Rattle.image.specs.Image.{Rec, subIn, headOf, recsIn, offers, offeredFrom, heads, bodies}
+use Rattle.image.specs.Ranges.{Spans}
+use Rattle.image.specs.declared.ranging.Span.{Span}
 use Rattle.commands.specs.Save.{Row, lengthIn}
 use Rattle.commands.proofs.ImageLaws.{length-bodies, no-bytes, heads-two, bodies-two}
 use Rattle.entry.proofs.ValueLaws.{row-lies}
@@ -74,57 +76,67 @@ module _ (d : Dict) (e : wellFormed d ≡ true) (i n : ℕ) (r : Row (d .objects
   pub value-lays : (store : List ℕ) (a : ℕ) → a + left d i n k ≤ length store → Lays (d .slots) (d .words) (d .bytes) (f + k) store a
   value-lays store a l = rw q (lays d e i n r k h store a (omega (arith, left-step d i n k h)))
 
--- ---- the rows
-module _ (d : Dict) (l : ℕ) where
-  -- how many records, and how many bytes of bodies, rows i of n and on offer
-  abbrev pub records : ℕ → ℕ → ℕ
-  records n i = length (offeredFrom d l (n - i) i)
+-- ---- the rows of a range
+module _ (d : Dict) (first last : ℕ) where
+  -- what the rows from row i on offer, and how much row i does
+  abbrev pub rest : ℕ → List Rec
+  rest i = offeredFrom d first last (numberOf (d .objects) - i) i
 
-  abbrev pub room : ℕ → ℕ → ℕ
-  room n i = length (bodies (offeredFrom d l (n - i) i))
+  abbrev pub here : ℕ → ℕ
+  here i = offers (d .objects) first last i
 
-  pub records-step : (n i : ℕ) → i < n → records n i ≡ offers (d .objects) l i + records n (i + 1)
-  records-step n i h =
-      ap length (offered-step d l n i h)
-      ∙ length-append (recsIn d i (offers (d .objects) l i) 0) (offeredFrom d l (n - (i + 1)) (i + 1))
-      ∙ omega (arith, length-recs d i (offers (d .objects) l i) 0)
+  -- how many records, and how many bytes of bodies, the rows from row i on offer
+  abbrev pub records : ℕ → ℕ
+  records i = length (rest i)
 
-  pub bytes-step : (n i : ℕ) → i < n → room n i ≡ length (bodies (recsIn d i (offers (d .objects) l i) 0)) + room n (i + 1)
-  bytes-step n i h =
-      ap (λ rs. length (bodies rs)) (offered-step d l n i h)
-      ∙ length-bodies (recsIn d i (offers (d .objects) l i) 0) (offeredFrom d l (n - (i + 1)) (i + 1))
+  abbrev pub room : ℕ → ℕ
+  room i = length (bodies (rest i))
 
-  pub records-end : (n i : ℕ) → n ≤ i → records n i ≡ 0
-  records-end n i h = ap length (offered-end d l n i h)
+  module _ {s : Span} (c : Spans (d .objects) first last s) where
+    pub records-end : (i : ℕ) → s .end ≤ i → i ≤ numberOf (d .objects) → records i ≡ 0
+    records-end i h k = ap length (offered-end d first last c i h k)
 
-  pub bytes-end : (n i : ℕ) → n ≤ i → room n i ≡ 0
-  bytes-end n i h = no-bytes (offeredFrom d l (n - i) i) (offered-end d l n i h)
+    pub bytes-end : (i : ℕ) → s .end ≤ i → i ≤ numberOf (d .objects) → room i ≡ 0
+    bytes-end i h k = no-bytes (rest i) (offered-end d first last c i h k)
 
-  pub heads-rows : (store store′ : List ℕ) (n i m at at′ s s′ : ℕ) → i < n → m ≡ offers (d .objects) l i → at + 8 * records n i ≤ length store
-      → at′ ≡ at + 8 * m → s′ ≡ s + length (bodies (recsIn d i m 0)) → store′ ≡ over store at (heads s (recsIn d i m 0))
-      → over store at (heads s (offeredFrom d l (n - i) i)) ≡ over store′ at′ (heads s′ (offeredFrom d l (n - (i + 1)) (i + 1)))
-  heads-rows store store′ n i m at at′ s s′ h z b f g q =
-      let rs = recsIn d i m 0 in
-      ap (λ t. over store at (heads s t)) (offered-step d l n i h ∙ ap (λ t. recsIn d i t 0 ++ offeredFrom d l (n - (i + 1)) (i + 1)) (sym z))
-      ∙ heads-two store at s rs (offeredFrom d l (n - (i + 1)) (i + 1)) at′ (omega (arith, length-recs d i m 0)) (omega (arith, records-step n i h))
-      ∙ rw (q, g)
+  module _ (i : ℕ) (h : i < numberOf (d .objects)) where
+    pub records-step : records i ≡ here i + records (i + 1)
+    records-step =
+        ap length (offered-step d first last (numberOf (d .objects)) i h)
+        ∙ length-append (recsIn d i (here i) 0) (rest (i + 1))
+        ∙ omega (arith, length-recs d i (here i) 0)
 
-  pub bodies-rows : (store store′ : List ℕ) (n i m p p′ : ℕ) → i < n → m ≡ offers (d .objects) l i → p + room n i ≤ length store
-      → p′ ≡ p + length (bodies (recsIn d i m 0)) → store′ ≡ over store p (bodies (recsIn d i m 0))
-      → over store p (bodies (offeredFrom d l (n - i) i)) ≡ over store′ p′ (bodies (offeredFrom d l (n - (i + 1)) (i + 1)))
-  bodies-rows store store′ n i m p p′ h z b f q =
-      let w : length (bodies (recsIn d i m 0)) ≡ length (bodies (recsIn d i (offers (d .objects) l i) 0)) = ap (λ t. length (bodies (recsIn d i t 0))) z in
-      ap (λ t. over store p (bodies t)) (offered-step d l n i h ∙ ap (λ t. recsIn d i t 0 ++ offeredFrom d l (n - (i + 1)) (i + 1)) (sym z))
-      ∙ bodies-two store p (recsIn d i m 0) (offeredFrom d l (n - (i + 1)) (i + 1)) p′ f (omega (arith, bytes-step n i h))
-      ∙ rw q
+    pub bytes-step : room i ≡ length (bodies (recsIn d i (here i) 0)) + room (i + 1)
+    bytes-step =
+        ap (λ rs. length (bodies rs)) (offered-step d first last (numberOf (d .objects)) i h) ∙ length-bodies (recsIn d i (here i) 0) (rest (i + 1))
 
-  -- what a row offers is there, and not too long
-  module _ (e : wellFormed d ≡ true) (n i m : ℕ) (q : n ≡ numberOf (d .objects)) (h : i < n) (z : m ≡ offers (d .objects) l i) where
-    pub row-there : Row (d .objects) i m
-    row-there = record { below = omega arith; within = omega (arith, offers-few d l i) }
+    -- of m records of row i, as many as it offers
+    module _ (m : ℕ) (z : m ≡ here i) where
+      split : rest i ≡ recsIn d i m 0 ++ rest (i + 1)
+      split = offered-step d first last (numberOf (d .objects)) i h ∙ ap (λ t. recsIn d i t 0 ++ rest (i + 1)) (sym z)
 
-    pub row-few : m ≤ 254
-    row-few = omega (arith, row-lies d e i (row-there .below) .few, row-there .within)
+      pub heads-rows : (store store′ : List ℕ) (at at′ s s′ : ℕ) → at + 8 * records i ≤ length store → at′ ≡ at + 8 * m
+          → s′ ≡ s + length (bodies (recsIn d i m 0)) → store′ ≡ over store at (heads s (recsIn d i m 0))
+          → over store at (heads s (rest i)) ≡ over store′ at′ (heads s′ (rest (i + 1)))
+      heads-rows store store′ at at′ s s′ b f g q =
+          ap (λ t. over store at (heads s t)) split
+          ∙ heads-two store at s (recsIn d i m 0) (rest (i + 1)) at′ (omega (arith, length-recs d i m 0)) (omega (arith, records-step))
+          ∙ rw (q, g)
+
+      pub bodies-rows : (store store′ : List ℕ) (p p′ : ℕ) → p + room i ≤ length store → p′ ≡ p + length (bodies (recsIn d i m 0))
+          → store′ ≡ over store p (bodies (recsIn d i m 0)) → over store p (bodies (rest i)) ≡ over store′ p′ (bodies (rest (i + 1)))
+      bodies-rows store store′ p p′ b f q =
+          let w : length (bodies (recsIn d i m 0)) ≡ length (bodies (recsIn d i (here i) 0)) = ap (λ t. length (bodies (recsIn d i t 0))) z in
+          ap (λ t. over store p (bodies t)) split
+          ∙ bodies-two store p (recsIn d i m 0) (rest (i + 1)) p′ f (omega (arith, bytes-step))
+          ∙ rw q
+
+      -- what a row offers is there, and not too long
+      pub row-there : Row (d .objects) i m
+      row-there = record { below = h; within = omega (arith, offers-few d first last i) }
+
+      pub row-few : wellFormed d ≡ true → m ≤ 254
+      row-few e = omega (arith, row-lies d e i h .few, row-there .within)
 
 -- a row's bodies are not too long
 row-small : (d : Dict) → wellFormed d ≡ true → (i n : ℕ) → Row (d .objects) i n → (k : ℕ) → k ≤ n → left d i n (n - k) ≤ 1490 * k

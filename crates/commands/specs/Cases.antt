@@ -9,7 +9,8 @@ use Rattle.lists.specs.Lists.{over}
 use Rattle.lists.specs.Numbers.{number, bytesOf}
 use Rattle.value.specs.Codec.{sizeOf, encoding, exact}
 use Rattle.entry.specs.Table.{Dict, dict}
-use Rattle.image.specs.Image.{inList, offers, subIn, recsIn, offeredFrom, heads, bodies, imageOf, offered}
+use Rattle.image.specs.Image.{toStore, offers, subIn, recsIn, offeredFrom, heads, bodies, imageOf, offered}
+use Rattle.image.specs.Ranges.{rangeOf, covers}
 use Rattle.commands.specs.Save.{fits, afterSave, saveOf}
 use Rattle.image.specs.Readable.{placed, headsOk, recsAt, readable, tableOf}
 use Rattle.commands.specs.declared.Saved.the-variants.{Done, Refused}
@@ -23,26 +24,26 @@ image = 1 ∷ 0 ∷ 0x00 ∷ 0x60 ∷ 0 ∷ 6 ∷ 0 ∷ 0 ∷ 2 ∷ 0 ∷ 0x34 �
 
 -- the byte behind the image stays
 pub stored : saveOf d (9 ∷ 9 ∷ 9 ∷ 9 ∷ 9 ∷ 9 ∷ 9 ∷ 9 ∷ 9 ∷ 9 ∷ 9 ∷ 9 ∷ 9 ∷ []) 3 ≡ afterSave Done (1 ∷ 0 ∷ 0x00 ∷ 0x60 ∷ 0 ∷ 6 ∷ 0 ∷ 0 ∷ 2 ∷ 0 ∷ 0x34 ∷ 0x12 ∷ 9 ∷ [])
-unfolding saveOf fits imageOf heads bodies offeredFrom recsIn offers inList subIn over bytesOf encoding sizeOf
+unfolding saveOf fits imageOf heads bodies offeredFrom recsIn rangeOf covers toStore offers subIn over bytesOf encoding sizeOf
 stored = refl
 
 -- a byte less
 pub full : saveOf d (9 ∷ 9 ∷ 9 ∷ 9 ∷ 9 ∷ 9 ∷ 9 ∷ 9 ∷ 9 ∷ 9 ∷ 9 ∷ []) 1 ≡ afterSave (Refused StoreFull) (9 ∷ 9 ∷ 9 ∷ 9 ∷ 9 ∷ 9 ∷ 9 ∷ 9 ∷ 9 ∷ 9 ∷ 9 ∷ [])
-unfolding saveOf fits imageOf heads bodies offeredFrom recsIn offers inList subIn over bytesOf encoding sizeOf
+unfolding saveOf fits imageOf heads bodies offeredFrom recsIn rangeOf covers toStore offers subIn over bytesOf encoding sizeOf
 full = refl
 
 -- list 2 has none of it, and list 4 nothing: an empty table
 pub outside : saveOf d (9 ∷ 9 ∷ 9 ∷ []) 2 ≡ afterSave Done (0 ∷ 0 ∷ 9 ∷ [])
-unfolding saveOf fits imageOf heads bodies offeredFrom recsIn offers inList subIn over bytesOf encoding sizeOf
+unfolding saveOf fits imageOf heads bodies offeredFrom recsIn rangeOf covers toStore offers subIn over bytesOf encoding sizeOf
 outside = refl
 
 pub nothing : saveOf d (9 ∷ 9 ∷ 9 ∷ []) 4 ≡ afterSave Done (0 ∷ 0 ∷ 9 ∷ [])
-unfolding saveOf fits imageOf heads bodies offeredFrom recsIn offers inList subIn over bytesOf encoding sizeOf
+unfolding saveOf fits imageOf heads bodies offeredFrom recsIn rangeOf covers toStore offers subIn over bytesOf encoding sizeOf
 nothing = refl
 
 -- it is read back; a start that is no sum of lengths makes it unreadable
 pub table : tableOf image ≡ some (offered d 1)
-unfolding tableOf readable headsOk recsAt placed exact number sizeOf offeredFrom recsIn offers inList subIn bytesOf encoding
+unfolding tableOf readable headsOk recsAt placed exact number sizeOf offeredFrom recsIn rangeOf covers toStore offers subIn bytesOf encoding
 table = refl
 
 pub no-table : tableOf (1 ∷ 0 ∷ 0x00 ∷ 0x60 ∷ 0 ∷ 6 ∷ 1 ∷ 0 ∷ 2 ∷ 0 ∷ 0x34 ∷ 0x12 ∷ []) ≡ none

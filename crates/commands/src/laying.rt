@@ -6,11 +6,11 @@ ghost use lib.ListN.{length};
 ghost use Rattle.lists.specs.Lists.{over};
 ghost use Rattle.entry.specs.Table.{dict};
 ghost use Rattle.entry.specs.Judge.{wellFormed};
-ghost use Rattle.image.specs.Image.{headOf, recAt, recsIn, offered, heads, bodies};
+ghost use Rattle.image.specs.Image.{headOf, recAt, recsIn, offeredIn, heads, bodies};
 ghost use Rattle.commands.specs.Save.{Row};
 use crate::offering::length_at;
-use crate::offering::offers;
 use crate::offering::sub_in;
+use crate::offering::to_store;
 
 // The 8 bytes of a record.
 fn lay_head(store: &mut [u8], at: usize, index: u64, sub: u64, t: u64, start: usize, len: usize)
@@ -83,20 +83,22 @@ pub fn lay_heads(
     slots: &[u64],
     words: &[u64],
     bytes: &[u8],
-    list: u8,
+    first: u16,
+    last: u16,
     store: &mut [u8],
 )
     requires { ⌜ wellFormed (dict (now objects) (now slots) (now words) (now bytes)) ≡ true ⌝ }
-    requires { ⌜ 2 + 8 * length (offered (dict (now objects) (now slots) (now words) (now bytes)) list) ≤ length (now store) ⌝ }
-    requires { ⌜ length (bodies (offered (dict (now objects) (now slots) (now words) (now bytes)) list)) ≤ 16384 ⌝ }
-    ensures { λ _. ⌜ now (store .exit) ≡ over (now (store .entry)) 2 (heads 0 (offered (dict (now (objects .entry)) (now (slots .entry)) (now (words .entry)) (now (bytes .entry))) list)) ⌝ }
+    requires { ⌜ 2 + 8 * length (offeredIn (dict (now objects) (now slots) (now words) (now bytes)) first last) ≤ length (now store) ⌝ }
+    requires { ⌜ length (bodies (offeredIn (dict (now objects) (now slots) (now words) (now bytes)) first last)) ≤ 16384 ⌝ }
+    ensures { λ _. ⌜ now (store .exit) ≡ over (now (store .entry)) 2 (heads 0 (offeredIn (dict (now (objects .entry)) (now (slots .entry)) (now (words .entry)) (now (bytes .entry))) first last)) ⌝ }
 {
-    let rows = entry::number_of(objects) as usize;
+    let rows = image::rows_in(objects, first, last);
+    let end = rows.end;
     let mut at = 2;
     let mut start = 0;
-    let mut i = 0;
-    while i < rows {
-        let n = offers(objects, list, i);
+    let mut i = rows.from;
+    while i < end {
+        let n = to_store(objects, i);
         start = row_heads(objects, slots, words, bytes, i, n, store, at, start);
         at += 8 * n;
         i += 1;
@@ -137,19 +139,21 @@ pub fn lay_bodies(
     slots: &[u64],
     words: &[u64],
     bytes: &[u8],
-    list: u8,
+    first: u16,
+    last: u16,
     store: &mut [u8],
     at: usize,
 )
     requires { ⌜ wellFormed (dict (now objects) (now slots) (now words) (now bytes)) ≡ true ⌝ }
-    requires { ⌜ at + length (bodies (offered (dict (now objects) (now slots) (now words) (now bytes)) list)) ≤ length (now store) ⌝ }
-    ensures { λ _. ⌜ now (store .exit) ≡ over (now (store .entry)) at (bodies (offered (dict (now (objects .entry)) (now (slots .entry)) (now (words .entry)) (now (bytes .entry))) list)) ⌝ }
+    requires { ⌜ at + length (bodies (offeredIn (dict (now objects) (now slots) (now words) (now bytes)) first last)) ≤ length (now store) ⌝ }
+    ensures { λ _. ⌜ now (store .exit) ≡ over (now (store .entry)) at (bodies (offeredIn (dict (now (objects .entry)) (now (slots .entry)) (now (words .entry)) (now (bytes .entry))) first last)) ⌝ }
 {
-    let rows = entry::number_of(objects) as usize;
+    let rows = image::rows_in(objects, first, last);
+    let end = rows.end;
     let mut p = at;
-    let mut i = 0;
-    while i < rows {
-        let n = offers(objects, list, i);
+    let mut i = rows.from;
+    while i < end {
+        let n = to_store(objects, i);
         p = row_bodies(objects, slots, words, bytes, i, n, store, p);
         i += 1;
     }

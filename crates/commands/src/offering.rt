@@ -5,7 +5,7 @@ ghost use Prim.Native.Nat.{_≤_, _<_};
 ghost use lib.ListN.{length};
 ghost use Rattle.entry.specs.Table.{dict, rowEnd, slotEnd};
 ghost use Rattle.entry.specs.Judge.{wellFormed};
-ghost use Rattle.image.specs.Image.{inList, offers, subIn, recsIn, offered, bodies};
+ghost use Rattle.image.specs.Image.{toStore, subIn, recsIn, offeredIn, bodies};
 ghost use Rattle.commands.specs.Save.{sizeIn, lengthIn, Row};
 
 // How many records, and how many bytes their bodies have.
@@ -14,23 +14,13 @@ pub struct Size {
     pub bytes: usize,
 }
 
-fn in_list(list: u8, x: u64) -> bool
-    ensures { λ r. ⌜ r ≡ inList list x ⌝ }
-{
-    (list == 1)
-        | (((list == 2) & ((0x1000 <= x) & (x <= 0x1FFF)))
-            | ((list == 3) & ((0x6000 <= x) & (x <= 0x9FFF))))
-}
-
-// How many values row i offers.
-pub fn offers(objects: &[u64], list: u8, i: usize) -> usize
+// How many values of row i are for the store.
+pub fn to_store(objects: &[u64], i: usize) -> usize
     requires { ⌜ (i < 1024) × (rowEnd i ≤ length (now objects)) ⌝ }
-    ensures { λ r. ⌜ r ≡ offers (now (objects .entry)) list i ⌝ }
+    ensures { λ r. ⌜ r ≡ toStore (now (objects .entry)) i ⌝ }
 {
-    let x = entry::index_at(objects, i);
     let access = entry::access_at(objects, i);
-    let listed = in_list(list, x);
-    if listed & ((access == 4) | (access == 2)) {
+    if (access == 4) | (access == 2) {
         return entry::count_at(objects, i) as usize;
     }
     0
@@ -80,16 +70,24 @@ fn row_bytes(
     sum
 }
 
-pub fn measure(objects: &[u64], slots: &[u64], words: &[u64], bytes: &[u8], list: u8) -> Size
+pub fn measure(
+    objects: &[u64],
+    slots: &[u64],
+    words: &[u64],
+    bytes: &[u8],
+    first: u16,
+    last: u16,
+) -> Size
     requires { ⌜ wellFormed (dict (now objects) (now slots) (now words) (now bytes)) ≡ true ⌝ }
-    ensures { λ r. ⌜ r ≡ sizeIn (offered (dict (now (objects .entry)) (now (slots .entry)) (now (words .entry)) (now (bytes .entry))) list) ⌝ }
+    ensures { λ r. ⌜ r ≡ sizeIn (offeredIn (dict (now (objects .entry)) (now (slots .entry)) (now (words .entry)) (now (bytes .entry))) first last) ⌝ }
 {
-    let rows = entry::number_of(objects) as usize;
+    let rows = image::rows_in(objects, first, last);
+    let end = rows.end;
     let mut m = 0;
     let mut sum = 0;
-    let mut i = 0;
-    while i < rows {
-        let n = offers(objects, list, i);
+    let mut i = rows.from;
+    while i < end {
+        let n = to_store(objects, i);
         sum += row_bytes(objects, slots, words, bytes, i, n);
         m += n;
         i += 1;

@@ -22,7 +22,10 @@ pub fn save(
     requires { ⌜ wellFormed (dict (now objects) (now slots) (now words) (now bytes)) ≡ true ⌝ }
     ensures { λ r. ⌜ afterSave r (now (store .exit)) ≡ saveOf (dict (now (objects .entry)) (now (slots .entry)) (now (words .entry)) (now (bytes .entry))) (now (store .entry)) list ⌝ }
 {
-    let size = measure(objects, slots, words, bytes, list);
+    let range = image::range_of(list);
+    let first = range.first;
+    let last = range.last;
+    let size = measure(objects, slots, words, bytes, first, last);
     let r = size.records;
     let b = size.bytes;
     if 2048 < r {
@@ -35,7 +38,7 @@ pub fn save(
         return Saved::Refused(Refusal::StoreFull);
     }
     lists::put_number(store, 0, 2, r as u64);
-    lay_heads(objects, slots, words, bytes, list, store);
-    lay_bodies(objects, slots, words, bytes, list, store, 2 + 8 * r);
+    lay_heads(objects, slots, words, bytes, first, last, store);
+    lay_bodies(objects, slots, words, bytes, first, last, store, 2 + 8 * r);
     Saved::Done
 }

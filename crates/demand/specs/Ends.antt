@@ -14,6 +14,7 @@ use Rattle.entry.specs.Rules.{wordOk, valOk, heldOk, headOk, extraOk, isEdition
 use Rattle.entry.specs.Judge.{slotOk, slotsFrom, rowOk, rowFits, rowsFrom, reserved, headerOk, wellFormed}
 use Rattle.entry.specs.Find.{findFrom, subAt}
 use Rattle.entry.specs.Put.{contents, filled, putIn}
+use Rattle.image.specs.Ranges.{covers}
 use Rattle.image.specs.Readable.{readable}
 use Rattle.fitting.specs.Records.{recordFrom}
 use Rattle.fitting.specs.Fit.{chosenAt, fitsRoom, valuesFit, rowsFit}
@@ -43,7 +44,7 @@ mapped = rig (value 8 0x0010000000006000 ∷ [])
 
 -- the restore puts the default, an Unsigned32, so two bytes are no longer its length
 pub restored : (checkOf mapped 0 ≡ Pass) × (checkOf (restoreOf mapped [] 0x6000 0x6000 .memory) 0 ≡ Element 1 WrongLength)
-unfolding checkOf wellFormed headerOk reserved rowsFrom rowFits rowOk extraOk isEdition slotsFrom slotOk headOk heldOk valOk wordOk textWord judgeAt channelFrom faultFrom wordVerdict endsFrom entryOf fieldOf findFrom subAt listCount sizeOf allSlots allWords allBytes rowsOf slotsOf wordsOf rooms restoreOf rowsFit valuesFit fitsRoom chosenAt recordFrom readable rowsRestored valuesRestored restoredBy putIn number encoding bytesOf
+unfolding checkOf wellFormed headerOk reserved rowsFrom rowFits rowOk extraOk isEdition slotsFrom slotOk headOk heldOk valOk wordOk textWord judgeAt channelFrom faultFrom wordVerdict endsFrom entryOf fieldOf findFrom subAt listCount sizeOf allSlots allWords allBytes rowsOf slotsOf wordsOf rooms restoreOf rowsFit covers valuesFit fitsRoom chosenAt recordFrom readable rowsRestored valuesRestored restoredBy putIn number encoding bytesOf
 restored = (refl, refl)
 
 -- eight bytes onto the list's own element 2, which maps two bytes onto 6000h

@@ -8,6 +8,7 @@ use Rattle.value.specs.Codec.{isText}
 use Rattle.entry.specs.Table.{Dict, indexAt, kindAt, countAt, firstAt, defaultAt, typeAt, roomAt}
 use Rattle.entry.specs.declared.Found.{Found}
 use Rattle.entry.specs.declared.Found.the-variants.{At, Nothing}
+use Rattle.image.specs.Ranges.{covers}
 use Rattle.image.specs.Image.{subIn}
 use Rattle.image.specs.Readable.{keyOf, typeIn, sizeAt}
 use Rattle.fitting.specs.declared.Choice.{Choice}
@@ -50,8 +51,11 @@ valuesFit d s i zero k = true
 valuesFit d s i (suc n) k = fitsRoom d s (slotIn (d .objects) i k) (chosenAt d s i k) && valuesFit d s i n (suc k)
 
 -- ---- n rows, from row i on: "each object of the range but 1003h"
+abbrev pub restorable : ℕ → Bool
+restorable x = not (eqb x 0x1003)
+
 abbrev pub inRange : ℕ → ℕ → ℕ → Bool
-inRange first last x = leb first x && (leb x last && not (eqb x 0x1003))
+inRange first last x = covers first last x && restorable x
 
 unfoldable pub rowsFit : Dict → List ℕ → ℕ → ℕ → ℕ → ℕ → Bool
 rowsFit d s first last zero i = true

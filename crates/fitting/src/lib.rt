@@ -6,7 +6,7 @@ mod rooms;
 pub use choosing::choose;
 use entry::Found;
 pub use looking::records;
-pub use rooms::in_range;
+pub use rooms::restorable;
 pub use rooms::rows_fit;
 
 // The place of a record in the image, or none, and the record near which the next one lies.

@@ -7,7 +7,7 @@ ghost use Rattle.value.specs.Codec.{isText};
 ghost use Rattle.entry.specs.Table.{dict, numberOf, countAt};
 ghost use Rattle.entry.specs.Judge.{wellFormed};
 ghost use Rattle.fitting.specs.Records.{records};
-ghost use Rattle.fitting.specs.Fit.{slotIn, chosenAt, fitsRoom, valuesFit, inRange, rowsFit};
+ghost use Rattle.fitting.specs.Fit.{slotIn, chosenAt, fitsRoom, valuesFit, restorable, rowsFit};
 use crate::Choice;
 use crate::Fitting;
 use crate::choosing::choose;
@@ -90,11 +90,11 @@ fn values_fit(
     }
 }
 
-// An object of the range, but 1003h.
-pub fn in_range(first: u16, last: u16, index: u64) -> bool
-    ensures { λ r. ⌜ r ≡ inRange first last index ⌝ }
+// Whether a restore touches the object: 1003h stays.
+pub fn restorable(index: u64) -> bool
+    ensures { λ r. ⌜ r ≡ restorable index ⌝ }
 {
-    (first as u64 <= index) & ((index <= last as u64) & (index != 0x1003))
+    index != 0x1003
 }
 
 pub fn rows_fit(
@@ -111,11 +111,12 @@ pub fn rows_fit(
     requires { ⌜ n ≡ records (now store) ⌝ }
     ensures { λ r. ⌜ r ≡ rowsFit (dict (now (objects .entry)) (now (slots .entry)) (now (words .entry)) (now (bytes .entry))) (now (store .entry)) first last (numberOf (now (objects .entry))) 0 ⌝ }
 {
-    let rows = entry::number_of(objects) as usize;
+    let rows = image::rows_in(objects, first, last);
+    let end = rows.end;
     let mut at = 0;
-    let mut i = 0;
-    while i < rows {
-        if in_range(first, last, entry::index_at(objects, i)) {
+    let mut i = rows.from;
+    while i < end {
+        if restorable(entry::index_at(objects, i)) {
             let f = values_fit(objects, slots, words, bytes, store, n, i, at);
             at = f.near;
             if !f.fits {

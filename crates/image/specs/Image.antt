@@ -1,13 +1,14 @@
 -- What a save offers, and the image that it leaves: RULES.md 10.
 -- Assumes nothing.
 use Prim.Native.Nat.{ℕ, zero, suc, _+_}
-use mathlib.Core.Bool.{Bool, cond, _&&_, _||_}
+use mathlib.Core.Bool.{Bool, cond, _||_}
 use mathlib.Core.List.{List, [], _∷_, _++_}
-use lib.Dec.{eqb, leb}
+use lib.Dec.{eqb}
 use lib.ListN.{length}
 use Rattle.lists.specs.Numbers.{bytesOf}
 use Rattle.entry.specs.Table.{Dict, numberOf, indexAt, kindAt, accessAt, countAt, firstAt, typeAt}
 use Rattle.entry.specs.Encode.{encodingAt}
+use Rattle.image.specs.Ranges.{rangeOf, covers}
 
 -- a stored value: where it stands, its type and its encoding
 pub record Rec : Type 0 where
@@ -16,17 +17,17 @@ pub record Rec : Type 0 where
   pub type : ℕ
   pub body : List ℕ
 
--- ---- R10.1: "List 1 saves everything, list 2 indices 1000h..1FFFh, list 3 indices 6000h..9FFFh, any other list nothing"
-unfoldable pub inList : ℕ → ℕ → Bool
-inList l x = eqb l 1 || ((eqb l 2 && (leb 0x1000 x && leb x 0x1FFF)) || (eqb l 3 && (leb 0x6000 x && leb x 0x9FFF)))
-
--- "Only objects with access ReadWriteStore or WriteOnlyStore"
+-- R10.1: "Only objects with access ReadWriteStore or WriteOnlyStore"
 abbrev pub stores : ℕ → Bool
 stores access = eqb access 4 || eqb access 2
 
--- how many values row i offers: all but its default
-unfoldable pub offers : List ℕ → ℕ → ℕ → ℕ
-offers objects l i = cond (inList l (indexAt objects i) && stores (accessAt objects i)) (countAt objects i) 0
+-- how many values of row i are for the store: all but its default
+unfoldable pub toStore : List ℕ → ℕ → ℕ
+toStore objects i = cond (stores (accessAt objects i)) (countAt objects i) 0
+
+-- and how many it offers, as a row of a range
+unfoldable pub offers : List ℕ → ℕ → ℕ → ℕ → ℕ
+offers objects first last i = cond (covers first last (indexAt objects i)) (toStore objects i) 0
 
 -- "a Variable at (index, 0), elements at (index, 1..n)": the sub-index of value k, from 0
 unfoldable pub subIn : ℕ → ℕ → ℕ
@@ -44,12 +45,16 @@ recsIn d i zero k = []
 recsIn d i (suc n) k = recAt d i k ∷ recsIn d i n (suc k)
 
 -- n rows, from row i on
-unfoldable pub offeredFrom : Dict → ℕ → ℕ → ℕ → List Rec
-offeredFrom d l zero i = []
-offeredFrom d l (suc n) i = recsIn d i (offers (d .objects) l i) 0 ++ offeredFrom d l n (suc i)
+unfoldable pub offeredFrom : Dict → ℕ → ℕ → ℕ → ℕ → List Rec
+offeredFrom d first last zero i = []
+offeredFrom d first last (suc n) i = recsIn d i (offers (d .objects) first last i) 0 ++ offeredFrom d first last n (suc i)
+
+-- what a range and what a list offers
+abbrev pub offeredIn : Dict → ℕ → ℕ → List Rec
+offeredIn d first last = offeredFrom d first last (numberOf (d .objects)) 0
 
 abbrev pub offered : Dict → ℕ → List Rec
-offered d l = offeredFrom d l (numberOf (d .objects)) 0
+offered d l = offeredIn d (rangeOf l .first) (rangeOf l .last)
 
 -- R10.2: "A save replaces the whole table and does not read the old one."
 abbrev pub newTable : Dict → ℕ → List ℕ → List Rec

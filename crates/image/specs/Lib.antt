@@ -1,2 +1,3 @@
+pub mod Ranges
 pub mod Image
 pub mod Readable

@@ -1,4 +1,10 @@
-// Whether the lent store holds a readable image: judged wholly, in one pass.
+// Whether the lent store holds a readable image: judged wholly, in one pass; and which rows a list or a range has.
+mod ranging;
+
+pub use ranging::Range;
+pub use ranging::Span;
+pub use ranging::range_of;
+pub use ranging::rows_in;
 ghost use mathlib.Core.Path.{_≡_};
 ghost use Prim.Native.Nat.{_+_, _*_, _≤_};
 ghost use lib.ListN.{length, take, drop};

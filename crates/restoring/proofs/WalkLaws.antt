@@ -1,11 +1,14 @@
 -- The walks that put rows and values, one turn at a time. Assumes nothing.
 use mathlib.Core.Path.{_≡_, sym}
-use mathlib.Core.Bool.{true}
+use mathlib.Core.Bool.{true, false}
 use mathlib.Core.List.{List}
 use Prim.Native.Nat.{ℕ, suc, _+_, _-_, _<_, _≤_}
 use native.Mathlib.Omega.{arith}
 use Rattle.lists.specs.Numbers.{Bytes}
-use Rattle.entry.specs.Table.{Dict, indexAt, countAt}
+use Rattle.entry.specs.Table.{Dict, numberOf, indexAt, countAt}
+use Rattle.image.specs.Ranges.{covers, Spans}
+use Rattle.image.specs.declared.ranging.Span.{Span}
+use Rattle.image.proofs.RangeLaws.{walk-from, walk-end}
 use Rattle.fitting.specs.Fit.{slotIn, chosenAt, fitsRoom, inRange}
 use Rattle.restoring.specs.Restore.{valuesRestored, rowsRestored}
 use Rattle.restoring.proofs.RestoreLaws.{On, turned, first-fits, next, OnRows, rowRestored, on-row, next-row}
@@ -30,9 +33,19 @@ module _ (d : Dict) (s : List ℕ) where
         let q : i + 1 ≡ suc i = omega arith in
         rw (e, q)
 
-    pub rows-put-end : (n i : ℕ) → n ≤ i → rowsRestored d s first last (n - i) i ≡ d
+    -- a row outside the range stays
+    skip : (n i : ℕ) → covers first last (indexAt (d .objects) i) ≡ false → rowsRestored d s first last (suc n) i ≡ rowsRestored d s first last n (suc i)
     unfolding rowsRestored
-    rows-put-end n i h = let e : n - i ≡ 0 = omega arith in rw e
+    skip n i e = rw e
+
+    -- ---- the rows of the range
+    module _ {r : Span} (c : Spans (d .objects) first last r) where
+      pub rows-put-from : rowsRestored d s first last (numberOf (d .objects)) 0 ≡ rowsRestored d s first last (numberOf (d .objects) - r .from) (r .from)
+      rows-put-from = walk-from c (rowsRestored d s first last) skip
+
+      pub rows-put-end : (i : ℕ) → r .end ≤ i → i ≤ numberOf (d .objects) → rowsRestored d s first last (numberOf (d .objects) - i) i ≡ d
+      unfolding rowsRestored
+      rows-put-end i h k = walk-end c (rowsRestored d s first last) skip i h k
 
 -- ---- a dictionary that has had its turn goes on
 pub first-of : (d : Dict) (s : List ℕ) (i n k : ℕ) → k < n → On d s i (n - k) k → fitsRoom d s (slotIn (d .objects) i k) (chosenAt d s i k) ≡ true

@@ -13,7 +13,7 @@ ghost use Rattle.fitting.specs.Fit.{slotIn, chosenAt, fitsRoom, valuesFit, rows
 ghost use Rattle.restoring.specs.Restore.{restoredBy, valuesRestored, rowsRestored, Copies};
 use fitting::Choice;
 use fitting::choose;
-use fitting::in_range;
+use fitting::restorable;
 
 // Puts the stored value of the record at place a as value p.
 fn put_stored(
@@ -127,11 +127,12 @@ pub fn restore_rows(
     requires { ⌜ rowsFit (dict (now objects) (now slots) (now words) (now bytes)) (now store) first last (numberOf (now objects)) 0 ≡ true ⌝ }
     ensures { λ _. ⌜ dict (now (objects .entry)) (now (slots .exit)) (now (words .exit)) (now (bytes .exit)) ≡ rowsRestored (dict (now (objects .entry)) (now (slots .entry)) (now (words .entry)) (now (bytes .entry))) (now (store .entry)) first last (numberOf (now (objects .entry))) 0 ⌝ }
 {
-    let rows = entry::number_of(objects) as usize;
+    let rows = image::rows_in(objects, first, last);
+    let end = rows.end;
     let mut at = 0;
-    let mut i = 0;
-    while i < rows {
-        if in_range(first, last, entry::index_at(objects, i)) {
+    let mut i = rows.from;
+    while i < end {
+        if restorable(entry::index_at(objects, i)) {
             at = restore_values(objects, slots, words, bytes, store, n, i, at);
         }
         i += 1;
