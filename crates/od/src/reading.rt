@@ -66,7 +66,11 @@ pub fn read_part_judged<'a>(
     requires { ⌜ wellFormed (dict (now objects) (now slots) (now words) (now bytes)) ≡ true ⌝ }
     ensures { λ r. ⌜ now r ≡ partIn (now (bytes .entry)) (readOf (dict (now (objects .entry)) (now (slots .entry)) (now (words .entry)) (now (bytes .entry))) index sub) ⌝ }
 {
-    let Stored::Is { value_type, word, start } = read_judged(objects, slots, words, bytes, index, sub)
+    let Stored::Is {
+        value_type,
+        word,
+        start,
+    } = read_judged(objects, slots, words, bytes, index, sub)
     else {
         return &bytes[0..0];
     };
