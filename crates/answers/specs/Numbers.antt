@@ -1,4 +1,4 @@
--- Document 01, "Numbers of the answers". 0 is Done and 19 is RestoreRequested: these are no refusals.
+-- The refusals' numbers: RULES.md R13.1. 0 is Done and 19 is RestoreRequested: these are no refusals.
 -- Assumes nothing.
 use Prim.Native.Nat.{ℕ}
 use Rattle.answers.specs.declared.Refusal.{Refusal}

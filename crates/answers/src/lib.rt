@@ -23,6 +23,7 @@ pub enum Refusal {
     StoreFull,
 }
 
+// Of a call that has nothing else to say.
 pub enum Answer {
     Done,
     Refused(Refusal),

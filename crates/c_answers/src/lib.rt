@@ -1,4 +1,4 @@
-// What every call for C answers: a number of document 01, and results in what was lent.
+// What every call for C answers: a number of RULES.md R13.1, and results in what was lent.
 ghost use mathlib.Core.Path.{_≡_};
 ghost use Rattle.c_answers.specs.Answers.{answerNumber};
 use answers::Answer;

@@ -1,4 +1,4 @@
--- Document 01's twelve cases, one table under one theorem: RULES.md 14. Assumes nothing.
+-- The twelve cases, one table under one theorem: RULES.md 14. Assumes nothing.
 use Prim.Native.Nat.{ℕ}
 use mathlib.Core.Path.{_≡_, refl}
 use mathlib.Core.Bool.{Bool, true, false}

@@ -23,7 +23,7 @@ findFrom objects x (suc k) i = cond (eqb (indexAt objects i) x) (At i) (findFrom
 abbrev pub findRow : List ℕ → ℕ → Found
 findRow objects x = findFrom objects x (numberOf objects) 0
 
--- document 01, "Reading and writing": "Variable: sub-index 0 only. Array or Record: 0 reads the element count as U8, k reads element k"
+-- R7.2: "A Variable has sub-index 0 only. A list's sub-index 0 reads its element count as U8, an empty list's too; k reads" element k
 unfoldable pub subAt : List ℕ → ℕ → ℕ → Place
 subAt objects i sub =
     cond (eqb (kindAt objects i) 0)
@@ -72,7 +72,7 @@ heldAs none = no-sub
 abbrev pub listed : Obj → ℕ
 listed o = count o
 
--- document 01's rule, of an object
+-- R7.2, of an object
 unfoldable pub subOf : Obj → ℕ → Named
 subOf o sub =
     cond (eqb (o .kind) 0)

@@ -1,6 +1,8 @@
 // The public calls. None has a `requires`: each judges its own input and refuses what breaks a rule. The crates c_* have the same
 // calls for C.
 pub use answers::Answer;
+pub use answers::Refusal;
+pub use answers::number as refusal_number;
 pub use channel::Checked;
 pub use channel::CheckedAll;
 pub use channel::check;
@@ -22,6 +24,8 @@ pub use events::event_record;
 pub use insertion::Head;
 pub use insertion::Inserted;
 pub use insertion::insert;
+pub use mapping::Aligned;
+pub use mapping::Field;
 pub use mapping::PdoMappingEntry;
 pub use names::ByName;
 pub use names::find_by_name;
@@ -45,8 +49,15 @@ pub use pdo_handler::update_pdo_error_object;
 pub use pdo_validator::validate_pdo_mapping;
 pub use restoring::Restored;
 pub use restoring::restore_power_on_values;
+pub use value::CodecFault;
 pub use value::Decoded;
 pub use value::Encoded;
+pub use value::IpAddress;
+pub use value::MacAddress;
+pub use value::NetTime;
 pub use value::ObjectValue;
+pub use value::RelativeTime;
+pub use value::TimeDifference;
+pub use value::TimeOfDay;
 pub use writing::Wrote;
 pub use writing::write;

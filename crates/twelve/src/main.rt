@@ -1,4 +1,4 @@
-// Runs document 01's twelve cases on the public calls, and writes how many were run, a space, how many differ, and a newline.
+// Runs the twelve cases of RULES.md 14 on the public calls, and writes how many were run, a space, how many differ, and a newline.
 // crates/demand/specs/Twelve.antt has the same table, computed.
 mod codec;
 mod rig;

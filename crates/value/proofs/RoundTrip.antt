@@ -1,4 +1,4 @@
--- Document 01, "Types": "Decoding what encoding wrote gives the value; encoding what was decoded from data of exactly the type's size gives the data."
+-- R3.8: "Decoding what encoding wrote gives the value. Encoding what was decoded from data of exactly the type's size gives the data".
 -- Assumes nothing.
 use mathlib.Core.Path.{_≡_, refl, ap, _∙_}
 use mathlib.Core.Bool.{Bool, true, false}

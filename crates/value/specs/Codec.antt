@@ -1,4 +1,4 @@
--- Decoding and encoding: document 01, "Types".
+-- Decoding and encoding: RULES.md R3.1 and R3.4 to R3.7.
 -- Assumes nothing.
 use Prim.Native.Nat.{ℕ, _*_, _%_, _^_}
 use mathlib.Core.Bool.{Bool, true, false, cond, _&&_}
@@ -22,7 +22,7 @@ use Rattle.answers.specs.declared.Refusal.the-variants.{BadValue, BufferTooShor
 use Rattle.value.specs.declared.Word.{Word}
 use Rattle.value.specs.declared.Word.the-variants.{Takes, Fails}
 
--- "with fixed sizes in bytes"; 0 for the four types that have a room
+-- R3.1: "the size of their encoding in bytes"; 0 for the four types that have a room
 abbrev pub sizes : List ℕ
 sizes = 1 ∷ 1 ∷ 2 ∷ 4 ∷ 8 ∷ 1 ∷ 2 ∷ 4 ∷ 8 ∷ 4 ∷ 8 ∷ 0 ∷ 0 ∷ 0 ∷ 0 ∷ 6 ∷ 6 ∷ 8 ∷ 8 ∷ 6 ∷ 4 ∷ []
 
@@ -42,7 +42,7 @@ abbrev pub textIs : ℕ → Judged → Word
 textIs n Good = Takes n
 textIs n (Bad k) = Fails Text
 
--- "VisibleString must be UTF-8"; "UnicodeString needs an even byte count"
+-- R3.6: a VisibleString must be UTF-8, a UnicodeString has an even byte count
 unfoldable pub textWord : ℕ → List ℕ → Word
 textWord t s =
     cond (eqb t 11)
@@ -51,7 +51,7 @@ textWord t s =
     (Fails Odd)
     (Takes (length s)))
 
--- "Decoding a fixed type ignores bytes behind it; fewer bytes: BufferTooShort"
+-- R3.6: of a fixed type, fewer bytes than its size are too few, and bytes behind it are ignored
 unfoldable pub wordAt : ℕ → List ℕ → Word
 wordAt t s =
     cond (isText t)

@@ -74,7 +74,7 @@ readings x =
 abbrev pub reading : ℕ → ℕ → ObjectValue
 reading t x = getD (readings x) t (IpAddress (ipAddress x))
 
--- document 01, "Types": the numbers 0..20
+-- R3.1: the numbers 0..20
 unfoldable pub typeOf : ObjectValue → ℕ
 typeOf (Boolean v) = 0
 typeOf (Integer8 v) = 1
