@@ -28,10 +28,11 @@ use Rattle.value.specs.declared.CodecFault.{CodecFault}
 use Rattle.value.specs.declared.CodecFault.the-variants.{Odd}
 use Rattle.value.specs.declared.Decoded.the-variants.{Value, NoType}
 use Rattle.value.specs.declared.ObjectValue.{ObjectValue}
+use Rattle.value.specs.declared.Exactness.the-variants as exactly
 use Rattle.value.specs.declared.Word.{Word}
 use Rattle.value.specs.declared.Word.the-variants.{Takes, Fails}
 use Rattle.value.specs.Meaning.{reading}
-use Rattle.value.specs.Codec.{sizes, sizeOf, isText, fitsType, takes, textIs, textWord, wordAt, meant, decodeOf, sayable, exact, encoding, afterEncode, encodeOf}
+use Rattle.value.specs.Codec.{sizes, sizeOf, isText, fitsType, takes, textIs, textWord, wordAt, meant, decodeOf, sayable, onText, textExactly, sizedExactly, exactlyOf, isExact, exact, encoding, afterEncode, encodeOf}
 
 -- ---- a match on t whose arms 0, 1, .. up to k - 1 did not fit
 abbrev Rest : ℕ → ℕ → Type 0
@@ -249,16 +250,28 @@ decoded t s v h = go (ltb 20 t) (wordAt t s) refl refl h
 
 -- ---- the data is a value and nothing else
 pub exact-none : (t : ℕ) (s : List ℕ) → 20 < t → exact t s ≡ false
-unfolding exact
-exact-none t s h = rw (lt-leb t 20 h)
+unfolding exact exactlyOf
+exact-none t s h = rw (lt-ltb 20 t h)
 
 pub exact-text : (t : ℕ) (s : List ℕ) → t ≤ 20 → isText t ≡ true → exact t s ≡ takes (textWord t s)
-unfolding exact
-exact-text t s h e = rw (le-leb t 20 h, e)
+unfolding exact exactlyOf textExactly textWord
+exact-text t s h e = rw (le-ltb 20 t h, e) (go (eqb t 11) (eqb t 13 && eqb (length s % 2) 1) (judge s))
+  where
+    go : (a b : Bool) (j : Judged) → isExact (cond a (onText j) (cond b exactly.Odd exactly.Value)) ≡ takes (cond a (textIs (length s) j) (cond b (Fails Odd) (Takes (length s))))
+    go true b Good = refl
+    go true b (Bad k) = refl
+    go false true j = refl
+    go false false j = refl
 
 pub exact-fixed : (t : ℕ) (s : List ℕ) → t ≤ 20 → isText t ≡ false → exact t s ≡ eqb (length s) (sizeOf t)
-unfolding exact
-exact-fixed t s h e = rw (le-leb t 20 h, e)
+unfolding exact exactlyOf sizedExactly
+exact-fixed t s h e = rw (le-ltb 20 t h, e) (go (decLt (length s) (sizeOf t)) (decLt (sizeOf t) (length s)))
+  where
+    go : Dec (length s < sizeOf t) → Dec (sizeOf t < length s)
+        → isExact (cond (ltb (length s) (sizeOf t)) (exactly.Few (sizeOf t) (length s)) (cond (ltb (sizeOf t) (length s)) exactly.Many exactly.Value)) ≡ eqb (length s) (sizeOf t)
+    go (yes a) b = rw (lt-ltb (length s) (sizeOf t) a, ne-eqb (length s) (sizeOf t) (λ z. omega arith))
+    go (no a) (yes b) = rw (le-ltb (length s) (sizeOf t) (omega arith), lt-ltb (sizeOf t) (length s) b, ne-eqb (length s) (sizeOf t) (λ z. omega arith))
+    go (no a) (no b) = rw (le-ltb (length s) (sizeOf t) (omega arith), le-ltb (sizeOf t) (length s) (omega arith), eq-eqb (length s) (sizeOf t) (omega arith))
 
 -- the word that it is, and what is so of it
 abbrev pub wordIn : ℕ → List ℕ → ℕ
@@ -269,15 +282,16 @@ pub record Exact (t : ℕ) (s : List ℕ) : Type 0 where
   pub taken : wordAt t s ≡ Takes (wordIn t s)
 
 pub exact-facts : (t : ℕ) (s : List ℕ) → exact t s ≡ true → Exact t s
-unfolding exact wordAt
-exact-facts t s e = known (leb t 20) refl e
+unfolding wordAt
+exact-facts t s e = known (decLt 20 t)
   where
-    go : t ≤ 20 → (b : Bool) → isText t ≡ b → cond b (takes (textWord t s)) (eqb (length s) (sizeOf t)) ≡ true → Exact t s
-    go k true q h = record { type = k; taken = rw q (text-taken t s h) }
-    go k false q h =
+    go : t ≤ 20 → (b : Bool) → isText t ≡ b → Exact t s
+    go k true q = record { type = k; taken = rw q (text-taken t s (sym (exact-text t s k q) ∙ e)) }
+    go k false q =
+        let h = sym (exact-fixed t s k q) ∙ e in
         let l : ltb (length s) (sizeOf t) ≡ false = le-ltb (length s) (sizeOf t) (omega (arith, eqb-true (length s) (sizeOf t) h)) in
         record { type = k; taken = rw (q, l) }
 
-    known : (b : Bool) → leb t 20 ≡ b → (b && cond (isText t) (takes (textWord t s)) (eqb (length s) (sizeOf t))) ≡ true → Exact t s
-    known true q h = go (leb-true t 20 q) (isText t) refl h
-    known false q h = let z : _≡_ {A = ℕ} 0 1 = cc in absurd (omega arith)
+    known : Dec (20 < t) → Exact t s
+    known (yes h) = let n = exact-none t s h in let z : _≡_ {A = ℕ} 0 1 = cc in absurd (omega arith)
+    known (no h) = go (omega arith) (isText t) refl

@@ -19,6 +19,8 @@ use Rattle.value.specs.declared.Encoded.the-variants.{Wrote, Refused}
 use Rattle.value.specs.Meaning.{reading}
 use Rattle.answers.specs.declared.Refusal.{Refusal}
 use Rattle.answers.specs.declared.Refusal.the-variants.{BadValue, BufferTooShort, TypeMismatch}
+use Rattle.value.specs.declared.Exactness.{Exactness}
+use Rattle.value.specs.declared.Exactness.the-variants as exactly
 use Rattle.value.specs.declared.Word.{Word}
 use Rattle.value.specs.declared.Word.the-variants.{Takes, Fails}
 
@@ -88,9 +90,31 @@ sayable t w part =
     (eqb w (length part) && takes (textWord t part))
     (fitsType t w)
 
--- the data is a value of type t and nothing else: what a value that is handed in, or stored, must be
+-- ---- R3.4: whether data that is handed in, or stored, is a value of type t and nothing else, or why it is none
+abbrev pub onText : Judged → Exactness
+onText Good = exactly.Value
+onText (Bad k) = exactly.Text k
+
+unfoldable pub textExactly : ℕ → List ℕ → Exactness
+textExactly t s = cond (eqb t 11) (onText (judge s)) (cond (eqb t 13 && eqb (length s % 2) 1) exactly.Odd exactly.Value)
+
+-- bytes needed, and had
+unfoldable pub sizedExactly : ℕ → ℕ → Exactness
+sizedExactly n m = cond (ltb m n) (exactly.Few n m) (cond (ltb n m) exactly.Many exactly.Value)
+
+unfoldable pub exactlyOf : ℕ → List ℕ → Exactness
+exactlyOf t s = cond (ltb 20 t) exactly.NoType (cond (isText t) (textExactly t s) (sizedExactly (sizeOf t) (length s)))
+
+abbrev pub isExact : Exactness → Bool
+isExact exactly.Value = true
+isExact exactly.NoType = false
+isExact (exactly.Few n m) = false
+isExact exactly.Many = false
+isExact (exactly.Text k) = false
+isExact exactly.Odd = false
+
 unfoldable pub exact : ℕ → List ℕ → Bool
-exact t s = leb t 20 && cond (isText t) (takes (textWord t s)) (eqb (length s) (sizeOf t))
+exact t s = isExact (exactlyOf t s)
 
 -- its bytes: those beside it, or the word as little-endian bytes, as many as the type has
 unfoldable pub encoding : ℕ → ℕ → List ℕ → List ℕ

@@ -3,9 +3,10 @@ ghost use mathlib.Core.Path.{_≡_};
 ghost use mathlib.Core.Bool.{true, false};
 ghost use mathlib.Core.List.{[]};
 ghost use Prim.Native.Nat.{_-_, _*_, _^_, _≤_};
-ghost use Rattle.value.specs.Codec.{sizeOf, isText, fitsType, textWord, wordAt, exact, encodeOf, afterEncode};
+ghost use Rattle.value.specs.Codec.{sizeOf, isText, fitsType, textWord, wordAt, textExactly, sizedExactly, exactlyOf, isExact, encodeOf, afterEncode};
 use crate::CodecFault;
 use crate::Encoded;
+use crate::Exactness;
 use crate::Word;
 use answers::Refusal;
 use text::Text;
@@ -95,20 +96,58 @@ pub fn decode_word(t: u64, data: &[u8]) -> Word
     Word::Takes(lists::number(data, 0, n))
 }
 
-// The data is a value of type t and nothing else.
-pub fn is_value(t: u64, data: &[u8]) -> bool
-    ensures { λ r. ⌜ r ≡ exact t (now («data» .entry)) ⌝ }
+fn text_exactly(t: u64, data: &[u8]) -> Exactness
+    ensures { λ r. ⌜ r ≡ textExactly t (now («data» .entry)) ⌝ }
 {
-    if 20 < t {
-        return false;
-    }
-    if is_text(t) {
-        return match decode_text(t, data) {
-            Word::Takes(_) => true,
-            Word::Fails(_) => false,
+    if t == 11 {
+        return match text::text_ok(data) {
+            Text::Good => Exactness::Value,
+            Text::Bad(k) => Exactness::Text(k),
         };
     }
-    data.len() == size_of(t)
+    let odd = data.len() % 2 == 1;
+    if (t == 13) & odd {
+        return Exactness::Odd;
+    }
+    Exactness::Value
+}
+
+fn sized_exactly(needed: usize, had: usize) -> Exactness
+    ensures { λ r. ⌜ r ≡ sizedExactly needed had ⌝ }
+{
+    if had < needed {
+        return Exactness::Few { needed, had };
+    }
+    if needed < had {
+        return Exactness::Many;
+    }
+    Exactness::Value
+}
+
+// Whether the data is a value of type t and nothing else, or why it is none.
+pub fn exactly(t: u64, data: &[u8]) -> Exactness
+    ensures { λ r. ⌜ r ≡ exactlyOf t (now («data» .entry)) ⌝ }
+{
+    if 20 < t {
+        return Exactness::NoType;
+    }
+    if is_text(t) {
+        return text_exactly(t, data);
+    }
+    sized_exactly(size_of(t), data.len())
+}
+
+pub fn is_exact(e: Exactness) -> bool
+    ensures { λ r. ⌜ r ≡ isExact e ⌝ }
+{
+    match e {
+        Exactness::Value => true,
+        Exactness::NoType => false,
+        Exactness::Few { needed: _, had: _ } => false,
+        Exactness::Many => false,
+        Exactness::Text(_) => false,
+        Exactness::Odd => false,
+    }
 }
 
 fn encode_text(t: u64, word: u64, part: &[u8], out: &mut [u8]) -> Encoded

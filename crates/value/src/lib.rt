@@ -4,9 +4,10 @@ mod codec;
 use answers::Refusal;
 pub use codec::decode_word;
 pub use codec::encode_word;
+pub use codec::exactly;
 pub use codec::fits;
+pub use codec::is_exact;
 pub use codec::is_text;
-pub use codec::is_value;
 pub use codec::size_of;
 ghost use mathlib.Core.Path.{_≡_};
 ghost use Rattle.value.specs.Codec.{refusalOf};
@@ -75,6 +76,17 @@ pub enum Decoded {
     Value(ObjectValue),
     Fails(CodecFault),
     NoType,
+}
+
+// Whether data is a value of a type and nothing else, or why it is none: a number that names no type, fewer bytes than the type has, more,
+// no UTF-8 text from this byte on, an odd count.
+pub enum Exactness {
+    Value,
+    NoType,
+    Few { needed: usize, had: usize },
+    Many,
+    Text(usize),
+    Odd,
 }
 
 // How many bytes were written.
