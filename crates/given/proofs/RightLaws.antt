@@ -14,10 +14,10 @@ use lib.Seq.{take-at, length-take-le, take-length}
 use Rattle.text.specs.Machine.{judge}
 use Rattle.lists.specs.Numbers.{number, Bytes}
 use Rattle.lists.proofs.NumberLaws.{number-lt}
-use Rattle.value.specs.Codec.{sizeOf, isText, fitsType, takes, textWord, wordAt}
+use Rattle.value.specs.Codec.{sizeOf, isText, fitsType, takes, textWord, wordAt, exact}
 use Rattle.value.specs.declared.CodecFault.the-variants.{Value}
 use Rattle.value.specs.declared.Word.the-variants.{Takes, Fails}
-use Rattle.value.proofs.CodecLaws.{size-le, text-taken}
+use Rattle.value.proofs.CodecLaws.{size-le, text-taken, exact-none, exact-text, exact-fixed}
 use Rattle.entry.specs.Model.{Val, used, size}
 use Rattle.entry.specs.Rules.{isGood, wordOk, valOk, tight, heldOk, valsOk, headOk, extraOk, objOk}
 use Rattle.entry.proofs.JudgeLaws.{and-true, head-ok}
@@ -70,6 +70,28 @@ value-fixed e t r s x k h b = rw (x, le-leb t 20 k, le-leb r 1490 h) (go (eqb (l
         let f : number s < 2 ^ (8 * sizeOf t) = rw (eqb-true (length s) (sizeOf t) q) at (number-lt s b) in
         rw (lt-ltb (number s) (2 ^ (8 * sizeOf t)) f)
     go false q = rw q
+
+-- R3.4 is `exact`, of what insertion is given too: the parts of `valueOk` say no more of the value
+pub value-exact : (e : Bool) (t r : ℕ) (s : List ℕ) → Bytes s → valueOk e t r s ≡ (exact t s && (leb r 1490 && (leb (cond (isText t) (length s) 0) r && (e || eqb r (cond (isText t) (length s) 0)))))
+value-exact e t r s b = known (decLt 20 t) (decLt 1490 r)
+  where
+    none : (a : Bool) → (a && false) ≡ false
+    none true = refl
+    none false = refl
+
+    string : (a v o : Bool) → ((a && v) && o) ≡ (v && (a && o))
+    string true v o = refl
+    string false true o = refl
+    string false false o = refl
+
+    typed : t ≤ 20 → r ≤ 1490 → (x : Bool) → isText t ≡ x → valueOk e t r s ≡ (exact t s && (leb r 1490 && (leb (cond (isText t) (length s) 0) r && (e || eqb r (cond (isText t) (length s) 0)))))
+    typed k h true x = value-text e t r s x h ∙ rw (exact-text t s k x, x, le-leb r 1490 h) (string (leb (length s) r) (takes (textWord t s)) (e || eqb r (length s)))
+    typed k h false x = value-fixed e t r s x k h b ∙ rw (exact-fixed t s k x, x, le-leb r 1490 h, le-leb 0 r (omega arith))
+
+    known : Dec (20 < t) → Dec (1490 < r) → valueOk e t r s ≡ (exact t s && (leb r 1490 && (leb (cond (isText t) (length s) 0) r && (e || eqb r (cond (isText t) (length s) 0)))))
+    known (yes h) w = value-big e t r s h ∙ sym (rw (exact-none t s h))
+    known (no h) (yes w) = value-wide e t r s w ∙ sym (rw (lt-leb r 1490 w) (none (exact t s)))
+    known (no h) (no w) = typed (omega arith) (omega arith) (isText t) refl
 
 value-sized : (e : Bool) (t r : ℕ) (s : List ℕ) → isText t ≡ false → valueOk e t r s ≡ true → eqb (length s) (sizeOf t) ≡ true
 unfolding valueOk

@@ -1,12 +1,11 @@
 // Judging what an insertion is given.
 ghost use mathlib.Core.Path.{_≡_};
-ghost use mathlib.Core.Bool.{true, false};
+ghost use mathlib.Core.Bool.{true, false, cond};
 ghost use Prim.Native.Nat.{_+_, _*_, _<_, _≤_};
 ghost use lib.ListN.{length, take, drop};
 ghost use Rattle.value.specs.Codec.{isText};
 ghost use Rattle.given.specs.Given.{typeIn, roomIn, lengthIn, extraIn, valueOk, valsIn, sizeIn};
 use entry::Extra;
-use value::Word;
 
 // What an insertion is given beside its name and its values. With a default (1, else 0) the last of the values is the default.
 pub struct Head {
@@ -56,39 +55,27 @@ pub fn extra_in(head: Head, count: u64) -> Extra
     }
 }
 
-// A string of type t: within its room, and good over its length. As the default it has just its bytes.
-fn string_ok(element: bool, t: u64, room: u64, s: &[u8], start: usize, len: usize) -> bool
-    requires { ⌜ (start + len ≤ length (now s)) × (isText t ≡ true) × (room ≤ 1490) ⌝ }
-    ensures { λ r. ⌜ r ≡ valueOk element t room (take len (drop start (now (s .entry)))) ⌝ }
+// How many bytes of its room a value of so many takes.
+fn held_in(t: u64, len: usize) -> u64
+    ensures { λ r. ⌜ r ≡ cond (isText t) len 0 ⌝ }
 {
-    let end = start + len;
-    if room < len as u64 {
-        return false;
+    if value::is_text(t) {
+        return len as u64;
     }
-    let Word::Takes(_) = value::decode_word(t, &s[start..end]) else {
-        return false;
-    };
-    element | (room == len as u64)
+    0
 }
 
+// A value of type t and nothing else, within its room; as the default it has just its bytes.
 fn value_ok(element: bool, t: u64, room: u64, s: &[u8], start: usize, len: usize) -> bool
     requires { ⌜ start + len ≤ length (now s) ⌝ }
     ensures { λ r. ⌜ r ≡ valueOk element t room (take len (drop start (now (s .entry)))) ⌝ }
 {
-    if 20 < t {
+    let end = start + len;
+    if !value::is_exact(value::exactly(t, &s[start..end])) {
         return false;
     }
-    if 1490 < room {
-        return false;
-    }
-    if value::is_text(t) {
-        return string_ok(element, t, room, s, start, len);
-    }
-    let n = value::size_of(t);
-    if len != n {
-        return false;
-    }
-    element | (room == 0)
+    let held = held_in(t, len);
+    (room <= 1490) & ((held <= room) & (element | (room == held)))
 }
 
 fn vals_in(vals: &[u64], encodings: &[u8], count: usize, u: usize, g: usize) -> Size

@@ -60,7 +60,7 @@ fn exact_at(s: &[u8], a: usize, p: usize) -> bool
 {
     let t = type_in(s, a);
     let end = p + size_at(s, a);
-    value::is_value(t, &s[p..end])
+    value::is_exact(value::exactly(t, &s[p..end]))
 }
 
 fn heads_ok(s: &[u8], count: usize) -> bool

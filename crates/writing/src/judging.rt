@@ -147,7 +147,7 @@ pub fn judge_write(
     requires { ⌜ wellFormed (dict (now objects) (now slots) (now words) (now bytes)) ≡ true ⌝ }
     ensures { λ r. ⌜ r ≡ judgeOf (dict (now (objects .entry)) (now (slots .entry)) (now (words .entry)) (now (bytes .entry))) store index sub t (now («data» .entry)) ⌝ }
 {
-    if !value::is_value(t, data) {
+    if !value::is_exact(value::exactly(t, data)) {
         return Judged::Refused(Refusal::BadValue);
     }
     if index == 0x1010 {

@@ -9,6 +9,9 @@ use Rattle.element.proofs.explaining.target_at.Tie as tie
 target-value-requires : tie.Need-target-value-requires
 target-value-requires c κs = let p = c .before in p .before .before .before .pre _ (p .place .given .1)
 
+returns-3 : tie.Need-returns-3
+returns-3 c = search needs
+
 returns-4 : tie.Need-returns-4
 returns-4 c =
     let p = c .before .before in
@@ -25,5 +28,5 @@ target-at-spec =
     target-value-requires
     (λ c. search needs)
     (λ c. search needs)
-    (λ c. search needs)
+    returns-3
     returns-4)

@@ -1,50 +1,41 @@
-use native.Mathlib.Omega.{arith}
+-- `value::codec::exactly` meets its contract: each way out is a case of the definition. Assumes nothing.
+use mathlib.Core.Path.{sym, ap, _∙_}
+use denote.Ref.{now}
+use lib.ListN.{length}
+use borrow.Author.Tests.{lt-ltb, le-ltb}
+use Rattle.value.specs.Codec.{sizedExactly, exactlyOf}
 use borrow.Author.Needs.{needs}
 use Rattle.value.proofs.codec.exactly.Statement.{statement}
 use Rattle.value.proofs.codec.exactly.Tie as tie
-use Rattle.value.proofs.codec.exactly.Reads as reads
-use Rattle.value.proofs.codec.exactly.Lts as lts
-use Rattle.value.proofs.codec.is_text.Reads as is-text-reads
-use Rattle.value.proofs.codec.size_of.Reads as size-of-reads
-use Rattle.value.proofs.codec.sized_exactly.Reads as sized-exactly-reads
-use Rattle.value.proofs.codec.text_exactly.Reads as text-exactly-reads
 
--- src/codec.rt:132:9
 returns : tie.Need-returns
-returns c = search needs
+unfolding exactlyOf
+returns c = sym (rw (lt-ltb 20 _ (c .if1 .taken)))
 
--- src/codec.rt:134:8
-is-text-requires : tie.Need-is-text-requires
-is-text-requires c κs = search needs
-
--- src/codec.rt:135:9
-text-exactly-requires : tie.Need-text-exactly-requires
-text-exactly-requires c κs = search needs
-
--- src/codec.rt:135:9
 returns-2 : tie.Need-returns-2
-returns-2 c = search needs
+unfolding exactlyOf
+returns-2 c =
+    let x = c .before in
+    c .text-exactly .ensures ∙ sym (rw (le-ltb 20 _ (x .before .before .if1 .left), sym (x .before .is-text .ensures) ∙ x .if2 .taken))
 
--- src/codec.rt:137:19
-size-of-requires : tie.Need-size-of-requires
-size-of-requires c κs = search needs
-
--- src/codec.rt:137:5
-sized-exactly-requires : tie.Need-sized-exactly-requires
-sized-exactly-requires c κs = search needs
-
--- src/codec.rt:128:1
 returns-3 : tie.Need-returns-3
-returns-3 c = search needs
+unfolding exactlyOf
+returns-3 c =
+    let n = c .before in
+    let x = n .before in
+    let a = x .before .before .before .before .args in
+    c .sized-exactly .ensures
+    ∙ ap (λ m. sizedExactly m (length (now (a .«data»)))) (n .size-of .ensures)
+    ∙ sym (rw (le-ltb 20 _ (x .before .before .if1 .left), sym (x .before .is-text .ensures) ∙ x .if2 .left))
 
 pub exactly-spec : {M : Type 1} → statement M
 exactly-spec =
     tie.close
     (tie.spec
     returns
-    is-text-requires
-    text-exactly-requires
+    (λ c κs. search needs)
+    (λ c κs. search needs)
     returns-2
-    size-of-requires
-    sized-exactly-requires
+    (λ c κs. search needs)
+    (λ c κs. search needs)
     returns-3)

@@ -1,21 +1,21 @@
-use native.Mathlib.Omega.{arith}
-use borrow.Author.Needs.{needs}
+-- `value::codec::sized_exactly` meets its contract. Assumes nothing.
+use mathlib.Core.Path.{sym}
+use borrow.Author.Tests.{lt-ltb, le-ltb}
+use Rattle.value.specs.Codec.{sizedExactly}
 use Rattle.value.proofs.codec.sized_exactly.Statement.{statement}
 use Rattle.value.proofs.codec.sized_exactly.Tie as tie
-use Rattle.value.proofs.codec.sized_exactly.Reads as reads
-use Rattle.value.proofs.codec.sized_exactly.Lts as lts
 
--- src/codec.rt:119:9
 returns : tie.Need-returns
-returns c = search needs
+unfolding sizedExactly
+returns c = sym (rw (lt-ltb _ _ (c .if1 .taken)))
 
--- src/codec.rt:122:9
 returns-2 : tie.Need-returns-2
-returns-2 c = search needs
+unfolding sizedExactly
+returns-2 c = sym (rw (le-ltb _ _ (c .before .if1 .left), lt-ltb _ _ (c .if2 .taken)))
 
--- src/codec.rt:115:1
 returns-3 : tie.Need-returns-3
-returns-3 c = search needs
+unfolding sizedExactly
+returns-3 c = sym (rw (le-ltb _ _ (c .before .if1 .left), le-ltb _ _ (c .if2 .left)))
 
 pub sized-exactly-spec : {M : Type 1} → statement M
 sized-exactly-spec = tie.close (tie.spec returns returns-2 returns-3)

@@ -5,7 +5,7 @@ use denote.Ref.{now}
 use borrow.Author.Tests.{not-true, not-false, eq-eqb, ne-eqb}
 use Rattle.entry.specs.Table.{Dict, dict}
 use Rattle.lists.specs.Numbers.{number}
-use Rattle.value.specs.Codec.{exact}
+use Rattle.value.specs.Codec.{isExact, exact}
 use Rattle.entry.specs.Find.{findRow}
 use Rattle.writing.specs.Judging.{judgeOf, inObject, afterCount}
 use borrow.Author.Needs.{needs}
@@ -15,16 +15,20 @@ use Rattle.writing.proofs.judging.judge_write.Tie as tie
 abbrev D : tie.Start → Dict
 D s = dict (now (s .args .objects)) (now (s .args .slots)) (now (s .args .words)) (now (s .args .bytes))
 
-abbrev start : tie.After-is-value → tie.Start
-start c = c .before .before .before .before .before .before
+abbrev start : tie.After-is-exact → tie.Start
+start c = c .before .before .before .before .before .before .before
+
+said : (c : tie.After-is-exact) → let a = start c .args in c .is-exact .result ≡ exact (a .t) (now (a .«data»))
+unfolding exact
+said c = c .is-exact .ensures ∙ ap isExact (c .before .exactly .ensures)
 
 valued : (c : tie.Else1) → let a = start (c .before) .args in exact (a .t) (now (a .«data»)) ≡ true
-valued c = sym (c .before .is-value .ensures) ∙ not-false _ (c .if1 .left)
+valued c = sym (said (c .before)) ∙ not-false _ (c .if1 .left)
 
 returns : tie.Need-returns
 unfolding judgeOf
 returns c =
-    simp (sym (c .before .is-value .ensures) ∙ not-true _ (c .if1 .taken))
+    simp (sym (said (c .before)) ∙ not-true _ (c .if1 .taken))
 
 returns-2 : tie.Need-returns-2
 unfolding judgeOf number
@@ -67,6 +71,7 @@ pub judge-write-spec : {M : Type 1} → statement M
 judge-write-spec =
     tie.close
     (tie.spec
+    (λ c κs. search needs)
     (λ c κs. search needs)
     returns
     (λ c κs. search needs)
