@@ -2,26 +2,31 @@
 ghost use mathlib.Core.Path.{_≡_};
 ghost use mathlib.Core.Bool.{true};
 ghost use Rattle.entry.specs.Table.{dict};
+ghost use Rattle.entry.specs.Find.{findRow};
 ghost use Rattle.entry.specs.Judge.{wellFormed};
+ghost use Rattle.entry.specs.declared.Found.the-variants.{At};
 ghost use Rattle.od.specs.Read.{readOf, partIn, ofType};
 use crate::Number;
 use crate::Stored;
 use answers::Refusal;
+use entry::Found;
 use entry::Place;
 
-// The value at an index and a sub-index of a dictionary that was judged.
-pub fn read_judged(
+// The value at a sub-index of row i, which has the index.
+fn read_in(
     objects: &[u64],
     slots: &[u64],
     words: &[u64],
     bytes: &[u8],
+    i: usize,
     index: u16,
     sub: u8,
 ) -> Stored
     requires { ⌜ wellFormed (dict (now objects) (now slots) (now words) (now bytes)) ≡ true ⌝ }
+    requires { ⌜ findRow (now objects) index ≡ At i ⌝ }
     ensures { λ r. ⌜ r ≡ readOf (dict (now (objects .entry)) (now (slots .entry)) (now (words .entry)) (now (bytes .entry))) index sub ⌝ }
 {
-    match entry::locate(objects, index, sub) {
+    match entry::sub_at(objects, i, sub) {
         Place::NoObject => Stored::Refused(Refusal::ObjectNotFound),
         Place::NoSub => Stored::Refused(Refusal::SubObjectNotFound),
         Place::Count(n) => Stored::Is {
@@ -35,6 +40,24 @@ pub fn read_judged(
             start: entry::start_at(slots, p),
         },
     }
+}
+
+// The value at an index and a sub-index of a dictionary that was judged.
+pub fn read_judged(
+    objects: &[u64],
+    slots: &[u64],
+    words: &[u64],
+    bytes: &[u8],
+    index: u16,
+    sub: u8,
+) -> Stored
+    requires { ⌜ wellFormed (dict (now objects) (now slots) (now words) (now bytes)) ≡ true ⌝ }
+    ensures { λ r. ⌜ r ≡ readOf (dict (now (objects .entry)) (now (slots .entry)) (now (words .entry)) (now (bytes .entry))) index sub ⌝ }
+{
+    let Found::At(i) = entry::find(objects, index) else {
+        return Stored::Refused(Refusal::ObjectNotFound);
+    };
+    read_in(objects, slots, words, bytes, i, index, sub)
 }
 
 // The value at an index and a sub-index; a list's sub-index 0 is the count of its elements.
@@ -129,7 +152,10 @@ pub fn read_number_judged(
     requires { ⌜ wellFormed (dict (now objects) (now slots) (now words) (now bytes)) ≡ true ⌝ }
     ensures { λ r. ⌜ r ≡ ofType t (readOf (dict (now (objects .entry)) (now (slots .entry)) (now (words .entry)) (now (bytes .entry))) index sub) ⌝ }
 {
-    of_type(read_judged(objects, slots, words, bytes, index, sub), t)
+    let Found::At(i) = entry::find(objects, index) else {
+        return Number::Refused(Refusal::ObjectNotFound);
+    };
+    of_type(read_in(objects, slots, words, bytes, i, index, sub), t)
 }
 
 // The number of type t at an index and a sub-index.

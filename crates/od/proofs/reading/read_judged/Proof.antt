@@ -1,76 +1,36 @@
--- `od::reading::read_judged` meets its contract: each place is a case of `readAt`. Assumes nothing.
+-- `od::reading::read_judged` meets its contract: the row is looked up, then the place in it. Assumes nothing.
 use mathlib.Core.Path.{sym, _∙_}
 use denote.Ref.{now}
 use Rattle.entry.specs.Table.{Dict, dict}
-use Rattle.entry.proofs.ValueLaws.{rows-of, ValueFacts, element-of, element-facts}
+use Rattle.entry.proofs.ValueLaws.{rows-of}
 use Rattle.od.specs.Read.{readOf}
-use native.Mathlib.Omega.{arith}
 use borrow.Author.Needs.{needs}
 use Rattle.od.proofs.reading.read_judged.Statement.{statement}
 use Rattle.od.proofs.reading.read_judged.Tie as tie
 
-abbrev start : tie.After-locate → tie.Start
-start l = l .before .before .before .before .before
+abbrev start : tie.After-find → tie.Start
+start f = f .before .before .before .before .before
 
 abbrev D : tie.Start → Dict
 D s = dict (now (s .args .objects)) (now (s .args .slots)) (now (s .args .words)) (now (s .args .bytes))
 
--- the value that was found
-facts : (c : tie.After-p) → ValueFacts (D (start (c .before .before))) (c .p .given .0 .0)
-facts c =
-    let l = c .before .before in
-    let s = start l in
-    element-facts (D s) (s .pre) (element-of (D s) (s .pre) _ _ _ (sym (l .locate .ensures) ∙ c .p .given .1))
-
-locate-requires : tie.Need-locate-requires
-locate-requires c κs = let s = c .before .before .before .before in rows-of (D s) (s .pre)
-
-type-at-requires : tie.Need-type-at-requires
-type-at-requires c κs = let f = facts (c .before) in (f .low, f .slot)
-
-mul-t14 : tie.Need-mul-t14
-mul-t14 c = omega (arith, facts (c .before .before) .low)
-
-shared-slice-read-t16 : tie.Need-shared-slice-read-t16
-shared-slice-read-t16 c = omega (arith, facts (c .before .before .before) .word)
-
-start-at-requires : tie.Need-start-at-requires
-start-at-requires c κs = let f = facts (c .before .before .before) in (f .low, f .slot)
+find-requires : tie.Need-find-requires
+find-requires c κs = let s = c .before .before .before .before in rows-of (D s) (s .pre)
 
 returns : tie.Need-returns
 unfolding readOf
-returns c = let l = c .before .before in simp (start l .pre, sym (l .locate .ensures) ∙ c .enum-told .given .1)
+returns c = let f = c .before .before in simp (start f .pre, sym (f .find .ensures) ∙ c .enum-told .given .1)
 
-returns-2 : tie.Need-returns-2
-unfolding readOf
-returns-2 c = let l = c .before .before in simp (start l .pre, sym (l .locate .ensures) ∙ c .enum-told2 .given .1)
-
-returns-3 : tie.Need-returns-3
-unfolding readOf
-returns-3 c = let n = c .before in let l = n .before .before in simp (start l .pre, sym (l .locate .ensures) ∙ n .n .given .1)
-
-returns-4 : tie.Need-returns-4
-unfolding readOf
-returns-4 c =
-    let t = c .before .before in
-    let p = t .before .before in
-    let l = p .before .before in
-    rw (t .type-at .ensures, c .start-at .ensures) (simp (start l .pre, sym (l .locate .ensures) ∙ p .p .given .1))
+read-in-requires : tie.Need-read-in-requires
+read-in-requires c κs = let i = c .before in let f = i .before .before in (start f .pre, sym (f .find .ensures) ∙ i .i .given .1)
 
 pub read-judged-spec : {M : Type 1} → statement M
 read-judged-spec =
     tie.close
     (tie.spec
-    locate-requires
+    find-requires
     (λ c. search needs)
     (λ c. search needs)
-    (λ c. search needs)
-    (λ c. search needs)
-    type-at-requires
-    mul-t14
-    shared-slice-read-t16
-    start-at-requires
     returns
-    returns-2
-    returns-3
-    returns-4)
+    read-in-requires
+    (λ c. search needs))
