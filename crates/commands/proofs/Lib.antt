@@ -4,3 +4,4 @@ pub mod WalkLaws
 pub mod SaveLaws
 pub mod RightLaws
 pub mod TableLaws
+pub mod ListLaws

@@ -64,18 +64,18 @@ module _ (d : Dict) (first last : ℕ) where
       go false b = omega arith
 
   -- a row outside the range offers nothing
-  skip : (n i : ℕ) → covers first last (indexAt (d .objects) i) ≡ false → offeredFrom d first last (suc n) i ≡ offeredFrom d first last n (suc i)
+  pub offered-skip : (n i : ℕ) → covers first last (indexAt (d .objects) i) ≡ false → offeredFrom d first last (suc n) i ≡ offeredFrom d first last n (suc i)
   unfolding offeredFrom offers recsIn
-  skip n i e = rw e
+  offered-skip n i e = rw e
 
   -- ---- the rows of the range
   module _ {s : Span} (c : Spans (d .objects) first last s) where
     pub offered-from : offeredIn d first last ≡ offeredFrom d first last (numberOf (d .objects) - s .from) (s .from)
-    offered-from = walk-from c (offeredFrom d first last) skip
+    offered-from = walk-from c (offeredFrom d first last) offered-skip
 
     pub offered-end : (i : ℕ) → s .end ≤ i → i ≤ numberOf (d .objects) → offeredFrom d first last (numberOf (d .objects) - i) i ≡ []
     unfolding offeredFrom
-    offered-end i h k = walk-end c (offeredFrom d first last) skip i h k
+    offered-end i h k = walk-end c (offeredFrom d first last) offered-skip i h k
 
     pub offers-row : (i m : ℕ) → s .from ≤ i → i < s .end → m ≡ toStore (d .objects) i → m ≡ offers (d .objects) first last i
     unfolding offers

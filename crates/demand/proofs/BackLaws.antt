@@ -9,7 +9,7 @@ use native.Mathlib.Omega.{arith}
 use borrow.Author.Tests.{ltb-false}
 use lib.ListN.{length, getD, replicate, length-replicate}
 use Rattle.answers.specs.declared.Refusal.the-variants.{Malformed}
-use Rattle.entry.specs.Table.{Dict, countAt, typeAt}
+use Rattle.entry.specs.Table.{Dict, listCount, typeAt}
 use Rattle.entry.specs.Judge.{wellFormed}
 use Rattle.pdo_validator.specs.Counting.{endsFrom}
 use Rattle.element.specs.declared.Fault.{Fault}
@@ -48,10 +48,10 @@ named-back d i l v f =
     simp (l .well, sender-there d i (l .sent), l .found, l .list, l .some) (rw z at q)
 
 -- ---- where no payload of 1,490 bytes reaches every end, the largest end passes them: else so many zeros would reach it
-is-far : (d : Dict) (i : ℕ) (r : Reaches d i) → isFar (endsFrom (d .slots) (d .words) (countAt (d .objects) (r .listed .row)) (listStart d (r .listed .row)) 0) ≡ true
-is-far d i r = go (isFar (endsFrom (d .slots) (d .words) (countAt (d .objects) (r .listed .row)) (listStart d (r .listed .row)) 0)) refl
+is-far : (d : Dict) (i : ℕ) (r : Reaches d i) → isFar (endsFrom (d .slots) (d .words) (listCount (d .objects) (r .listed .row)) (listStart d (r .listed .row)) 0) ≡ true
+is-far d i r = go (isFar (endsFrom (d .slots) (d .words) (listCount (d .objects) (r .listed .row)) (listStart d (r .listed .row)) 0)) refl
   where
-    go : (b : Bool) → isFar (endsFrom (d .slots) (d .words) (countAt (d .objects) (r .listed .row)) (listStart d (r .listed .row)) 0) ≡ b → b ≡ true
+    go : (b : Bool) → isFar (endsFrom (d .slots) (d .words) (listCount (d .objects) (r .listed .row)) (listStart d (r .listed .row)) 0) ≡ b → b ≡ true
     go true e = refl
     go false e =
         let l = r .listed in

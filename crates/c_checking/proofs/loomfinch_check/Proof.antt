@@ -7,15 +7,6 @@ use borrow.Author.Needs.{needs}
 use Rattle.c_checking.proofs.loomfinch_check.Statement.{statement}
 use Rattle.c_checking.proofs.loomfinch_check.Tie as tie
 
-check-requires : tie.Need-check-requires
-check-requires c κs = search needs
-
-element-of-requires : tie.Need-element-of-requires
-element-of-requires c κs = search needs
-
-number-requires : tie.Need-number-requires
-number-requires c κs = search needs
-
 returns : tie.Need-returns
 returns c =
     let e = c .before in
@@ -25,4 +16,4 @@ returns c =
 
 pub loomfinch-check-spec : {M : Type 1} → statement M
 loomfinch-check-spec =
-    tie.close (tie.spec check-requires element-of-requires number-requires returns)
+    tie.close (tie.spec (λ c κs. search needs) (λ c κs. search needs) (λ c κs. search needs) returns)

@@ -11,21 +11,6 @@ use Rattle.c_checking.proofs.loomfinch_check_all.Tie as tie
 abbrev start : tie.After-check-all → tie.Start
 start u = u .before .before .before .before .before .before .before
 
-check-all-requires : tie.Need-check-all-requires
-check-all-requires c κs = search needs
-
-enum-known-n : tie.Need-enum-known-n
-enum-known-n c = search needs
-
-enum-known-r : tie.Need-enum-known-r
-enum-known-r c = search needs
-
-number-requires : tie.Need-number-requires
-number-requires c κs = search needs
-
-same-length : tie.Need-same-length
-same-length c = search needs
-
 returns : tie.Need-returns
 unfolding checkAllNumbers
 returns c =
@@ -33,9 +18,6 @@ returns c =
     let u = n .before .before .before .before in
     let m = now (start u .args .count) in
     ap (λ a. allNumbers a (u .check-all .last .1 .1 .1 .1 .0) m) (sym (n .n .given .1)) ∙ ap (λ (a : AfterCheckAll). checkAllNumbers a m) (u .check-all .ensures)
-
-same-length-2 : tie.Need-same-length-2
-same-length-2 c = search needs
 
 returns-2 : tie.Need-returns-2
 unfolding checkAllNumbers
@@ -50,11 +32,11 @@ pub loomfinch-check-all-spec : {M : Type 1} → statement M
 loomfinch-check-all-spec =
     tie.close
     (tie.spec
-    check-all-requires
-    enum-known-n
-    enum-known-r
-    number-requires
-    same-length
+    (λ c κs. search needs)
+    (λ c. search needs)
+    (λ c. search needs)
+    (λ c κs. search needs)
+    (λ c. search needs)
     returns
-    same-length-2
+    (λ c. search needs)
     returns-2)

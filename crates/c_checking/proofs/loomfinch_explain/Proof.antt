@@ -26,15 +26,6 @@ ns r = now (start r .args .numbers)
 told : (r : tie.After-explain) → let a = start r .args in explainNumbers (r .explain .result) (ns r) ≡ explainNumbers (explainOf (dict (now (a .objects)) (now (a .slots)) (now (a .words)) (now (a .bytes))) (a .channel) (a .element)) (ns r)
 told r = ap (λ (e : Explained). explainNumbers e (ns r)) (r .explain .ensures)
 
-explain-requires : tie.Need-explain-requires
-explain-requires c κs = search needs
-
-enum-known-e : tie.Need-enum-known-e
-enum-known-e c = search needs
-
-number-requires : tie.Need-number-requires
-number-requires c κs = search needs
-
 returns : tie.Need-returns
 unfolding explainNumbers
 returns c =
@@ -49,17 +40,8 @@ returns-2 c =
     let e = r .explain .result in
     sym (results-short (explainedNumbers e) (ns r) (omega (arith, length-explained e, c .if1 .taken))) ∙ explained e (ns r) (m .match .keys2) ∙ told r
 
-explained-numbers-requires : tie.Need-explained-numbers-requires
-explained-numbers-requires c κs = search needs
-
-slice-aggregate-lay-words : tie.Need-slice-aggregate-lay-words
-slice-aggregate-lay-words c = search needs
-
 lay-words-requires : tie.Need-lay-words-requires
 lay-words-requires c κs = search needs
-
-same-length : tie.Need-same-length
-same-length c = search needs
 
 returns-3 : tie.Need-returns-3
 returns-3 c =
@@ -74,13 +56,13 @@ pub loomfinch-explain-spec : {M : Type 1} → statement M
 loomfinch-explain-spec =
     tie.close
     (tie.spec
-    explain-requires
-    enum-known-e
-    number-requires
+    (λ c κs. search needs)
+    (λ c. search needs)
+    (λ c κs. search needs)
     returns
     returns-2
-    explained-numbers-requires
-    slice-aggregate-lay-words
+    (λ c κs. search needs)
+    (λ c. search needs)
     lay-words-requires
-    same-length
+    (λ c. search needs)
     returns-3)

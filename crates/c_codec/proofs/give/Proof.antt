@@ -21,18 +21,6 @@ returns c =
     let a = c .before .before .args in
     sym (results-short (wordOf (a .v) ∷ fieldsOf (a .v)) (now (a .numbers)) (omega (arith, length-fields (a .v))))
 
-fields-requires : tie.Need-fields-requires
-fields-requires c κs = search needs
-
-to-word-requires : tie.Need-to-word-requires
-to-word-requires c κs = search needs
-
-slice-write-numbers : tie.Need-slice-write-numbers
-slice-write-numbers c = search needs
-
-slice-aggregate-lay-words : tie.Need-slice-aggregate-lay-words
-slice-aggregate-lay-words c = search needs
-
 lay-words-requires : tie.Need-lay-words-requires
 lay-words-requires c κs =
     let f = c .before .before .before in
@@ -60,10 +48,10 @@ give-spec =
     tie.close
     (tie.spec
     returns
-    fields-requires
-    to-word-requires
-    slice-write-numbers
-    slice-aggregate-lay-words
+    (λ c κs. search needs)
+    (λ c κs. search needs)
+    (λ c. search needs)
+    (λ c. search needs)
     lay-words-requires
     same-length
     returns-2)

@@ -8,27 +8,6 @@ use borrow.Author.Needs.{needs}
 use Rattle.c_codec.proofs.loomfinch_decode.Statement.{statement}
 use Rattle.c_codec.proofs.loomfinch_decode.Tie as tie
 
-decode-requires : tie.Need-decode-requires
-decode-requires c κs = search needs
-
-enum-told : tie.Need-enum-told
-enum-told c = search needs
-
-enum-known-f : tie.Need-enum-known-f
-enum-known-f c = search needs
-
-refusal-requires : tie.Need-refusal-requires
-refusal-requires c κs = search needs
-
-number-requires : tie.Need-number-requires
-number-requires c κs = search needs
-
-enum-known-v : tie.Need-enum-known-v
-enum-known-v c = search needs
-
-give-requires : tie.Need-give-requires
-give-requires c κs = search needs
-
 returns : tie.Need-returns
 unfolding decodeNumbers
 returns c =
@@ -44,9 +23,6 @@ returns-2 c =
     ap (λ n. lent n ns) (c .number .ensures ∙ ap refusalNumber (c .before .refusal .ensures))
     ∙ ap (λ a. decodedNumbers a ns) (sym (f .f .given .1) ∙ d .decode .ensures)
 
-same-length : tie.Need-same-length
-same-length c = search needs
-
 returns-3 : tie.Need-returns-3
 unfolding decodeNumbers
 returns-3 c =
@@ -60,14 +36,14 @@ pub loomfinch-decode-spec : {M : Type 1} → statement M
 loomfinch-decode-spec =
     tie.close
     (tie.spec
-    decode-requires
-    enum-told
-    enum-known-f
-    refusal-requires
-    number-requires
-    enum-known-v
-    give-requires
+    (λ c κs. search needs)
+    (λ c. search needs)
+    (λ c. search needs)
+    (λ c κs. search needs)
+    (λ c κs. search needs)
+    (λ c. search needs)
+    (λ c κs. search needs)
     returns
     returns-2
-    same-length
+    (λ c. search needs)
     returns-3)

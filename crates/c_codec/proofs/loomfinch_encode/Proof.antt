@@ -8,21 +8,6 @@ use borrow.Author.Needs.{needs}
 use Rattle.c_codec.proofs.loomfinch_encode.Statement.{statement}
 use Rattle.c_codec.proofs.loomfinch_encode.Tie as tie
 
-encode-word-requires : tie.Need-encode-word-requires
-encode-word-requires c κs = search needs
-
-enum-known-n : tie.Need-enum-known-n
-enum-known-n c = search needs
-
-enum-known-r : tie.Need-enum-known-r
-enum-known-r c = search needs
-
-number-requires : tie.Need-number-requires
-number-requires c κs = search needs
-
-same-length : tie.Need-same-length
-same-length c = search needs
-
 returns : tie.Need-returns
 unfolding encodeNumbers
 returns c =
@@ -31,9 +16,6 @@ returns c =
     let m = now (e .before .before .before .before .args .written) in
     ap (λ r. encodedNumbers r (e .encode-word .last .1 .1 .1 .0) m) (sym (n .n .given .1))
     ∙ ap (λ (a : AfterEncode). encodedNumbers (a .answer) (a .out) m) (e .encode-word .ensures)
-
-same-length-2 : tie.Need-same-length-2
-same-length-2 c = search needs
 
 returns-2 : tie.Need-returns-2
 unfolding encodeNumbers
@@ -50,11 +32,11 @@ pub loomfinch-encode-spec : {M : Type 1} → statement M
 loomfinch-encode-spec =
     tie.close
     (tie.spec
-    encode-word-requires
-    enum-known-n
-    enum-known-r
-    number-requires
-    same-length
+    (λ c κs. search needs)
+    (λ c. search needs)
+    (λ c. search needs)
+    (λ c κs. search needs)
+    (λ c. search needs)
     returns
-    same-length-2
+    (λ c. search needs)
     returns-2)

@@ -13,17 +13,8 @@ returns : tie.Need-returns
 unfolding entryNumbers
 returns c = simp (lt-ltb _ _ (c .if1 .taken))
 
-entry-numbers-requires : tie.Need-entry-numbers-requires
-entry-numbers-requires c κs = search needs
-
-slice-aggregate-lay-words : tie.Need-slice-aggregate-lay-words
-slice-aggregate-lay-words c = search needs
-
 lay-words-requires : tie.Need-lay-words-requires
 lay-words-requires c κs = search needs
-
-same-length : tie.Need-same-length
-same-length c = search needs
 
 returns-2 : tie.Need-returns-2
 unfolding entryNumbers
@@ -38,8 +29,8 @@ loomfinch-from-u64-spec =
     tie.close
     (tie.spec
     returns
-    entry-numbers-requires
-    slice-aggregate-lay-words
+    (λ c κs. search needs)
+    (λ c. search needs)
     lay-words-requires
-    same-length
+    (λ c. search needs)
     returns-2)

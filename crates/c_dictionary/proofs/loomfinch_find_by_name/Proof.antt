@@ -7,21 +7,6 @@ use borrow.Author.Needs.{needs}
 use Rattle.c_dictionary.proofs.loomfinch_find_by_name.Statement.{statement}
 use Rattle.c_dictionary.proofs.loomfinch_find_by_name.Tie as tie
 
-find-by-name-requires : tie.Need-find-by-name-requires
-find-by-name-requires c κs = search needs
-
-enum-known-x : tie.Need-enum-known-x
-enum-known-x c = search needs
-
-cast-index : tie.Need-cast-index
-cast-index c = search needs
-
-enum-known-r : tie.Need-enum-known-r
-enum-known-r c = search needs
-
-number-requires : tie.Need-number-requires
-number-requires c κs = search needs
-
 returns : tie.Need-returns
 unfolding namedTold
 returns c =
@@ -41,10 +26,10 @@ pub loomfinch-find-by-name-spec : {M : Type 1} → statement M
 loomfinch-find-by-name-spec =
     tie.close
     (tie.spec
-    find-by-name-requires
-    enum-known-x
-    cast-index
-    enum-known-r
-    number-requires
+    (λ c κs. search needs)
+    (λ c. search needs)
+    (λ c. search needs)
+    (λ c. search needs)
+    (λ c κs. search needs)
     returns
     returns-2)

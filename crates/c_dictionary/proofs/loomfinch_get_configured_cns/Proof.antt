@@ -8,21 +8,6 @@ use borrow.Author.Needs.{needs}
 use Rattle.c_dictionary.proofs.loomfinch_get_configured_cns.Statement.{statement}
 use Rattle.c_dictionary.proofs.loomfinch_get_configured_cns.Tie as tie
 
-get-configured-cns-requires : tie.Need-get-configured-cns-requires
-get-configured-cns-requires c κs = search needs
-
-enum-known-n : tie.Need-enum-known-n
-enum-known-n c = search needs
-
-enum-known-r : tie.Need-enum-known-r
-enum-known-r c = search needs
-
-number-requires : tie.Need-number-requires
-number-requires c κs = search needs
-
-same-length : tie.Need-same-length
-same-length c = search needs
-
 returns : tie.Need-returns
 unfolding nodeNumbers
 returns c =
@@ -31,9 +16,6 @@ returns c =
     let m = now (g .before .before .before .before .before .before .before .args .count) in
     ap (λ a. listedNumbers a (g .get-configured-cns .last .1 .1 .1 .1 .0) m) (sym (n .n .given .1))
     ∙ ap (λ (a : AfterListing). listedNumbers (a .answer) (a .out) m) (g .get-configured-cns .ensures)
-
-same-length-2 : tie.Need-same-length-2
-same-length-2 c = search needs
 
 returns-2 : tie.Need-returns-2
 unfolding nodeNumbers
@@ -50,11 +32,11 @@ pub loomfinch-get-configured-cns-spec : {M : Type 1} → statement M
 loomfinch-get-configured-cns-spec =
     tie.close
     (tie.spec
-    get-configured-cns-requires
-    enum-known-n
-    enum-known-r
-    number-requires
-    same-length
+    (λ c κs. search needs)
+    (λ c. search needs)
+    (λ c. search needs)
+    (λ c κs. search needs)
+    (λ c. search needs)
     returns
-    same-length-2
+    (λ c. search needs)
     returns-2)

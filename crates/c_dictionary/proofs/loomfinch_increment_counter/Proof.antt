@@ -6,15 +6,6 @@ use borrow.Author.Needs.{needs}
 use Rattle.c_dictionary.proofs.loomfinch_increment_counter.Statement.{statement}
 use Rattle.c_dictionary.proofs.loomfinch_increment_counter.Tie as tie
 
-increment-counter-requires : tie.Need-increment-counter-requires
-increment-counter-requires c κs = search needs
-
-number-of-requires : tie.Need-number-of-requires
-number-of-requires c κs = search needs
-
-same-length : tie.Need-same-length
-same-length c = search needs
-
 returns : tie.Need-returns
 returns c =
     let n = c .before .before .before in
@@ -22,4 +13,4 @@ returns c =
 
 pub loomfinch-increment-counter-spec : {M : Type 1} → statement M
 loomfinch-increment-counter-spec =
-    tie.close (tie.spec increment-counter-requires number-of-requires same-length returns)
+    tie.close (tie.spec (λ c κs. search needs) (λ c κs. search needs) (λ c. search needs) returns)

@@ -5,24 +5,6 @@ use borrow.Author.Needs.{needs}
 use Rattle.c_dictionary.proofs.loomfinch_insert.Statement.{statement}
 use Rattle.c_dictionary.proofs.loomfinch_insert.Tie as tie
 
-insert-requires : tie.Need-insert-requires
-insert-requires c κs = search needs
-
-inserted-requires : tie.Need-inserted-requires
-inserted-requires c κs = search needs
-
-same-length : tie.Need-same-length
-same-length c = search needs
-
-same-length-2 : tie.Need-same-length-2
-same-length-2 c = search needs
-
-same-length-3 : tie.Need-same-length-3
-same-length-3 c = search needs
-
-same-length-4 : tie.Need-same-length-4
-same-length-4 c = search needs
-
 returns : tie.Need-returns
 returns c =
     let i = c .before .before .before .before .before .before .before .before .before in
@@ -32,10 +14,10 @@ pub loomfinch-insert-spec : {M : Type 1} → statement M
 loomfinch-insert-spec =
     tie.close
     (tie.spec
-    insert-requires
-    inserted-requires
-    same-length
-    same-length-2
-    same-length-3
-    same-length-4
+    (λ c κs. search needs)
+    (λ c κs. search needs)
+    (λ c. search needs)
+    (λ c. search needs)
+    (λ c. search needs)
+    (λ c. search needs)
     returns)

@@ -6,19 +6,10 @@ use borrow.Author.Needs.{needs}
 use Rattle.c_dictionary.proofs.loomfinch_new.Statement.{statement}
 use Rattle.c_dictionary.proofs.loomfinch_new.Tie as tie
 
-new-requires : tie.Need-new-requires
-new-requires c κs = search needs
-
-number-of-requires : tie.Need-number-of-requires
-number-of-requires c κs = search needs
-
-same-length : tie.Need-same-length
-same-length c = search needs
-
 returns : tie.Need-returns
 returns c =
     let n = c .before .before .before in
     (c .number-of .ensures ∙ ap (λ (a : Made). answerNumber (a .answer)) (n .new .ensures), ap (λ (a : Made). a .objects) (n .new .ensures))
 
 pub loomfinch-new-spec : {M : Type 1} → statement M
-loomfinch-new-spec = tie.close (tie.spec new-requires number-of-requires same-length returns)
+loomfinch-new-spec = tie.close (tie.spec (λ c κs. search needs) (λ c κs. search needs) (λ c. search needs) returns)

@@ -9,12 +9,6 @@ use borrow.Author.Needs.{needs}
 use Rattle.c_dictionary.proofs.loomfinch_read.Statement.{statement}
 use Rattle.c_dictionary.proofs.loomfinch_read.Tie as tie
 
-read-requires : tie.Need-read-requires
-read-requires c κs = search needs
-
-enum-known-value-type : tie.Need-enum-known-value-type
-enum-known-value-type c = search needs
-
 returns : tie.Need-returns
 unfolding readNumbers
 returns c =
@@ -23,21 +17,6 @@ returns c =
     let r = k .before .before in
     let ns = now (r .before .before .before .before .before .before .args .numbers) in
     sym (results-short (v .0 ∷ v .1 .0 ∷ v .1 .1 .0 ∷ []) ns (c .if1 .taken)) ∙ ap (λ a. storedNumbers a ns) (sym (k .value-type .given .1) ∙ r .read .ensures)
-
-slice-aggregate-lay-words : tie.Need-slice-aggregate-lay-words
-slice-aggregate-lay-words c = search needs
-
-lay-words-requires : tie.Need-lay-words-requires
-lay-words-requires c κs = search needs
-
-enum-known-r : tie.Need-enum-known-r
-enum-known-r c = search needs
-
-number-requires : tie.Need-number-requires
-number-requires c κs = search needs
-
-same-length : tie.Need-same-length
-same-length c = search needs
 
 returns-2 : tie.Need-returns-2
 unfolding readNumbers
@@ -62,13 +41,13 @@ pub loomfinch-read-spec : {M : Type 1} → statement M
 loomfinch-read-spec =
     tie.close
     (tie.spec
-    read-requires
-    enum-known-value-type
+    (λ c κs. search needs)
+    (λ c. search needs)
     returns
-    slice-aggregate-lay-words
-    lay-words-requires
-    enum-known-r
-    number-requires
-    same-length
+    (λ c. search needs)
+    (λ c κs. search needs)
+    (λ c. search needs)
+    (λ c κs. search needs)
+    (λ c. search needs)
     returns-2
     returns-3)

@@ -7,18 +7,6 @@ use borrow.Author.Needs.{needs}
 use Rattle.c_dictionary.proofs.typed.Statement.{statement}
 use Rattle.c_dictionary.proofs.typed.Tie as tie
 
-read-number-requires : tie.Need-read-number-requires
-read-number-requires c κs = search needs
-
-enum-known-w : tie.Need-enum-known-w
-enum-known-w c = search needs
-
-enum-known-r : tie.Need-enum-known-r
-enum-known-r c = search needs
-
-number-requires : tie.Need-number-requires
-number-requires c κs = search needs
-
 returns : tie.Need-returns
 unfolding typedTold
 returns c =
@@ -37,4 +25,4 @@ returns-2 c =
 pub typed-spec : {M : Type 1} → statement M
 typed-spec =
     tie.close
-    (tie.spec read-number-requires enum-known-w enum-known-r number-requires returns returns-2)
+    (tie.spec (λ c κs. search needs) (λ c. search needs) (λ c. search needs) (λ c κs. search needs) returns returns-2)

@@ -7,15 +7,6 @@ use borrow.Author.Needs.{needs}
 use Rattle.c_receiving.proofs.consumed.Statement.{statement}
 use Rattle.c_receiving.proofs.consumed.Tie as tie
 
-enum-known-a : tie.Need-enum-known-a
-enum-known-a c = search needs
-
-enum-known-a-2 : tie.Need-enum-known-a-2
-enum-known-a-2 c = search needs
-
-number-requires : tie.Need-number-requires
-number-requires c κs = search needs
-
 returns : tie.Need-returns
 returns c = search needs
 
@@ -26,4 +17,4 @@ returns-2 c =
     ap (λ n. told n m) (c .number .ensures) ∙ ap (λ a. consumedTold a m) (sym (r .a2 .given .1))
 
 pub consumed-spec : {M : Type 1} → statement M
-consumed-spec = tie.close (tie.spec enum-known-a enum-known-a-2 number-requires returns returns-2)
+consumed-spec = tie.close (tie.spec (λ c. search needs) (λ c. search needs) (λ c κs. search needs) returns returns-2)

@@ -8,21 +8,6 @@ use borrow.Author.Needs.{needs}
 use Rattle.c_receiving.proofs.loomfinch_consume_cycle.Statement.{statement}
 use Rattle.c_receiving.proofs.loomfinch_consume_cycle.Tie as tie
 
-consume-cycle-requires : tie.Need-consume-cycle-requires
-consume-cycle-requires c κs = search needs
-
-cycled-requires : tie.Need-cycled-requires
-cycled-requires c κs = search needs
-
-same-length : tie.Need-same-length
-same-length c = search needs
-
-same-length-2 : tie.Need-same-length-2
-same-length-2 c = search needs
-
-same-length-3 : tie.Need-same-length-3
-same-length-3 c = search needs
-
 returns : tie.Need-returns
 unfolding cycleNumbers
 returns c =
@@ -36,9 +21,9 @@ pub loomfinch-consume-cycle-spec : {M : Type 1} → statement M
 loomfinch-consume-cycle-spec =
     tie.close
     (tie.spec
-    consume-cycle-requires
-    cycled-requires
-    same-length
-    same-length-2
-    same-length-3
+    (λ c κs. search needs)
+    (λ c κs. search needs)
+    (λ c. search needs)
+    (λ c. search needs)
+    (λ c. search needs)
     returns)

@@ -9,21 +9,6 @@ use borrow.Author.Needs.{needs}
 use Rattle.c_receiving.proofs.loomfinch_consume_pdo_payload.Statement.{statement}
 use Rattle.c_receiving.proofs.loomfinch_consume_pdo_payload.Tie as tie
 
-consume-logged-requires : tie.Need-consume-logged-requires
-consume-logged-requires c κs = search needs
-
-consumed-requires : tie.Need-consumed-requires
-consumed-requires c κs = search needs
-
-same-length : tie.Need-same-length
-same-length c = search needs
-
-same-length-2 : tie.Need-same-length-2
-same-length-2 c = search needs
-
-same-length-3 : tie.Need-same-length-3
-same-length-3 c = search needs
-
 returns : tie.Need-returns
 unfolding consumeNumbers
 returns c =
@@ -37,9 +22,9 @@ pub loomfinch-consume-pdo-payload-spec : {M : Type 1} → statement M
 loomfinch-consume-pdo-payload-spec =
     tie.close
     (tie.spec
-    consume-logged-requires
-    consumed-requires
-    same-length
-    same-length-2
-    same-length-3
+    (λ c κs. search needs)
+    (λ c κs. search needs)
+    (λ c. search needs)
+    (λ c. search needs)
+    (λ c. search needs)
     returns)

@@ -8,15 +8,6 @@ use Rattle.c_receiving.proofs.loomfinch_update_pdo_error_object.Stateme
 }
 use Rattle.c_receiving.proofs.loomfinch_update_pdo_error_object.Tie as tie
 
-update-pdo-error-object-requires : tie.Need-update-pdo-error-object-requires
-update-pdo-error-object-requires c κs = search needs
-
-number-of-requires : tie.Need-number-of-requires
-number-of-requires c κs = search needs
-
-same-length : tie.Need-same-length
-same-length c = search needs
-
 returns : tie.Need-returns
 returns c =
     let e = c .before .before .before .update-pdo-error-object .ensures in
@@ -24,4 +15,4 @@ returns c =
 
 pub loomfinch-update-pdo-error-object-spec : {M : Type 1} → statement M
 loomfinch-update-pdo-error-object-spec =
-    tie.close (tie.spec update-pdo-error-object-requires number-of-requires same-length returns)
+    tie.close (tie.spec (λ c κs. search needs) (λ c κs. search needs) (λ c. search needs) returns)

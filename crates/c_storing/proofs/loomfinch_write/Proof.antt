@@ -6,21 +6,6 @@ use borrow.Author.Needs.{needs}
 use Rattle.c_storing.proofs.loomfinch_write.Statement.{statement}
 use Rattle.c_storing.proofs.loomfinch_write.Tie as tie
 
-write-requires : tie.Need-write-requires
-write-requires c κs = search needs
-
-wrote-requires : tie.Need-wrote-requires
-wrote-requires c κs = search needs
-
-same-length : tie.Need-same-length
-same-length c = search needs
-
-same-length-2 : tie.Need-same-length-2
-same-length-2 c = search needs
-
-same-length-3 : tie.Need-same-length-3
-same-length-3 c = search needs
-
 returns : tie.Need-returns
 returns c =
     let e = c .before .before .before .before .before .before .before .write .ensures in
@@ -29,4 +14,4 @@ returns c =
 pub loomfinch-write-spec : {M : Type 1} → statement M
 loomfinch-write-spec =
     tie.close
-    (tie.spec write-requires wrote-requires same-length same-length-2 same-length-3 returns)
+    (tie.spec (λ c κs. search needs) (λ c κs. search needs) (λ c. search needs) (λ c. search needs) (λ c. search needs) returns)

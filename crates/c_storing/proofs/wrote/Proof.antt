@@ -5,18 +5,6 @@ use borrow.Author.Needs.{needs}
 use Rattle.c_storing.proofs.wrote.Statement.{statement}
 use Rattle.c_storing.proofs.wrote.Tie as tie
 
-enum-told : tie.Need-enum-told
-enum-told c = search needs
-
-enum-told-2 : tie.Need-enum-told-2
-enum-told-2 c = search needs
-
-enum-known-a : tie.Need-enum-known-a
-enum-known-a c = search needs
-
-number-requires : tie.Need-number-requires
-number-requires c κs = search needs
-
 returns : tie.Need-returns
 returns c = search needs
 
@@ -30,4 +18,4 @@ returns-3 c =
 pub wrote-spec : {M : Type 1} → statement M
 wrote-spec =
     tie.close
-    (tie.spec enum-told enum-told-2 enum-known-a number-requires returns returns-2 returns-3)
+    (tie.spec (λ c. search needs) (λ c. search needs) (λ c. search needs) (λ c κs. search needs) returns returns-2 returns-3)

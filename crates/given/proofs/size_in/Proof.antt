@@ -9,26 +9,14 @@ use borrow.Author.Needs.{needs}
 use Rattle.given.proofs.size_in.Statement.{statement}
 use Rattle.given.proofs.size_in.Tie as tie
 
-mul-m : tie.Need-mul-m
-mul-m c = search needs
-
 returns : tie.Need-returns
 returns c = sym (size-judged _ _ _ _ ∙ simp (ne-eqb _ _ (c .if1 .taken)))
 
 returns-2 : tie.Need-returns-2
 returns-2 c = sym (size-judged _ _ _ _ ∙ simp (eq-eqb _ _ (c .before .if1 .left), lt-leb _ _ (c .if2 .taken)))
 
-cast-index : tie.Need-cast-index
-cast-index c = search needs
-
-head-ok-requires : tie.Need-head-ok-requires
-head-ok-requires c κs = search needs
-
 returns-3 : tie.Need-returns-3
 returns-3 c = sym (size-judged _ _ _ _ ∙ simp (eq-eqb _ _ (c .before .before .before .before .if1 .left), le-leb _ _ (c .before .before .before .if2 .left), sym (c .before .head-ok .ensures) ∙ not-true _ (c .if3 .taken)))
-
-is-good-requires : tie.Need-is-good-requires
-is-good-requires c κs = search needs
 
 returns-4 : tie.Need-returns-4
 returns-4 c = sym (size-judged _ _ _ _ ∙ simp (eq-eqb _ _ (c .before .before .before .before .before .before .if1 .left), le-leb _ _ (c .before .before .before .before .before .if2 .left), sym (c .before .before .before .head-ok .ensures) ∙ not-false _ (c .before .before .if3 .left), sym (rw take-length at (c .before .is-good .ensures)) ∙ not-true _ (c .if4 .taken)))
@@ -45,13 +33,13 @@ pub size-in-spec : {M : Type 1} → statement M
 size-in-spec =
     tie.close
     (tie.spec
-    mul-m
+    (λ c. search needs)
     returns
     returns-2
-    cast-index
-    head-ok-requires
+    (λ c. search needs)
+    (λ c κs. search needs)
     returns-3
-    is-good-requires
+    (λ c κs. search needs)
     returns-4
     vals-in-requires
     returns-5)

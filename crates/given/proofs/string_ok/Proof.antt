@@ -26,29 +26,8 @@ means s =
 told : (s : tie.Start) (r : Word) → let a = s .args in r ≡ wordAt (a .t) (take (a .start + a .len - a .start) (drop (a .start) (a .s .now))) → takes r ≡ takes (textWord (a .t) (take (a .len) (drop (a .start) (a .s .now))))
 told s r e = let a = s .args in ap takes e ∙ text-word (a .t) (a .start + a .len - a .start) (a .len) (drop (a .start) (a .s .now)) (s .pre .1) (omega arith)
 
-add-end : tie.Need-add-end
-add-end c = search needs
-
 returns : tie.Need-returns
 returns c = sym (means (c .before .before) ∙ rw (lt-leb _ _ (c .if1 .taken)))
-
-sub-decode-word : tie.Need-sub-decode-word
-sub-decode-word c = search needs
-
-part-decode-word-start : tie.Need-part-decode-word-start
-part-decode-word-start c = search needs
-
-part-decode-word-end : tie.Need-part-decode-word-end
-part-decode-word-end c = search needs
-
-decode-word-requires : tie.Need-decode-word-requires
-decode-word-requires c κs = search needs
-
-enum-told : tie.Need-enum-told
-enum-told c = search needs
-
-enum-told-2 : tie.Need-enum-told-2
-enum-told-2 c = search needs
 
 returns-2 : tie.Need-returns-2
 returns-2 c =
@@ -66,13 +45,13 @@ pub string-ok-spec : {M : Type 1} → statement M
 string-ok-spec =
     tie.close
     (tie.spec
-    add-end
+    (λ c. search needs)
     returns
-    sub-decode-word
-    part-decode-word-start
-    part-decode-word-end
-    decode-word-requires
-    enum-told
-    enum-told-2
+    (λ c. search needs)
+    (λ c. search needs)
+    (λ c. search needs)
+    (λ c κs. search needs)
+    (λ c. search needs)
+    (λ c. search needs)
     returns-2
     returns-3)

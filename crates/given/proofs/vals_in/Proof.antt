@@ -42,23 +42,8 @@ loop-holds c =
     let e : a .u - 0 ≡ a .u = omega arith in
     (omega arith, omega arith, omega (arith, c .before .before .pre), rw e)
 
-type-in-requires : tie.Need-type-in-requires Inv-loop μ-loop
-type-in-requires c κs = search needs
-
-room-in-requires : tie.Need-room-in-requires Inv-loop μ-loop
-room-in-requires c κs = search needs
-
-length-in-requires : tie.Need-length-in-requires Inv-loop μ-loop
-length-in-requires c κs = search needs
-
-sub-left : tie.Need-sub-left Inv-loop μ-loop
-sub-left c = search needs
-
 returns : tie.Need-returns Inv-loop μ-loop
 returns c = sym (step (c .before .before .before .before) ∙ simp (lt-leb _ _ (rw (c .before .length-in .ensures) at (c .if1 .taken))))
-
-value-ok-requires : tie.Need-value-ok-requires Inv-loop μ-loop
-value-ok-requires c κs = search needs
 
 returns-2 : tie.Need-returns-2 Inv-loop μ-loop
 returns-2 c = sym (step (c .before .before .before .before .before .before) ∙ simp (within (c .before .before), sym (known (c .before)) ∙ not-true _ (c .if2 .taken)))
@@ -68,12 +53,6 @@ add-t c = omega (arith, c .before .before .if1 .left, c .before .before .before 
 
 add-size : tie.Need-add-size Inv-loop μ-loop
 add-size c = omega (arith, c .before .before .before .before .before .before .before .loop .inv .2, value-room _ _ _ _ (sym (c .before .value-ok .ensures) ∙ not-false _ (c .if2 .left)), c .before .before .before .before .before .before .before .before .before .before .pre)
-
-add-j : tie.Need-add-j Inv-loop μ-loop
-add-j c = search needs
-
-loop-less : tie.Need-loop-less Inv-loop μ-loop
-loop-less c = search needs
 
 loop-again : tie.Need-loop-again Inv-loop μ-loop
 loop-again c =
@@ -100,17 +79,17 @@ vals-in-spec =
     Inv-loop
     μ-loop
     loop-holds
-    type-in-requires
-    room-in-requires
-    length-in-requires
-    sub-left
+    (λ c κs. search needs)
+    (λ c κs. search needs)
+    (λ c κs. search needs)
+    (λ c. search needs)
     returns
-    value-ok-requires
+    (λ c κs. search needs)
     returns-2
     add-t
     add-size
-    add-j
-    loop-less
+    (λ c. search needs)
+    (λ c. search needs)
     loop-again
     returns-3
     returns-4)

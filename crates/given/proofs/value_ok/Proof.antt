@@ -31,17 +31,11 @@ returns c = sym (value-big _ _ _ _ (c .if1 .taken))
 returns-2 : tie.Need-returns-2
 returns-2 c = sym (value-wide _ _ _ _ (c .if2 .taken))
 
-is-text-requires : tie.Need-is-text-requires
-is-text-requires c κs = search needs
-
 string-ok-requires : tie.Need-string-ok-requires
 string-ok-requires c κs = (c .before .before .before .before .before .pre, sym (c .before .is-text .ensures) ∙ c .if3 .taken, c .before .before .if2 .left)
 
 returns-3 : tie.Need-returns-3
 returns-3 c = search needs
-
-size-of-requires : tie.Need-size-of-requires
-size-of-requires c κs = search needs
 
 returns-4 : tie.Need-returns-4
 returns-4 c =
@@ -59,9 +53,9 @@ value-ok-spec =
     (tie.spec
     returns
     returns-2
-    is-text-requires
+    (λ c κs. search needs)
     string-ok-requires
     returns-3
-    size-of-requires
+    (λ c κs. search needs)
     returns-4
     returns-5)

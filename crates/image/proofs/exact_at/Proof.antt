@@ -8,26 +8,11 @@ use borrow.Author.Needs.{needs}
 use Rattle.image.proofs.exact_at.Statement.{statement}
 use Rattle.image.proofs.exact_at.Tie as tie
 
-type-in-requires : tie.Need-type-in-requires
-type-in-requires c κs = search needs
-
-size-at-requires : tie.Need-size-at-requires
-size-at-requires c κs = search needs
-
 add-end : tie.Need-add-end
 add-end c = omega (arith, c .size-at .ensures)
 
-sub-is-value : tie.Need-sub-is-value
-sub-is-value c = search needs
-
-part-is-value-start : tie.Need-part-is-value-start
-part-is-value-start c = search needs
-
 part-is-value-end : tie.Need-part-is-value-end
 part-is-value-end c = omega (arith, c .size-at .ensures)
-
-is-value-requires : tie.Need-is-value-requires
-is-value-requires c κs = search needs
 
 returns : tie.Need-returns
 returns c =
@@ -41,11 +26,11 @@ pub exact-at-spec : {M : Type 1} → statement M
 exact-at-spec =
     tie.close
     (tie.spec
-    type-in-requires
-    size-at-requires
+    (λ c κs. search needs)
+    (λ c κs. search needs)
     add-end
-    sub-is-value
-    part-is-value-start
+    (λ c. search needs)
+    (λ c. search needs)
     part-is-value-end
-    is-value-requires
+    (λ c κs. search needs)
     returns)

@@ -37,22 +37,10 @@ place c =
     let a = begin l .args in
     placed-true (now (a .s)) (2 + 8 * l .loop .k) (2 + 8 * a .count) (l .loop .sum) (l .loop .low) (stands c)
 
-mul-b : tie.Need-mul-b Inv-loop μ-loop
-mul-b c = search needs
-
-add-b : tie.Need-add-b Inv-loop μ-loop
-add-b c = search needs
-
 loop-holds : tie.Need-loop-holds Inv-loop μ-loop
 loop-holds c =
     let a = c .before .args in
     (omega arith, omega arith, onward-all (now (a .s)) (a .count) (2 + 8 * a .count))
-
-mul-a : tie.Need-mul-a Inv-loop μ-loop
-mul-a c = search needs
-
-add-a : tie.Need-add-a Inv-loop μ-loop
-add-a c = search needs
 
 placed-requires : tie.Need-placed-requires Inv-loop μ-loop
 placed-requires c κs =
@@ -64,9 +52,6 @@ returns c =
     let l = c .before .before .before in
     let a = begin l .args in
     sym (l .loop .inv .2 ∙ not-placed (now (a .s)) (a .count) (2 + 8 * a .count) (l .loop .k) (l .loop .sum) (l .loop .low) (c .before .before .loop-test .taken) (sym (c .before .placed .ensures) ∙ not-true _ (c .if1 .taken)))
-
-add-exact-at : tie.Need-add-exact-at Inv-loop μ-loop
-add-exact-at c = search needs
 
 exact-at-requires : tie.Need-exact-at-requires Inv-loop μ-loop
 exact-at-requires c κs =
@@ -99,12 +84,6 @@ add-low c =
     let b : Bytes (now (s .args .s)) = λ j. omega (arith, l .before .shared-slice-known .given j) in
     omega (arith, c .key-in .ensures, key-lt (now (s .args .s)) (2 + 8 * l .loop .k) b (there i))
 
-add-k : tie.Need-add-k Inv-loop μ-loop
-add-k c = search needs
-
-loop-less : tie.Need-loop-less Inv-loop μ-loop
-loop-less c = search needs
-
 loop-again : tie.Need-loop-again Inv-loop μ-loop
 loop-again c =
     let z = c .before in
@@ -130,21 +109,21 @@ heads-ok-spec =
     (tie.spec
     Inv-loop
     μ-loop
-    mul-b
-    add-b
+    (λ c. search needs)
+    (λ c. search needs)
     loop-holds
-    mul-a
-    add-a
+    (λ c. search needs)
+    (λ c. search needs)
     placed-requires
     returns
-    add-exact-at
+    (λ c. search needs)
     exact-at-requires
     returns-2
     size-at-requires
     add-sum
     key-in-requires
     add-low
-    add-k
-    loop-less
+    (λ c. search needs)
+    (λ c. search needs)
     loop-again
     returns-3)

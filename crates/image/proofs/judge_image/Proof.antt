@@ -12,19 +12,10 @@ use Rattle.image.proofs.judge_image.Tie as tie
 returns : tie.Need-returns
 returns c = sym (no-count (now (c .before .before .args .store)) (c .if1 .taken))
 
-number-requires : tie.Need-number-requires
-number-requires c κs = search needs
-
 returns-2 : tie.Need-returns-2
 returns-2 c =
     let n = c .before in
     sym (many (now (n .before .before .before .args .store)) (omega (arith, n .number .ensures, c .if2 .taken)))
-
-mul-if3 : tie.Need-mul-if3
-mul-if3 c = search needs
-
-add-if3 : tie.Need-add-if3
-add-if3 c = search needs
 
 returns-3 : tie.Need-returns-3
 returns-3 c =
@@ -46,10 +37,10 @@ judge-image-spec =
     tie.close
     (tie.spec
     returns
-    number-requires
+    (λ c κs. search needs)
     returns-2
-    mul-if3
-    add-if3
+    (λ c. search needs)
+    (λ c. search needs)
     returns-3
     heads-ok-requires
     returns-4)

@@ -19,15 +19,6 @@ small c =
       omega (arith, c .number2 .ensures, part-lt (now (s .args .s)) (s .args .a + 2) 1 (omega arith) b),
     )
 
-number-requires : tie.Need-number-requires
-number-requires c κs = search needs
-
-add-number : tie.Need-add-number
-add-number c = search needs
-
-number-requires-2 : tie.Need-number-requires-2
-number-requires-2 c κs = search needs
-
 mul-result : tie.Need-mul-result
 mul-result c = omega (arith, small c .0)
 
@@ -39,4 +30,4 @@ returns c = ap₂ keyOf (c .before .number .ensures) (c .number2 .ensures)
 
 pub key-in-spec : {M : Type 1} → statement M
 key-in-spec =
-    tie.close (tie.spec number-requires add-number number-requires-2 mul-result add-result returns)
+    tie.close (tie.spec (λ c κs. search needs) (λ c. search needs) (λ c κs. search needs) mul-result add-result returns)

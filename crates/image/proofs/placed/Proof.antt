@@ -15,15 +15,6 @@ small c =
     let s = k .before in
     omega (arith, c .size-at .ensures, part-lt (now (s .args .s)) (s .args .a + 6) 2 (omega arith) (λ i. omega (arith, k .shared-slice-known .given i)))
 
-key-in-requires : tie.Need-key-in-requires
-key-in-requires c κs = search needs
-
-start-in-requires : tie.Need-start-in-requires
-start-in-requires c κs = search needs
-
-size-at-requires : tie.Need-size-at-requires
-size-at-requires c κs = search needs
-
 add-end : tie.Need-add-end
 add-end c = omega (arith, small c)
 
@@ -41,9 +32,9 @@ pub placed-spec : {M : Type 1} → statement M
 placed-spec =
     tie.close
     (tie.spec
-    key-in-requires
-    start-in-requires
-    size-at-requires
+    (λ c κs. search needs)
+    (λ c κs. search needs)
+    (λ c κs. search needs)
     add-end
     add-result
     returns)

@@ -6,12 +6,6 @@ use borrow.Author.Needs.{needs}
 use Rattle.insertion.proofs.occupied.Statement.{statement}
 use Rattle.insertion.proofs.occupied.Tie as tie
 
-number-of-requires : tie.Need-number-of-requires
-number-of-requires c κs = search needs
-
-index-at-requires : tie.Need-index-at-requires
-index-at-requires c κs = search needs
-
 returns : tie.Need-returns
 returns c = rw (lt-ltb _ _ (rw (c .before .before .number-of .ensures) at (c .before .if1 .taken))) (ap (λ n. eqb n (c .before .before .before .before .args .x)) (c .index-at .ensures))
 
@@ -19,4 +13,4 @@ returns-2 : tie.Need-returns-2
 returns-2 c = rw (le-ltb _ _ (rw (c .before .number-of .ensures) at (c .if1 .left)))
 
 pub occupied-spec : {M : Type 1} → statement M
-occupied-spec = tie.close (tie.spec number-of-requires index-at-requires returns returns-2)
+occupied-spec = tie.close (tie.spec (λ c κs. search needs) (λ c κs. search needs) returns returns-2)

@@ -9,13 +9,10 @@ use Rattle.insertion.proofs.IndexLaws.{place-lower}
 use Rattle.insertion.proofs.place.Statement.{statement}
 use Rattle.insertion.proofs.place.Tie as tie
 
-lower-requires : tie.Need-lower-requires
-lower-requires c κs = search needs
-
 returns : tie.Need-returns
 returns c =
     let a = c .before .before .args in
     sym (place-lower (now (a .objects)) (a .x) (c .lower .result) (c .lower .ensures) (numberOf (now (a .objects))) 0 (zero-add (numberOf (now (a .objects)))) zero-le)
 
 pub place-spec : {M : Type 1} → statement M
-place-spec = tie.close (tie.spec lower-requires returns)
+place-spec = tie.close (tie.spec (λ c κs. search needs) returns)

@@ -10,21 +10,9 @@ use Rattle.judge.proofs.header_ok.Tie as tie
 returns : tie.Need-returns
 returns c = sym (header-short _ (c .if1 .taken))
 
-number-of-requires : tie.Need-number-of-requires
-number-of-requires c κs = search needs
-
-values-of-requires : tie.Need-values-of-requires
-values-of-requires c κs = search needs
-
-used-of-requires : tie.Need-used-of-requires
-used-of-requires c κs = search needs
-
 returns-2 : tie.Need-returns-2
 unfolding headerOk
 returns-2 c = simp (lt-leb _ _ (rw (c .before .before .before .number-of .ensures) at (c .if2 .taken)))
-
-row-requires : tie.Need-row-requires
-row-requires c κs = search needs
 
 returns-3 : tie.Need-returns-3
 unfolding headerOk
@@ -38,12 +26,6 @@ returns-4 c =
     let u = c .before .before .before .before in
     let n = u .before .before .number-of .ensures in
     simp (le-leb _ _ (rw n at (c .before .before .before .if2 .left)), le-leb _ _ (rw (c .before .before .row .ensures, n) at (c .before .if3 .left)), lt-leb _ _ (rw (u .before .values-of .ensures) at (c .if4 .taken)))
-
-slot-requires : tie.Need-slot-requires
-slot-requires c κs = search needs
-
-reserved-requires : tie.Need-reserved-requires
-reserved-requires c κs = search needs
 
 returns-5 : tie.Need-returns-5
 returns-5 c =
@@ -59,13 +41,13 @@ header-ok-spec =
     tie.close
     (tie.spec
     returns
-    number-of-requires
-    values-of-requires
-    used-of-requires
+    (λ c κs. search needs)
+    (λ c κs. search needs)
+    (λ c κs. search needs)
     returns-2
-    row-requires
+    (λ c κs. search needs)
     returns-3
     returns-4
-    slot-requires
-    reserved-requires
+    (λ c κs. search needs)
+    (λ c κs. search needs)
     returns-5)

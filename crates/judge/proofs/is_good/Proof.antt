@@ -5,15 +5,6 @@ use borrow.Author.Needs.{needs}
 use Rattle.judge.proofs.is_good.Statement.{statement}
 use Rattle.judge.proofs.is_good.Tie as tie
 
-part-ok-requires : tie.Need-part-ok-requires
-part-ok-requires c κs = search needs
-
-enum-told : tie.Need-enum-told
-enum-told c = search needs
-
-enum-told-2 : tie.Need-enum-told-2
-enum-told-2 c = search needs
-
 returns : tie.Need-returns
 returns c = ap isGood (sym (c .enum-told .given .1) ∙ c .before .before .part-ok .ensures)
 
@@ -21,4 +12,4 @@ returns-2 : tie.Need-returns-2
 returns-2 c = ap isGood (sym (c .enum-told2 .given .1) ∙ c .before .before .part-ok .ensures)
 
 pub is-good-spec : {M : Type 1} → statement M
-is-good-spec = tie.close (tie.spec part-ok-requires enum-told enum-told-2 returns returns-2)
+is-good-spec = tie.close (tie.spec (λ c κs. search needs) (λ c. search needs) (λ c. search needs) returns returns-2)

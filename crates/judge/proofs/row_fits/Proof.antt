@@ -24,21 +24,6 @@ placed c =
     let s = a .objects .now in
     behind (countAt s (a .i) + defaultAt s (a .i)) (a .v) (valuesOf s) (omega (arith, c .if1 .left, u .values-of .ensures, u .before .before .default-at .ensures, u .before .before .before .count-at .ensures))
 
-count-at-requires : tie.Need-count-at-requires
-count-at-requires c κs = search needs
-
-default-at-requires : tie.Need-default-at-requires
-default-at-requires c κs = search needs
-
-add-used : tie.Need-add-used
-add-used c = search needs
-
-name-len-at-requires : tie.Need-name-len-at-requires
-name-len-at-requires c κs = search needs
-
-values-of-requires : tie.Need-values-of-requires
-values-of-requires c κs = search needs
-
 add-if1 : tie.Need-add-if1
 add-if1 c = omega (arith, begin c .pre, c .before .before .default-at .ensures, c .before .before .before .count-at .ensures)
 
@@ -49,9 +34,6 @@ returns c =
     let a = begin u in
     let s = a .args .objects .now in
     simp (beyond (countAt s (a .args .i) + defaultAt s (a .args .i)) (a .args .v) (valuesOf s) (omega (arith, a .pre)) (omega (arith, c .if1 .taken, u .values-of .ensures, u .before .before .default-at .ensures, u .before .before .before .count-at .ensures)))
-
-used-of-requires : tie.Need-used-of-requires
-used-of-requires c κs = search needs
 
 add-if2 : tie.Need-add-if2
 add-if2 c = let u = c .before .before in omega (arith, begin u .pre, u .before .name-len-at .ensures)
@@ -82,14 +64,14 @@ pub row-fits-spec : {M : Type 1} → statement M
 row-fits-spec =
     tie.close
     (tie.spec
-    count-at-requires
-    default-at-requires
-    add-used
-    name-len-at-requires
-    values-of-requires
+    (λ c κs. search needs)
+    (λ c κs. search needs)
+    (λ c. search needs)
+    (λ c κs. search needs)
+    (λ c κs. search needs)
     add-if1
     returns
-    used-of-requires
+    (λ c κs. search needs)
     add-if2
     returns-2
     is-good-requires

@@ -14,12 +14,6 @@ use Rattle.judge.proofs.slot_ok.Tie as tie
 abbrev begin : tie.After-room-at → tie.Start
 begin r = r .before .before .before .before
 
-room-at-requires : tie.Need-room-at-requires
-room-at-requires c κs = search needs
-
-start-at-requires : tie.Need-start-at-requires
-start-at-requires c κs = search needs
-
 returns : tie.Need-returns
 returns c = simp (ne-eqb _ _ (rw (c .before .start-at .ensures) at (c .if1 .taken)))
 
@@ -40,15 +34,6 @@ returns-3 c =
     let a = begin r in
     simp (eq-eqb _ _ (rw (s .start-at .ensures) at (c .before .before .if1 .left)), beyond (roomAt (a .args .slots .now) (a .args .p)) (a .args .b) (a .args .used) (omega (arith, a .pre)) (omega (arith, c .if3 .taken, r .room-at .ensures)))
 
-type-at-requires : tie.Need-type-at-requires
-type-at-requires c κs = search needs
-
-mul-w : tie.Need-mul-w
-mul-w c = search needs
-
-shared-slice-read-w : tie.Need-shared-slice-read-w
-shared-slice-read-w c = search needs
-
 val-ok-requires : tie.Need-val-ok-requires
 val-ok-requires c κs =
     let e = c .before .before in
@@ -67,14 +52,14 @@ pub slot-ok-spec : {M : Type 1} → statement M
 slot-ok-spec =
     tie.close
     (tie.spec
-    room-at-requires
-    start-at-requires
+    (λ c κs. search needs)
+    (λ c κs. search needs)
     returns
     returns-2
     add-if3
     returns-3
-    type-at-requires
-    mul-w
-    shared-slice-read-w
+    (λ c κs. search needs)
+    (λ c. search needs)
+    (λ c. search needs)
     val-ok-requires
     returns-4)

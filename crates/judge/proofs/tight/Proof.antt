@@ -4,9 +4,6 @@ use borrow.Author.Needs.{needs}
 use Rattle.judge.proofs.tight.Statement.{statement}
 use Rattle.judge.proofs.tight.Tie as tie
 
-is-text-requires : tie.Need-is-text-requires
-is-text-requires c κs = search needs
-
 returns : tie.Need-returns
 returns c = simp (sym (c .before .is-text .ensures) ∙ c .if1 .taken)
 
@@ -14,4 +11,4 @@ returns-2 : tie.Need-returns-2
 returns-2 c = simp (sym (c .before .is-text .ensures) ∙ c .if1 .left)
 
 pub tight-spec : {M : Type 1} → statement M
-tight-spec = tie.close (tie.spec is-text-requires returns returns-2)
+tight-spec = tie.close (tie.spec (λ c κs. search needs) returns returns-2)

@@ -10,9 +10,6 @@ returns : tie.Need-returns
 unfolding valOk
 returns c = simp (lt-leb _ _ (c .if1 .taken))
 
-is-text-requires : tie.Need-is-text-requires
-is-text-requires c κs = search needs
-
 returns-2 : tie.Need-returns-2
 unfolding valOk wordOk
 returns-2 c =
@@ -30,9 +27,6 @@ returns-3 c =
     let t = c .before .before .before in
     simp (le-leb _ _ (t .before .if1 .left), le-leb _ _ (t .before .before .before .pre .1), sym (t .is-text .ensures) ∙ c .before .before .if2 .taken, le-leb _ _ (c .before .if3 .left)) (c .text-ok .ensures)
 
-fits-requires : tie.Need-fits-requires
-fits-requires c κs = search needs
-
 returns-4 : tie.Need-returns-4
 unfolding valOk wordOk
 returns-4 c =
@@ -44,9 +38,9 @@ val-ok-spec =
     tie.close
     (tie.spec
     returns
-    is-text-requires
+    (λ c κs. search needs)
     returns-2
     text-ok-requires
     returns-3
-    fits-requires
+    (λ c κs. search needs)
     returns-4)

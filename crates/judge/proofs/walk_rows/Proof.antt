@@ -123,12 +123,6 @@ walk-slots-requires c κs =
     let u = used-is c in
     ((omega (arith, u, f .values, p .values), omega (arith, u, f .values, p .slots), omega (arith, u, f .values, p .words), omega (arith, p .rows), omega (arith, c .before .name-len-at .ensures, f .bytes), p .bytes, p .total), omega (arith, c .before .before .default-at .ensures, head (e .before .before) .flag-small))
 
-enum-known-e : tie.Need-enum-known-e Inv-loop μ-loop
-enum-known-e c = search needs
-
-enum-told : tie.Need-enum-told Inv-loop μ-loop
-enum-told c = search needs
-
 returns-3 : tie.Need-returns-3 Inv-loop μ-loop
 returns-3 c =
     let w = c .before .before in
@@ -147,12 +141,6 @@ add-low : tie.Need-add-low Inv-loop μ-loop
 add-low c =
     let x = c .before .before .before .before in
     omega (arith, x .index-at .ensures, head (x .before .before .before .before .before .before) .index-small)
-
-add-i : tie.Need-add-i Inv-loop μ-loop
-add-i c = search needs
-
-loop-less : tie.Need-loop-less Inv-loop μ-loop
-loop-less c = search needs
 
 loop-again : tie.Need-loop-again Inv-loop μ-loop
 loop-again c =
@@ -192,12 +180,12 @@ walk-rows-spec =
     index-at-requires
     add-walk-slots
     walk-slots-requires
-    enum-known-e
-    enum-told
+    (λ c. search needs)
+    (λ c. search needs)
     returns-3
     add-v
     add-low
-    add-i
-    loop-less
+    (λ c. search needs)
+    (λ c. search needs)
     loop-again
     returns-4)

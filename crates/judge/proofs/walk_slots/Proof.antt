@@ -49,20 +49,11 @@ last c =
 done : (c : tie.After-loop Inv-loop μ-loop) → let k = c .before in let a = begin k .args in plainFrom (D k) (a .k) (a .«from») (a .start) ≡ Upto (k .loop .b)
 done c = c .before .loop .inv .1 ∙ plain-end _ _ _ _ (omega arith)
 
-used-of-requires : tie.Need-used-of-requires Inv-loop μ-loop
-used-of-requires c κs = search needs
-
-add-end : tie.Need-add-end Inv-loop μ-loop
-add-end c = search needs
-
 loop-holds : tie.Need-loop-holds Inv-loop μ-loop
 loop-holds c =
     let a = c .before .before .before .before .before in
     let e : a .args .«from» + a .args .k - a .args .«from» ≡ a .args .k = omega arith in
     (omega (arith, a .pre), rw e)
-
-slot-ok-requires : tie.Need-slot-ok-requires Inv-loop μ-loop
-slot-ok-requires c κs = search needs
 
 returns : tie.Need-returns Inv-loop μ-loop
 returns c =
@@ -71,17 +62,8 @@ returns c =
     sym (from-bad (D k) (a .args .elements) (a .args .k) (a .args .«from») (a .args .start) (a .pre .1)
     (k .loop .inv .1 ∙ plain-step (D k) (a .args .«from» + a .args .k) (k .loop .p) (k .loop .b) (c .before .before .loop-test .taken) ∙ simp (sym (told (c .before)) ∙ not-true _ (c .if1 .taken))))
 
-room-at-requires : tie.Need-room-at-requires Inv-loop μ-loop
-room-at-requires c κs = search needs
-
 add-b : tie.Need-add-b Inv-loop μ-loop
 add-b c = omega (arith, c .room-at .ensures, within (c .before))
-
-add-p : tie.Need-add-p Inv-loop μ-loop
-add-p c = search needs
-
-loop-less : tie.Need-loop-less Inv-loop μ-loop
-loop-less c = search needs
 
 loop-again : tie.Need-loop-again Inv-loop μ-loop
 loop-again c =
@@ -93,24 +75,6 @@ loop-again c =
       rw r
           (k .loop .inv .1 ∙ plain-step (D k) (a .«from» + a .k) (k .loop .p) (k .loop .b) (e .before .before .loop-test .taken) ∙ simp (right e)),
     )
-
-sub-q : tie.Need-sub-q Inv-loop μ-loop
-sub-q c = search needs
-
-type-at-requires : tie.Need-type-at-requires Inv-loop μ-loop
-type-at-requires c κs = search needs
-
-mul-tight : tie.Need-mul-tight Inv-loop μ-loop
-mul-tight c = search needs
-
-shared-slice-read-tight : tie.Need-shared-slice-read-tight Inv-loop μ-loop
-shared-slice-read-tight c = search needs
-
-room-at-requires-2 : tie.Need-room-at-requires-2 Inv-loop μ-loop
-room-at-requires-2 c κs = search needs
-
-tight-requires : tie.Need-tight-requires Inv-loop μ-loop
-tight-requires c κs = search needs
 
 returns-2 : tie.Need-returns-2 Inv-loop μ-loop
 returns-2 c = sym (last (c .before) .1 ∙ simp (sym (last (c .before) .0) ∙ not-true _ (c .if3 .taken)))
@@ -129,22 +93,22 @@ walk-slots-spec =
     (tie.spec
     Inv-loop
     μ-loop
-    used-of-requires
-    add-end
+    (λ c κs. search needs)
+    (λ c. search needs)
     loop-holds
-    slot-ok-requires
+    (λ c κs. search needs)
     returns
-    room-at-requires
+    (λ c κs. search needs)
     add-b
-    add-p
-    loop-less
+    (λ c. search needs)
+    (λ c. search needs)
     loop-again
-    sub-q
-    type-at-requires
-    mul-tight
-    shared-slice-read-tight
-    room-at-requires-2
-    tight-requires
+    (λ c. search needs)
+    (λ c κs. search needs)
+    (λ c. search needs)
+    (λ c. search needs)
+    (λ c κs. search needs)
+    (λ c κs. search needs)
     returns-2
     returns-3
     returns-4)

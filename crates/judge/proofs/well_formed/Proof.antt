@@ -19,9 +19,6 @@ right c = sym (c .before .header-ok .ensures) ∙ not-false _ (c .if1 .left)
 header : (c : tie.Else1) → Header (D (c .before .before .before .before .before .before))
 header c = header-ok _ (right c)
 
-header-ok-requires : tie.Need-header-ok-requires
-header-ok-requires c κs = search needs
-
 returns : tie.Need-returns
 unfolding wellFormed
 returns c = simp (sym (c .before .header-ok .ensures) ∙ not-true _ (c .if1 .taken))
@@ -36,12 +33,6 @@ walk-rows-requires : tie.Need-walk-rows-requires
 walk-rows-requires c κs =
     let h = header (c .before .before) in
     record { few = h .few; rows = h .rows; values = h .values; slots = h .slots; words = h .words; total = h .total; bytes = h .bytes }
-
-enum-known-v : tie.Need-enum-known-v
-enum-known-v c = search needs
-
-enum-told : tie.Need-enum-told
-enum-told c = search needs
 
 returns-2 : tie.Need-returns-2
 unfolding wellFormed
@@ -59,12 +50,12 @@ pub well-formed-spec : {M : Type 1} → statement M
 well-formed-spec =
     tie.close
     (tie.spec
-    header-ok-requires
+    (λ c κs. search needs)
     returns
     values-of-requires
     used-of-requires
     walk-rows-requires
-    enum-known-v
-    enum-told
+    (λ c. search needs)
+    (λ c. search needs)
     returns-2
     returns-3)

@@ -22,22 +22,10 @@ loop-holds c =
     let e : a .n - a .n ≡ 0 = omega arith in
     (omega arith, read-none _ (a .at) (a .n) (c .before .pre .1), rw e (omega arith))
 
-sub-i : tie.Need-sub-i Inv-loop μ-loop
-sub-i c = search needs
-
 mul-sum : tie.Need-mul-sum Inv-loop μ-loop
 mul-sum c =
     let l = c .before .loop in
     omega (arith, read-fits64 (c .before .before .before .args .n) (l .i) (l .sum) 0 (omega arith) (omega arith) (omega arith) (l .inv .2) (omega arith))
-
-add-wide : tie.Need-add-wide Inv-loop μ-loop
-add-wide c = search needs
-
-shared-slice-read-wide : tie.Need-shared-slice-read-wide Inv-loop μ-loop
-shared-slice-read-wide c = search needs
-
-wide-requires : tie.Need-wide-requires Inv-loop μ-loop
-wide-requires c κs = search needs
 
 -- the byte that was read
 byte : (c : tie.After-wide Inv-loop μ-loop) → c .wide .result < 256
@@ -50,9 +38,6 @@ add-sum c =
     let k = c .before .before .before in
     let l = k .loop in
     omega (arith, read-fits64 (k .before .before .args .n) (l .i) (l .sum) (c .wide .result) (omega arith) (omega arith) (omega arith) (l .inv .2) (byte c))
-
-loop-less : tie.Need-loop-less Inv-loop μ-loop
-loop-less c = search needs
 
 loop-again : tie.Need-loop-again Inv-loop μ-loop
 loop-again c =
@@ -78,12 +63,12 @@ each-spec =
     Inv-loop
     μ-loop
     loop-holds
-    sub-i
+    (λ c. search needs)
     mul-sum
-    add-wide
-    shared-slice-read-wide
-    wide-requires
+    (λ c. search needs)
+    (λ c. search needs)
+    (λ c κs. search needs)
     add-sum
-    loop-less
+    (λ c. search needs)
     loop-again
     returns)

@@ -37,9 +37,6 @@ mul-less c = omega (arith, inside c)
 slice-read-less : tie.Need-slice-read-less Inv-loop μ-loop
 slice-read-less c = inside (c .before)
 
-less-requires : tie.Need-less-requires Inv-loop μ-loop
-less-requires c κs = search needs
-
 mul-s : tie.Need-mul-s Inv-loop μ-loop
 mul-s c = omega (arith, inside (c .before .before))
 
@@ -48,12 +45,6 @@ slice-write-s c = inside (c .before .before)
 
 add-p : tie.Need-add-p Inv-loop μ-loop
 add-p c = omega (arith, inside (c .before .before), c .before .before .before .before .before .pre)
-
-add-j : tie.Need-add-j Inv-loop μ-loop
-add-j c = search needs
-
-loop-less : tie.Need-loop-less Inv-loop μ-loop
-loop-less c = search needs
 
 loop-again : tie.Need-loop-again Inv-loop μ-loop
 loop-again c =
@@ -77,12 +68,12 @@ fall-spec =
     loop-holds
     mul-less
     slice-read-less
-    less-requires
+    (λ c κs. search needs)
     mul-s
     slice-write-s
     add-p
-    add-j
-    loop-less
+    (λ c. search needs)
+    (λ c. search needs)
     loop-again
     same-length
     returns)

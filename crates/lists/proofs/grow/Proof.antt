@@ -54,12 +54,6 @@ slice-write-s c = inside (c .before)
 add-p : tie.Need-add-p Inv-loop μ-loop
 add-p c = omega (arith, inside (c .before), c .before .before .before .pre .0)
 
-add-j : tie.Need-add-j Inv-loop μ-loop
-add-j c = search needs
-
-loop-less : tie.Need-loop-less Inv-loop μ-loop
-loop-less c = search needs
-
 loop-again : tie.Need-loop-again Inv-loop μ-loop
 loop-again c =
     let k = c .before .before in
@@ -91,8 +85,8 @@ grow-spec =
     mul-s-2
     slice-write-s
     add-p
-    add-j
-    loop-less
+    (λ c. search needs)
+    (λ c. search needs)
     loop-again
     same-length
     returns)

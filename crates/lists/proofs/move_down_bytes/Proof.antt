@@ -16,35 +16,14 @@ Inv-loop s₀ at from end k j₀ s j = (from ≤ j) × (j ≤ end) × (length s 
 abbrev μ-loop : tie.MeasureT-loop
 μ-loop s₀ at from end k j₀ s j = end - j
 
-sub-k : tie.Need-sub-k Inv-loop μ-loop
-sub-k c = search needs
-
 loop-holds : tie.Need-loop-holds Inv-loop μ-loop
 loop-holds c = (omega arith, omega arith, refl, move-none _ _ (c .args .from))
-
-slice-read-s : tie.Need-slice-read-s Inv-loop μ-loop
-slice-read-s c = search needs
-
-sub-s : tie.Need-sub-s Inv-loop μ-loop
-sub-s c = search needs
-
-slice-write-s : tie.Need-slice-write-s Inv-loop μ-loop
-slice-write-s c = search needs
-
-add-j : tie.Need-add-j Inv-loop μ-loop
-add-j c = search needs
-
-loop-less : tie.Need-loop-less Inv-loop μ-loop
-loop-less c = search needs
 
 loop-again : tie.Need-loop-again Inv-loop μ-loop
 loop-again c =
     let l = c .before .before .loop in
     let s = c .before .before .before in
     (omega arith, omega arith, simp length-set (l .inv .2), down-more (s .args .s .now) (l .s) (s .args .at) (s .args .from) (l .j) (s .pre .0) (l .inv .0) (omega (arith, l .inv .2)) (l .inv .3))
-
-same-length : tie.Need-same-length Inv-loop μ-loop
-same-length c = search needs
 
 returns : tie.Need-returns Inv-loop μ-loop
 returns c =
@@ -57,13 +36,13 @@ move-down-bytes-spec =
     (tie.spec
     Inv-loop
     μ-loop
-    sub-k
+    (λ c. search needs)
     loop-holds
-    slice-read-s
-    sub-s
-    slice-write-s
-    add-j
-    loop-less
+    (λ c. search needs)
+    (λ c. search needs)
+    (λ c. search needs)
+    (λ c. search needs)
+    (λ c. search needs)
     loop-again
-    same-length
+    (λ c. search needs)
     returns)

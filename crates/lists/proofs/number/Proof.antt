@@ -3,20 +3,8 @@ use borrow.Author.Needs.{needs}
 use Rattle.lists.proofs.number.Statement.{statement}
 use Rattle.lists.proofs.number.Tie as tie
 
-one-requires : tie.Need-one-requires
-one-requires c κs = search needs
-
-two-requires : tie.Need-two-requires
-two-requires c κs = search needs
-
 four-requires : tie.Need-four-requires
 four-requires c κs = search needs
-
-eight-requires : tie.Need-eight-requires
-eight-requires c κs = search needs
-
-each-requires : tie.Need-each-requires
-each-requires c κs = search needs
 
 returns : tie.Need-returns
 returns c = rw (c .before .match .keys1) (c .one .ensures .0)
@@ -37,11 +25,11 @@ pub number-spec : {M : Type 1} → statement M
 number-spec =
     tie.close
     (tie.spec
-    one-requires
-    two-requires
+    (λ c κs. search needs)
+    (λ c κs. search needs)
     four-requires
-    eight-requires
-    each-requires
+    (λ c κs. search needs)
+    (λ c κs. search needs)
     returns
     returns-2
     returns-3

@@ -60,12 +60,6 @@ returns c =
     let h = c .before .before in
     simp (step h, sym (h .has-name .ensures) ∙ c .before .if1 .taken, c .index-at .ensures)
 
-add-i : tie.Need-add-i Inv-loop μ-loop
-add-i c = search needs
-
-loop-less : tie.Need-loop-less Inv-loop μ-loop
-loop-less c = search needs
-
 loop-again : tie.Need-loop-again Inv-loop μ-loop
 loop-again c =
     let h = c .before in
@@ -89,7 +83,7 @@ first-named-spec =
     index-at-requires
     cast-t12
     returns
-    add-i
-    loop-less
+    (λ c. search needs)
+    (λ c. search needs)
     loop-again
     returns-2)

@@ -33,9 +33,6 @@ add-if1 c = let a = c .before .before in omega (arith, a .pre, c .loop-test .tak
 shared-slice-read-if1 : tie.Need-shared-slice-read-if1 Inv-loop μ-loop
 shared-slice-read-if1 c = let l = c .before in omega (arith, l .before .before .pre .1, l .loop-test .taken)
 
-shared-slice-read-if1-2 : tie.Need-shared-slice-read-if1-2 Inv-loop μ-loop
-shared-slice-read-if1-2 c = search needs
-
 returns : tie.Need-returns Inv-loop μ-loop
 returns c =
     let l = c .before .before .before in
@@ -43,9 +40,6 @@ returns c =
 
 add-i : tie.Need-add-i Inv-loop μ-loop
 add-i c = let l = c .before .before .before in search needs
-
-loop-less : tie.Need-loop-less Inv-loop μ-loop
-loop-less c = search needs
 
 loop-again : tie.Need-loop-again Inv-loop μ-loop
 loop-again c =
@@ -67,9 +61,9 @@ same-part-spec =
     loop-holds
     add-if1
     shared-slice-read-if1
-    shared-slice-read-if1-2
+    (λ c. search needs)
     returns
     add-i
-    loop-less
+    (λ c. search needs)
     loop-again
     returns-2)

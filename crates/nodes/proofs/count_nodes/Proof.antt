@@ -36,9 +36,6 @@ add-m c = let l = c .before .before in omega (arith, l .before .loop .inv .below
 add-k : tie.Need-add-k Inv-loop μ-loop
 add-k c = let l = c .before .before in omega (arith, start (l .before) .pre .few, l .loop-test .taken)
 
-loop-less : tie.Need-loop-less Inv-loop μ-loop
-loop-less c = search needs
-
 loop-again : tie.Need-loop-again Inv-loop μ-loop
 loop-again c =
     let i = c .before .before in
@@ -66,6 +63,6 @@ count-nodes-spec =
     is-configured-requires
     add-m
     add-k
-    loop-less
+    (λ c. search needs)
     loop-again
     returns)

@@ -28,12 +28,6 @@ lies c = let s = start (c .before .before) in found-lies (D s) (s .pre) 0x1F81 _
 find-requires : tie.Need-find-requires
 find-requires c κs = rows-of (D (c .before .before .before .before)) (c .before .before .before .before .pre)
 
-enum-known-i : tie.Need-enum-known-i
-enum-known-i c = search needs
-
-enum-told : tie.Need-enum-told
-enum-told c = search needs
-
 returns : tie.Need-returns
 unfolding elementsAt
 returns c =
@@ -65,8 +59,8 @@ elements-spec =
     tie.close
     (tie.spec
     find-requires
-    enum-known-i
-    enum-told
+    (λ c. search needs)
+    (λ c. search needs)
     returns
     kind-at-requires
     count-at-requires

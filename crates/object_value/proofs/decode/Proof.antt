@@ -11,18 +11,6 @@ returns : tie.Need-returns
 unfolding decodeOf
 returns c = simp (lt-ltb _ _ (c .if1 .taken))
 
-decode-word-requires : tie.Need-decode-word-requires
-decode-word-requires c κs = search needs
-
-enum-known-x : tie.Need-enum-known-x
-enum-known-x c = search needs
-
-from-word-requires : tie.Need-from-word-requires
-from-word-requires c κs = search needs
-
-enum-known-f : tie.Need-enum-known-f
-enum-known-f c = search needs
-
 returns-2 : tie.Need-returns-2
 unfolding decodeOf
 returns-2 c = let k = c .before .before .before .before in simp (le-ltb _ _ (k .before .if1 .left), sym (k .decode-word .ensures) ∙ c .before .before .x .given .1) (ap Value (c .from-word .ensures))
@@ -36,9 +24,9 @@ decode-spec =
     tie.close
     (tie.spec
     returns
-    decode-word-requires
-    enum-known-x
-    from-word-requires
-    enum-known-f
+    (λ c κs. search needs)
+    (λ c. search needs)
+    (λ c κs. search needs)
+    (λ c. search needs)
     returns-2
     returns-3)

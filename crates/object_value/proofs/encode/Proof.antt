@@ -6,18 +6,6 @@ use borrow.Author.Needs.{needs}
 use Rattle.object_value.proofs.encode.Statement.{statement}
 use Rattle.object_value.proofs.encode.Tie as tie
 
-type-number-requires : tie.Need-type-number-requires
-type-number-requires c κs = search needs
-
-to-word-requires : tie.Need-to-word-requires
-to-word-requires c κs = search needs
-
-encode-word-requires : tie.Need-encode-word-requires
-encode-word-requires c κs = search needs
-
-same-length : tie.Need-same-length
-same-length c = search needs
-
 returns : tie.Need-returns
 returns c =
     let e = c .before .before in
@@ -28,4 +16,4 @@ returns c =
 pub encode-spec : {M : Type 1} → statement M
 encode-spec =
     tie.close
-    (tie.spec type-number-requires to-word-requires encode-word-requires same-length returns)
+    (tie.spec (λ c κs. search needs) (λ c κs. search needs) (λ c κs. search needs) (λ c. search needs) returns)

@@ -12,14 +12,8 @@ use Rattle.pdo_channel.proofs.behind.Tie as tie
 below : (c : tie.After-row) → c .row .given .0 .0 < numberOf (now (c .before .before .args .objects))
 below c = let s = c .before .before in row-below (now (s .args .objects)) (s .args .index) _ (sym (s .pre .2) ∙ c .row .given .1)
 
-enum-known-row : tie.Need-enum-known-row
-enum-known-row c = search needs
-
 add-result : tie.Need-add-result
 add-result c = omega (arith, below (c .before), c .before .before .before .pre .0 .few)
-
-enum-told : tie.Need-enum-told
-enum-told c = search needs
 
 returns : tie.Need-returns
 returns c = omega (arith, below (c .before))
@@ -28,4 +22,4 @@ returns-2 : tie.Need-returns-2
 returns-2 c = c .before .before .pre .1
 
 pub behind-spec : {M : Type 1} → statement M
-behind-spec = tie.close (tie.spec enum-known-row add-result enum-told returns returns-2)
+behind-spec = tie.close (tie.spec (λ c. search needs) add-result (λ c. search needs) returns returns-2)

@@ -11,12 +11,6 @@ use Rattle.pdo_channel.proofs.matches_at.Tie as tie
 abbrev D : tie.Start → Dict
 D s = dict (now (s .args .objects)) (now (s .args .slots)) (now (s .args .words)) (now (s .args .bytes))
 
-enum-known-row : tie.Need-enum-known-row
-enum-known-row c = search needs
-
-enum-told : tie.Need-enum-told
-enum-told c = search needs
-
 returns : tie.Need-returns
 returns c =
     let s = c .before .before .before .before .before .before in
@@ -29,17 +23,8 @@ u8-in-requires c κs =
     let s = r .before .before .before .before .before .before in
     (s .pre .0, sym (s .pre .1) ∙ r .row .given .1)
 
-enum-known-v : tie.Need-enum-known-v
-enum-known-v c = search needs
-
-enum-told-2 : tie.Need-enum-told-2
-enum-told-2 c = search needs
-
 returns-2 : tie.Need-returns-2
 returns-2 c = let u = c .before .before in ap (matchesIn _) (sym (c .enum-told2 .given .1) ∙ u .u8-in .ensures)
-
-is-sender-requires : tie.Need-is-sender-requires
-is-sender-requires c κs = search needs
 
 returns-3 : tie.Need-returns-3
 returns-3 c = let v = c .before .before in let u = v .before .before in c .is-sender .ensures ∙ ap (matchesIn _) (sym (v .v .given .1) ∙ u .u8-in .ensures)
@@ -48,12 +33,12 @@ pub matches-at-spec : {M : Type 1} → statement M
 matches-at-spec =
     tie.close
     (tie.spec
-    enum-known-row
-    enum-told
+    (λ c. search needs)
+    (λ c. search needs)
     returns
     u8-in-requires
-    enum-known-v
-    enum-told-2
+    (λ c. search needs)
+    (λ c. search needs)
     returns-2
-    is-sender-requires
+    (λ c κs. search needs)
     returns-3)

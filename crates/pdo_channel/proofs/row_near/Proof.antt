@@ -16,9 +16,6 @@ below j h = ⊎-elim (λ w. omega (arith, w .1 .ensures, w .2 .left)) (λ w. abs
 number-of-requires : tie.Need-number-of-requires
 number-of-requires c κs = omega (arith, c .before .pre .0 .long)
 
-sub-index-at : tie.Need-sub-index-at
-sub-index-at c = search needs
-
 index-at-requires : tie.Need-index-at-requires
 index-at-requires c κs = let s = c .before .before .before in let l = lies (now (s .args .objects)) (s .pre .0) (s .args .r - 1) (omega (arith, s .pre .1, c .if1 .taken)) in (l .small, l .inside)
 
@@ -64,7 +61,7 @@ row-near-spec =
     tie.close
     (tie.spec
     number-of-requires
-    sub-index-at
+    (λ c. search needs)
     index-at-requires
     find-requires
     returns

@@ -12,20 +12,8 @@ use Rattle.pdo_channel.proofs.version_of.Tie as tie
 abbrev D : tie.Start → Dict
 D s = dict (now (s .args .objects)) (now (s .args .slots)) (now (s .args .words)) (now (s .args .bytes))
 
-cast-index : tie.Need-cast-index
-cast-index c = search needs
-
-add-index : tie.Need-add-index
-add-index c = search needs
-
 find-requires : tie.Need-find-requires
 find-requires c κs = let s = c .before .before .before .before in rows-of (D s) (s .pre .0)
-
-enum-known-row : tie.Need-enum-known-row
-enum-known-row c = search needs
-
-enum-told : tie.Need-enum-told
-enum-told c = search needs
 
 returns : tie.Need-returns
 returns c =
@@ -41,12 +29,6 @@ u8-in-requires c κs =
     let s = f .before .before .before .before .before in
     (s .pre .0, sym (f .find .ensures) ∙ r .row .given .1)
 
-enum-known-v : tie.Need-enum-known-v
-enum-known-v c = search needs
-
-enum-told-2 : tie.Need-enum-told-2
-enum-told-2 c = search needs
-
 returns-2 : tie.Need-returns-2
 returns-2 c = let u = c .before .before in ap orZero (sym (c .enum-told2 .given .1) ∙ u .u8-in .ensures)
 
@@ -57,14 +39,14 @@ pub version-of-spec : {M : Type 1} → statement M
 version-of-spec =
     tie.close
     (tie.spec
-    cast-index
-    add-index
+    (λ c. search needs)
+    (λ c. search needs)
     find-requires
-    enum-known-row
-    enum-told
+    (λ c. search needs)
+    (λ c. search needs)
     returns
     u8-in-requires
-    enum-known-v
-    enum-told-2
+    (λ c. search needs)
+    (λ c. search needs)
     returns-2
     returns-3)

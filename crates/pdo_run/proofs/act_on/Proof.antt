@@ -28,24 +28,12 @@ kept e =
     let a = start p .args in
     p .step .ensures .1 ∙ ap (applied (now (a .slots)) (now (a .payload)) (contents (now (a .words)) (now (a .bytes)))) (e .enum-told .given .1)
 
-step-requires : tie.Need-step-requires
-step-requires c κs = search needs
-
-enum-told : tie.Need-enum-told
-enum-told c = search needs
-
 set-bit-requires : tie.Need-set-bit-requires
 set-bit-requires c κs =
     let e = c .before .before in
     let p = e .before .before .before .before .before .before in
     let s = start p in
     subst (λ (x : Contents). wellFormed (dict (now (s .args .objects)) (now (s .args .slots)) (x .words) (x .bytes)) ≡ true) (sym (kept e)) (s .pre)
-
-same-length : tie.Need-same-length
-same-length c = search needs
-
-same-length-2 : tie.Need-same-length-2
-same-length-2 c = search needs
 
 returns : tie.Need-returns
 returns c =
@@ -55,12 +43,6 @@ returns c =
     let s = start p in
     let a = s .args in
     (p .step .ensures .0, λ i. ap (contents _) (b .set-bit .ensures) ∙ ap (λ (x : Contents). contents (x .words) (markedIn (now (a .objects)) (now (a .slots)) (x .words) (x .bytes) 0x1C81 (a .sender))) (kept e) ∙ sym (act-short (frame (now (a .objects)) (now (a .slots)) (now (a .payload)) (a .sender) i) (contents (now (a .words)) (now (a .bytes))) _ (e .enum-told .given .1)))
-
-same-length-3 : tie.Need-same-length-3
-same-length-3 c = search needs
-
-same-length-4 : tie.Need-same-length-4
-same-length-4 c = search needs
 
 returns-2 : tie.Need-returns-2
 returns-2 c =
@@ -72,12 +54,12 @@ pub act-on-spec : {M : Type 1} → statement M
 act-on-spec =
     tie.close
     (tie.spec
-    step-requires
-    enum-told
+    (λ c κs. search needs)
+    (λ c. search needs)
     set-bit-requires
-    same-length
-    same-length-2
+    (λ c. search needs)
+    (λ c. search needs)
     returns
-    same-length-3
-    same-length-4
+    (λ c. search needs)
+    (λ c. search needs)
     returns-2)

@@ -8,26 +8,11 @@ use borrow.Author.Needs.{needs}
 use Rattle.pdo_run.proofs.event_of.Statement.{statement}
 use Rattle.pdo_run.proofs.event_of.Tie as tie
 
-enum-told : tie.Need-enum-told
-enum-told c = search needs
-
-enum-told-2 : tie.Need-enum-told-2
-enum-told-2 c = search needs
-
-packed-requires : tie.Need-packed-requires
-packed-requires c κs = search needs
-
-enum-known-o : tie.Need-enum-known-o
-enum-known-o c = search needs
-
 packed-requires-2 : tie.Need-packed-requires-2
 packed-requires-2 c κs =
     let o = c .before in
     let s = o .before .before in
     (s .pre .0, omega arith, s .pre .1, omega (arith, ap reach (o .o .given .1), s .pre .2))
-
-enum-known-o-2 : tie.Need-enum-known-o-2
-enum-known-o-2 c = search needs
 
 packed-requires-3 : tie.Need-packed-requires-3
 packed-requires-3 c κs =
@@ -35,38 +20,11 @@ packed-requires-3 c κs =
     let s = o .before .before in
     (s .pre .0, omega arith, s .pre .1, omega (arith, ap reach (o .o2 .given .1), s .pre .2))
 
-enum-told-3 : tie.Need-enum-told-3
-enum-told-3 c = search needs
-
-enum-told-4 : tie.Need-enum-told-4
-enum-told-4 c = search needs
-
-enum-told-5 : tie.Need-enum-told-5
-enum-told-5 c = search needs
-
-packed-requires-4 : tie.Need-packed-requires-4
-packed-requires-4 c κs = search needs
-
-enum-known-o-3 : tie.Need-enum-known-o-3
-enum-known-o-3 c = search needs
-
-cause-requires : tie.Need-cause-requires
-cause-requires c κs = search needs
-
 packed-requires-5 : tie.Need-packed-requires-5
 packed-requires-5 c κs =
     let o = c .before .before in
     let s = o .before .before in
     (s .pre .0, omega (arith, c .cause .ensures, cause-small (o .o3 .given .0 .0)), s .pre .1, omega arith)
-
-enum-told-6 : tie.Need-enum-told-6
-enum-told-6 c = search needs
-
-packed-requires-6 : tie.Need-packed-requires-6
-packed-requires-6 c κs = search needs
-
-enum-told-7 : tie.Need-enum-told-7
-enum-told-7 c = search needs
 
 returns : tie.Need-returns
 returns c = search needs
@@ -102,23 +60,23 @@ pub event-of-spec : {M : Type 1} → statement M
 event-of-spec =
     tie.close
     (tie.spec
-    enum-told
-    enum-told-2
-    packed-requires
-    enum-known-o
+    (λ c. search needs)
+    (λ c. search needs)
+    (λ c κs. search needs)
+    (λ c. search needs)
     packed-requires-2
-    enum-known-o-2
+    (λ c. search needs)
     packed-requires-3
-    enum-told-3
-    enum-told-4
-    enum-told-5
-    packed-requires-4
-    enum-known-o-3
-    cause-requires
+    (λ c. search needs)
+    (λ c. search needs)
+    (λ c. search needs)
+    (λ c κs. search needs)
+    (λ c. search needs)
+    (λ c κs. search needs)
     packed-requires-5
-    enum-told-6
-    packed-requires-6
-    enum-told-7
+    (λ c. search needs)
+    (λ c κs. search needs)
+    (λ c. search needs)
     returns
     returns-2
     returns-3

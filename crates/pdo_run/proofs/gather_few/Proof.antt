@@ -18,27 +18,6 @@ abbrev μ-loop : tie.MeasureT-loop
 loop-holds : tie.Need-loop-holds Inv-loop μ-loop
 loop-holds c = (refl, omega arith, refl)
 
-add-few : tie.Need-add-few Inv-loop μ-loop
-add-few c = search needs
-
-mul-few : tie.Need-mul-few Inv-loop μ-loop
-mul-few c = search needs
-
-shared-slice-read-few : tie.Need-shared-slice-read-few Inv-loop μ-loop
-shared-slice-read-few c = search needs
-
-mul-few-2 : tie.Need-mul-few-2 Inv-loop μ-loop
-mul-few-2 c = search needs
-
-array-write-few : tie.Need-array-write-few Inv-loop μ-loop
-array-write-few c = search needs
-
-add-j : tie.Need-add-j Inv-loop μ-loop
-add-j c = search needs
-
-loop-less : tie.Need-loop-less Inv-loop μ-loop
-loop-less c = search needs
-
 loop-again : tie.Need-loop-again Inv-loop μ-loop
 loop-again c =
     let k = c .before .before in
@@ -58,12 +37,12 @@ gather-few-spec =
     Inv-loop
     μ-loop
     loop-holds
-    add-few
-    mul-few
-    shared-slice-read-few
-    mul-few-2
-    array-write-few
-    add-j
-    loop-less
+    (λ c. search needs)
+    (λ c. search needs)
+    (λ c. search needs)
+    (λ c. search needs)
+    (λ c. search needs)
+    (λ c. search needs)
+    (λ c. search needs)
     loop-again
     returns)

@@ -117,18 +117,6 @@ note-requires c κs =
     let s = begin l in
     omega (arith, i .loop-test .taken, s .pre .1 .4, l .loop .inv .1, l .loop .inv .4)
 
-stops-requires : tie.Need-stops-requires Inv-loop μ-loop
-stops-requires c κs = search needs
-
-same-length : tie.Need-same-length Inv-loop μ-loop
-same-length c = search needs
-
-same-length-2 : tie.Need-same-length-2 Inv-loop μ-loop
-same-length-2 c = search needs
-
-same-length-3 : tie.Need-same-length-3 Inv-loop μ-loop
-same-length-3 c = search needs
-
 returns : tie.Need-returns Inv-loop μ-loop
 returns c =
     let z = c .before in
@@ -174,15 +162,6 @@ loop-again-2 c =
           ∙ l .loop .inv .6,
     )
 
-same-length-4 : tie.Need-same-length-4 Inv-loop μ-loop
-same-length-4 c = search needs
-
-same-length-5 : tie.Need-same-length-5 Inv-loop μ-loop
-same-length-5 c = search needs
-
-same-length-6 : tie.Need-same-length-6 Inv-loop μ-loop
-same-length-6 c = search needs
-
 returns-2 : tie.Need-returns-2 Inv-loop μ-loop
 returns-2 c =
     let l = c .before in
@@ -207,15 +186,15 @@ run-spec =
     add-event-of
     event-of-requires
     note-requires
-    stops-requires
-    same-length
-    same-length-2
-    same-length-3
+    (λ c κs. search needs)
+    (λ c. search needs)
+    (λ c. search needs)
+    (λ c. search needs)
     returns
     add-j-2
     loop-less-2
     loop-again-2
-    same-length-4
-    same-length-5
-    same-length-6
+    (λ c. search needs)
+    (λ c. search needs)
+    (λ c. search needs)
     returns-2)

@@ -34,12 +34,6 @@ lies c =
 find-requires : tie.Need-find-requires
 find-requires c κs = let s = c .before .before .before .before .before .before in rows-of (D s) (s .pre .0)
 
-enum-known-r : tie.Need-enum-known-r
-enum-known-r c = search needs
-
-enum-told : tie.Need-enum-told
-enum-told c = search needs
-
 returns : tie.Need-returns
 returns c = let f = c .before .before in let a = start f .args in sym (finished-none (now (a .log)) (a .begun) (contents (now (a .words)) (now (a .bytes)))) ∙ found f _ (c .enum-told .given .1)
 
@@ -60,15 +54,6 @@ run-row-requires c κs =
     let s = start (r .before .before) in
     (s .pre .0, (lies r .below, s .pre .1 .0, s .pre .1 .1, s .pre .1 .2))
 
-same-length : tie.Need-same-length
-same-length c = search needs
-
-same-length-2 : tie.Need-same-length-2
-same-length-2 c = search needs
-
-same-length-3 : tie.Need-same-length-3
-same-length-3 c = search needs
-
 returns-3 : tie.Need-returns-3
 returns-3 c =
     let u = c .before .before .before .before .before .before in
@@ -81,13 +66,13 @@ run-list-spec =
     tie.close
     (tie.spec
     find-requires
-    enum-known-r
-    enum-told
+    (λ c. search needs)
+    (λ c. search needs)
     returns
     kind-at-requires
     returns-2
     run-row-requires
-    same-length
-    same-length-2
-    same-length-3
+    (λ c. search needs)
+    (λ c. search needs)
+    (λ c. search needs)
     returns-3)

@@ -75,15 +75,6 @@ run-requires c κs =
     let s = start n in
     (s .pre .0, (omega (arith, inside n, as-few g), omega (arith, few n, as-few g), s .pre .1 .1, s .pre .1 .2, omega (arith, few n, as-few g, s .pre .1 .3)))
 
-same-length : tie.Need-same-length
-same-length c = search needs
-
-same-length-2 : tie.Need-same-length-2
-same-length-2 c = search needs
-
-same-length-3 : tie.Need-same-length-3
-same-length-3 c = search needs
-
 returns : tie.Need-returns
 returns c =
     let u = c .before .before .before .before .before .before in
@@ -106,15 +97,6 @@ run-requires-2 c κs =
     let s = start n in
     (s .pre .0, (omega (arith, inside n, as-long g), omega (arith, few n, as-long g), s .pre .1 .1, s .pre .1 .2, omega (arith, few n, as-long g, s .pre .1 .3)))
 
-same-length-4 : tie.Need-same-length-4
-same-length-4 c = search needs
-
-same-length-5 : tie.Need-same-length-5
-same-length-5 c = search needs
-
-same-length-6 : tie.Need-same-length-6
-same-length-6 c = search needs
-
 returns-2 : tie.Need-returns-2
 returns-2 c =
     let u = c .before .before .before .before .before .before in
@@ -131,15 +113,15 @@ run-row-spec =
     array-share-prefix-few
     slice-aggregate-run
     run-requires
-    same-length
-    same-length-2
-    same-length-3
+    (λ c. search needs)
+    (λ c. search needs)
+    (λ c. search needs)
     returns
     gather-requires
     array-share-prefix-list
     slice-aggregate-run-2
     run-requires-2
-    same-length-4
-    same-length-5
-    same-length-6
+    (λ c. search needs)
+    (λ c. search needs)
+    (λ c. search needs)
     returns-2)

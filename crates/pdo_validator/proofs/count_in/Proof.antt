@@ -60,12 +60,6 @@ ends-requires c κs =
     let s = start (i .before .before .before) in
     simp (c .first-at .ensures) (elements-lie (D s) (s .pre .0) (s .args .i) (s .args .n) (s .pre .1) (omega (arith, i .before .count-at .ensures, i .if2 .left)))
 
-limit-requires : tie.Need-limit-requires
-limit-requires c κs = search needs
-
-fits-requires : tie.Need-fits-requires
-fits-requires c κs = search needs
-
 returns-3 : tie.Need-returns-3
 unfolding countOn
 returns-3 c =
@@ -86,6 +80,6 @@ count-in-spec =
     returns-2
     first-at-requires
     ends-requires
-    limit-requires
-    fits-requires
+    (λ c κs. search needs)
+    (λ c κs. search needs)
     returns-3)

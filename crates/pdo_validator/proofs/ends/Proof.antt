@@ -75,18 +75,9 @@ shared-slice-read-from-u64 : tie.Need-shared-slice-read-from-u64 Inv-loop μ-loo
 shared-slice-read-from-u64 c =
     let i = c .before .before .before in let p = start (i .before) .pre in omega (arith, p .worded, i .loop-test .taken)
 
-from-u64-requires : tie.Need-from-u64-requires Inv-loop μ-loop
-from-u64-requires c κs = search needs
-
-end-requires : tie.Need-end-requires Inv-loop μ-loop
-end-requires c κs = search needs
-
 add-k : tie.Need-add-k Inv-loop μ-loop
 add-k c =
     let i = c .before .before .before .before .before .before in omega (arith, start (i .before) .pre .few, i .loop-test .taken)
-
-loop-less : tie.Need-loop-less Inv-loop μ-loop
-loop-less c = search needs
 
 loop-again : tie.Need-loop-again Inv-loop μ-loop
 loop-again c =
@@ -115,9 +106,9 @@ ends-spec =
     add-from-u64
     mul-from-u64
     shared-slice-read-from-u64
-    from-u64-requires
-    end-requires
+    (λ c κs. search needs)
+    (λ c κs. search needs)
     add-k
-    loop-less
+    (λ c. search needs)
     loop-again
     returns-2)

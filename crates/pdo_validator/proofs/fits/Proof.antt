@@ -6,12 +6,6 @@ use borrow.Author.Needs.{needs}
 use Rattle.pdo_validator.proofs.fits.Statement.{statement}
 use Rattle.pdo_validator.proofs.fits.Tie as tie
 
-enum-told : tie.Need-enum-told
-enum-told c = search needs
-
-enum-known-ends : tie.Need-enum-known-ends
-enum-known-ends c = search needs
-
 returns : tie.Need-returns
 returns c =
     let l = c .before .before .args .limit in ap (withinLimit l) (sym (c .enum-told .given .1))
@@ -25,4 +19,4 @@ returns-3 c =
     simp (c .before .before .ends .given .1, lt-leb _ _ (c .if1 .left))
 
 pub fits-spec : {M : Type 1} → statement M
-fits-spec = tie.close (tie.spec enum-told enum-known-ends returns returns-2 returns-3)
+fits-spec = tie.close (tie.spec (λ c. search needs) (λ c. search needs) returns returns-2 returns-3)

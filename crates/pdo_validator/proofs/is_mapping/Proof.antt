@@ -6,12 +6,9 @@ use borrow.Author.Needs.{needs}
 use Rattle.pdo_validator.proofs.is_mapping.Statement.{statement}
 use Rattle.pdo_validator.proofs.is_mapping.Tie as tie
 
-is-sent-requires : tie.Need-is-sent-requires
-is-sent-requires c κs = search needs
-
 returns : tie.Need-returns
 returns c =
     ap (λ b. receives (c .before .args .index) || b) (c .is-sent .ensures)
 
 pub is-mapping-spec : {M : Type 1} → statement M
-is-mapping-spec = tie.close (tie.spec is-sent-requires returns)
+is-mapping-spec = tie.close (tie.spec (λ c κs. search needs) returns)

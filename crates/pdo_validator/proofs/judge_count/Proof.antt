@@ -22,9 +22,6 @@ start c = c .before .before .before .before .before
 tested : (c : tie.After-is-mapping) → let a = start c .args in (eqb (a .n) 0 || not (isMapping (a .index))) ≡ (eqb (a .n) 0 || not (c .is-mapping .result))
 tested c = ap (λ m. eqb (start c .args .n) 0 || not m) (sym (c .is-mapping .ensures))
 
-is-mapping-requires : tie.Need-is-mapping-requires
-is-mapping-requires c κs = search needs
-
 returns : tie.Need-returns
 unfolding countOf
 returns c =
@@ -33,12 +30,6 @@ returns c =
 find-requires : tie.Need-find-requires
 find-requires c κs =
     let s = start (c .before) in rows-of (D s) (s .pre)
-
-enum-known-i : tie.Need-enum-known-i
-enum-known-i c = search needs
-
-enum-told : tie.Need-enum-told
-enum-told c = search needs
 
 returns-2 : tie.Need-returns-2
 unfolding countOf countOn
@@ -67,11 +58,11 @@ pub judge-count-spec : {M : Type 1} → statement M
 judge-count-spec =
     tie.close
     (tie.spec
-    is-mapping-requires
+    (λ c κs. search needs)
     returns
     find-requires
-    enum-known-i
-    enum-told
+    (λ c. search needs)
+    (λ c. search needs)
     returns-2
     count-in-requires
     returns-3)

@@ -19,9 +19,6 @@ start c = c .before .before .before .before .before
 formed : (c : tie.Else1) → wellFormed (D (start (c .before))) ≡ true
 formed c = sym (c .before .well-formed .ensures) ∙ not-false _ (c .if1 .left)
 
-well-formed-requires : tie.Need-well-formed-requires
-well-formed-requires c κs = search needs
-
 returns : tie.Need-returns
 unfolding validOf
 returns c =
@@ -38,4 +35,4 @@ returns-2 c =
 
 pub validate-pdo-mapping-spec : {M : Type 1} → statement M
 validate-pdo-mapping-spec =
-    tie.close (tie.spec well-formed-requires returns judge-count-requires returns-2)
+    tie.close (tie.spec (λ c κs. search needs) returns judge-count-requires returns-2)

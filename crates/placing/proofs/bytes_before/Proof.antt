@@ -5,18 +5,9 @@ use borrow.Author.Needs.{needs}
 use Rattle.placing.proofs.bytes_before.Statement.{statement}
 use Rattle.placing.proofs.bytes_before.Tie as tie
 
-number-of-requires : tie.Need-number-of-requires
-number-of-requires c κs = search needs
-
-name-at-requires : tie.Need-name-at-requires
-name-at-requires c κs = search needs
-
 returns : tie.Need-returns
 returns c =
     c .name-at .ensures ∙ simp (lt-ltb _ _ (rw (c .before .before .number-of .ensures) at (c .before .if1 .taken)))
-
-used-of-requires : tie.Need-used-of-requires
-used-of-requires c κs = search needs
 
 returns-2 : tie.Need-returns-2
 returns-2 c =
@@ -24,4 +15,4 @@ returns-2 c =
 
 pub bytes-before-spec : {M : Type 1} → statement M
 bytes-before-spec =
-    tie.close (tie.spec number-of-requires name-at-requires returns used-of-requires returns-2)
+    tie.close (tie.spec (λ c κs. search needs) (λ c κs. search needs) returns (λ c κs. search needs) returns-2)

@@ -7,33 +7,6 @@ use borrow.Author.Needs.{needs}
 use Rattle.placing.proofs.fill_room.Statement.{statement}
 use Rattle.placing.proofs.fill_room.Tie as tie
 
-add-end : tie.Need-add-end
-add-end c = search needs
-
-sub-lay : tie.Need-sub-lay
-sub-lay c = search needs
-
-part-lay-start : tie.Need-part-lay-start
-part-lay-start c = search needs
-
-part-lay-end : tie.Need-part-lay-end
-part-lay-end c = search needs
-
-lay-requires : tie.Need-lay-requires
-lay-requires c κs = search needs
-
-add-lay-zeros : tie.Need-add-lay-zeros
-add-lay-zeros c = search needs
-
-sub-lay-zeros : tie.Need-sub-lay-zeros
-sub-lay-zeros c = search needs
-
-lay-zeros-requires : tie.Need-lay-zeros-requires
-lay-zeros-requires c κs = search needs
-
-same-length : tie.Need-same-length
-same-length c = search needs
-
 returns : tie.Need-returns
 returns c =
     let s = c .before .before .before .before .before .before .before .before .before .before .before in
@@ -45,13 +18,13 @@ pub fill-room-spec : {M : Type 1} → statement M
 fill-room-spec =
     tie.close
     (tie.spec
-    add-end
-    sub-lay
-    part-lay-start
-    part-lay-end
-    lay-requires
-    add-lay-zeros
-    sub-lay-zeros
-    lay-zeros-requires
-    same-length
+    (λ c. search needs)
+    (λ c. search needs)
+    (λ c. search needs)
+    (λ c. search needs)
+    (λ c κs. search needs)
+    (λ c. search needs)
+    (λ c. search needs)
+    (λ c κs. search needs)
+    (λ c. search needs)
     returns)

@@ -40,18 +40,6 @@ loop-holds c =
     let f : a .u - 0 ≡ a .u = omega arith in
     (omega arith, refl, rw f, rw f (omega arith), rw f)
 
-room-in-requires : tie.Need-room-in-requires Inv-loop μ-loop
-room-in-requires c κs = search needs
-
-length-in-requires : tie.Need-length-in-requires Inv-loop μ-loop
-length-in-requires c κs = search needs
-
-type-in-requires : tie.Need-type-in-requires Inv-loop μ-loop
-type-in-requires c κs = search needs
-
-held-of-requires : tie.Need-held-of-requires Inv-loop μ-loop
-held-of-requires c κs = search needs
-
 fill-room-requires : tie.Need-fill-room-requires Inv-loop μ-loop
 fill-room-requires c κs =
     let k = c .before .before .before .before .before in
@@ -65,12 +53,6 @@ add-p c = omega (arith, fits (c .before .before .before .before .before .before 
 
 add-t : tie.Need-add-t Inv-loop μ-loop
 add-t c = omega (arith, fits (c .before .before .before .before .before .before .before .before) .1)
-
-add-j : tie.Need-add-j Inv-loop μ-loop
-add-j c = search needs
-
-loop-less : tie.Need-loop-less Inv-loop μ-loop
-loop-less c = search needs
 
 loop-again : tie.Need-loop-again Inv-loop μ-loop
 loop-again c =
@@ -86,9 +68,6 @@ loop-again c =
       l .inv .4 ∙ rooms-laid (a .vals .now) (a .encodings .now) (l .bytes) (a .u) (l .j) (l .p) (l .t) h (omega (arith, fits k .0, l .inv .1)) ∙ rw (c .before .before .fill-room .ensures, n, c .before .before .before .before .before .before .before .room-in .ensures, c .before .before .before .before .before .before .length-in .ensures),
     )
 
-same-length : tie.Need-same-length Inv-loop μ-loop
-same-length c = search needs
-
 returns : tie.Need-returns Inv-loop μ-loop
 returns c =
     sym (c .before .loop .inv .4 ∙ none-left _ _ _ (length-rooms _ _ _ _ _ ∙ rooms-none _ _ _ (omega arith)))
@@ -100,15 +79,15 @@ fill-rooms-spec =
     Inv-loop
     μ-loop
     loop-holds
-    room-in-requires
-    length-in-requires
-    type-in-requires
-    held-of-requires
+    (λ c κs. search needs)
+    (λ c κs. search needs)
+    (λ c κs. search needs)
+    (λ c κs. search needs)
     fill-room-requires
     add-p
     add-t
-    add-j
-    loop-less
+    (λ c. search needs)
+    (λ c. search needs)
     loop-again
-    same-length
+    (λ c. search needs)
     returns)

@@ -31,26 +31,8 @@ loop-holds c =
     let f : a .u - 0 ≡ a .u = omega arith in
     (omega arith, refl, rw f, rw (f, add-zero))
 
-room-in-requires : tie.Need-room-in-requires Inv-loop μ-loop
-room-in-requires c κs = search needs
-
-add-set-slot : tie.Need-add-set-slot Inv-loop μ-loop
-add-set-slot c = search needs
-
-type-in-requires : tie.Need-type-in-requires Inv-loop μ-loop
-type-in-requires c κs = search needs
-
-set-slot-requires : tie.Need-set-slot-requires Inv-loop μ-loop
-set-slot-requires c κs = search needs
-
 add-start : tie.Need-add-start Inv-loop μ-loop
 add-start c = omega (arith, room-fits (c .before .before .before .before .before .before))
-
-add-j : tie.Need-add-j Inv-loop μ-loop
-add-j c = search needs
-
-loop-less : tie.Need-loop-less Inv-loop μ-loop
-loop-less c = search needs
 
 loop-again : tie.Need-loop-again Inv-loop μ-loop
 loop-again c =
@@ -63,9 +45,6 @@ loop-again c =
       l .inv .3 ∙ slots-more (a .vals .now) (l .slots) (a .v) (a .u) (l .j) (l .start) (omega arith) (omega arith) ∙ rw (c .before .before .set-slot .ensures, c .before .before .before .type-in .ensures, c .before .before .before .before .before .room-in .ensures),
     )
 
-same-length : tie.Need-same-length Inv-loop μ-loop
-same-length c = search needs
-
 returns : tie.Need-returns Inv-loop μ-loop
 returns c = sym (c .before .loop .inv .3 ∙ none-left _ _ _ (length-slotsIn _ _ _ _ ∙ omega arith))
 
@@ -76,13 +55,13 @@ fill-slots-spec =
     Inv-loop
     μ-loop
     loop-holds
-    room-in-requires
-    add-set-slot
-    type-in-requires
-    set-slot-requires
+    (λ c κs. search needs)
+    (λ c. search needs)
+    (λ c κs. search needs)
+    (λ c κs. search needs)
     add-start
-    add-j
-    loop-less
+    (λ c. search needs)
+    (λ c. search needs)
     loop-again
-    same-length
+    (λ c. search needs)
     returns)

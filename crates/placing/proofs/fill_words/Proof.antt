@@ -26,12 +26,6 @@ loop-holds c =
     let f : a .u - 0 ≡ a .u = omega arith in
     (omega arith, refl, rw f (omega arith), rw (f, add-zero))
 
-length-in-requires : tie.Need-length-in-requires Inv-loop μ-loop
-length-in-requires c κs = search needs
-
-type-in-requires : tie.Need-type-in-requires Inv-loop μ-loop
-type-in-requires c κs = search needs
-
 word-in-requires : tie.Need-word-in-requires Inv-loop μ-loop
 word-in-requires c κs =
     let l = c .before .before .before in
@@ -40,26 +34,11 @@ word-in-requires c κs =
     let m = lengths-more (s .args .vals .now) (s .args .u) (l .loop .j) (c .before .before .loop-test .taken) in
     (omega (arith, m, l .loop .inv .2, v .encoded, c .before .length-in .ensures), rw (c .type-in .ensures, c .before .length-in .ensures) (v .short (l .loop .j) (c .before .before .loop-test .taken)))
 
-add-words : tie.Need-add-words Inv-loop μ-loop
-add-words c = search needs
-
-mul-words : tie.Need-mul-words Inv-loop μ-loop
-mul-words c = search needs
-
-slice-write-words : tie.Need-slice-write-words Inv-loop μ-loop
-slice-write-words c = search needs
-
 add-t : tie.Need-add-t Inv-loop μ-loop
 add-t c =
     let l = c .before .before .before .before in
     let s = l .before .before .before .before in
     omega (arith, lengths-more (s .args .vals .now) (s .args .u) (l .loop .j) (c .before .before .before .loop-test .taken), l .loop .inv .2, s .pre .1 .encoded, c .before .before .length-in .ensures)
-
-add-j : tie.Need-add-j Inv-loop μ-loop
-add-j c = search needs
-
-loop-less : tie.Need-loop-less Inv-loop μ-loop
-loop-less c = search needs
 
 loop-again : tie.Need-loop-again Inv-loop μ-loop
 loop-again c =
@@ -73,9 +52,6 @@ loop-again c =
       l .loop .inv .3 ∙ rw (c .word-in .ensures, c .before .type-in .ensures, c .before .before .length-in .ensures) (words-more (a .vals .now) (a .encodings .now) (l .loop .words) (a .v) (a .u) (l .loop .j) (l .loop .t) h (omega (arith, l .loop .inv .1, s .pre .0))),
     )
 
-same-length : tie.Need-same-length Inv-loop μ-loop
-same-length c = search needs
-
 returns : tie.Need-returns Inv-loop μ-loop
 returns c = sym (c .before .loop .inv .3 ∙ none-left _ _ _ (length-wordsOf _ ∙ given-length _ _ _ _ _ ∙ omega arith))
 
@@ -86,15 +62,15 @@ fill-words-spec =
     Inv-loop
     μ-loop
     loop-holds
-    length-in-requires
-    type-in-requires
+    (λ c κs. search needs)
+    (λ c κs. search needs)
     word-in-requires
-    add-words
-    mul-words
-    slice-write-words
+    (λ c. search needs)
+    (λ c. search needs)
+    (λ c. search needs)
     add-t
-    add-j
-    loop-less
+    (λ c. search needs)
+    (λ c. search needs)
     loop-again
-    same-length
+    (λ c. search needs)
     returns)

@@ -26,21 +26,6 @@ begun c =
 v≤ : (s : tie.Start) → before (s .args .objects .now) (s .args .i) 16 1 ≤ valuesOf (s .args .objects .now)
 v≤ s = values-before (modelOf (D s)) (D s) (s .pre .0) (s .args .i) (s .pre .1 .0 .place)
 
-number-of-requires : tie.Need-number-of-requires
-number-of-requires c κs = search needs
-
-values-of-requires : tie.Need-values-of-requires
-values-of-requires c κs = search needs
-
-used-of-requires : tie.Need-used-of-requires
-used-of-requires c κs = search needs
-
-values-before-requires : tie.Need-values-before-requires
-values-before-requires c κs = search needs
-
-bytes-before-requires : tie.Need-bytes-before-requires
-bytes-before-requires c κs = search needs
-
 insert-words-requires : tie.Need-insert-words-requires
 insert-words-requires c κs =
     let k = begun (c .before) in
@@ -88,18 +73,6 @@ insert-object-requires c κs =
       ),
     )
 
-same-length : tie.Need-same-length
-same-length c = search needs
-
-same-length-2 : tie.Need-same-length-2
-same-length-2 c = search needs
-
-same-length-3 : tie.Need-same-length-3
-same-length-3 c = search needs
-
-same-length-4 : tie.Need-same-length-4
-same-length-4 c = search needs
-
 returns : tie.Need-returns
 returns c =
     let p = c .before .before .before .before .before .before .before .before .before .before .before .before .before .before .before .before in
@@ -119,18 +92,18 @@ pub insert-at-spec : {M : Type 1} → statement M
 insert-at-spec =
     tie.close
     (tie.spec
-    number-of-requires
-    values-of-requires
-    used-of-requires
-    values-before-requires
-    bytes-before-requires
+    (λ c κs. search needs)
+    (λ c κs. search needs)
+    (λ c κs. search needs)
+    (λ c κs. search needs)
+    (λ c κs. search needs)
     insert-words-requires
     add-insert-slots
     insert-slots-requires
     insert-bytes-requires
     insert-object-requires
-    same-length
-    same-length-2
-    same-length-3
-    same-length-4
+    (λ c. search needs)
+    (λ c. search needs)
+    (λ c. search needs)
+    (λ c. search needs)
     returns)

@@ -15,21 +15,6 @@ use borrow.Author.Needs.{needs}
 use Rattle.placing.proofs.insert_bytes.Statement.{statement}
 use Rattle.placing.proofs.insert_bytes.Tie as tie
 
-move-up-bytes-requires : tie.Need-move-up-bytes-requires
-move-up-bytes-requires c κs = search needs
-
-lay-requires : tie.Need-lay-requires
-lay-requires c κs = search needs
-
-add-fill-rooms : tie.Need-add-fill-rooms
-add-fill-rooms c = search needs
-
-fill-rooms-requires : tie.Need-fill-rooms-requires
-fill-rooms-requires c κs = search needs
-
-same-length : tie.Need-same-length
-same-length c = search needs
-
 returns : tie.Need-returns
 returns c =
     let k = c .before .before .before .before .before .before .before .before .before .before .before .before .before .before .before .before in
@@ -49,9 +34,9 @@ pub insert-bytes-spec : {M : Type 1} → statement M
 insert-bytes-spec =
     tie.close
     (tie.spec
-    move-up-bytes-requires
-    lay-requires
-    add-fill-rooms
-    fill-rooms-requires
-    same-length
+    (λ c κs. search needs)
+    (λ c κs. search needs)
+    (λ c. search needs)
+    (λ c κs. search needs)
+    (λ c. search needs)
     returns)

@@ -12,15 +12,6 @@ use Rattle.given.proofs.GivenLaws.{length-slotsIn}
 use Rattle.placing.proofs.insert_slots.Statement.{statement}
 use Rattle.placing.proofs.insert_slots.Tie as tie
 
-open-slots-requires : tie.Need-open-slots-requires
-open-slots-requires c κs = search needs
-
-fill-slots-requires : tie.Need-fill-slots-requires
-fill-slots-requires c κs = search needs
-
-same-length : tie.Need-same-length
-same-length c = search needs
-
 returns : tie.Need-returns
 returns c =
     let o = c .before .before .before .before .before .before in
@@ -32,4 +23,4 @@ returns c =
     ∙ rw (o .open-slots .ensures) (fill-gap s (slotPlace (a .v)) (slotPlace (a .m)) (slotPlace (a .u)) (slotsIn (a .vals .now) (a .u) 0 (a .b)) (length-slotsIn (a .vals .now) (a .u) 0 (a .b)) (omega (arith, p .pre .0)) (omega (arith, p .pre .0, l)))
 
 pub insert-slots-spec : {M : Type 1} → statement M
-insert-slots-spec = tie.close (tie.spec open-slots-requires fill-slots-requires same-length returns)
+insert-slots-spec = tie.close (tie.spec (λ c κs. search needs) (λ c κs. search needs) (λ c. search needs) returns)

@@ -9,15 +9,6 @@ use borrow.Author.Needs.{needs}
 use Rattle.placing.proofs.insert_words.Statement.{statement}
 use Rattle.placing.proofs.insert_words.Tie as tie
 
-move-up-requires : tie.Need-move-up-requires
-move-up-requires c κs = search needs
-
-fill-words-requires : tie.Need-fill-words-requires
-fill-words-requires c κs = search needs
-
-same-length : tie.Need-same-length
-same-length c = search needs
-
 returns : tie.Need-returns
 returns c =
     let s = c .before .before .before .before .before .before .before .before .before .before .before in
@@ -26,4 +17,4 @@ returns c =
     c .before .before .fill-words .ensures ∙ rw (c .before .before .before .before .before .before .move-up .ensures) (fill-gap (a .words .now) (a .v) (a .m) (a .u) (wordsOf w) (length-wordsOf w ∙ given-length (a .vals .now) (a .encodings .now) (a .u) 0 0) (s .pre .0) (s .pre .1))
 
 pub insert-words-spec : {M : Type 1} → statement M
-insert-words-spec = tie.close (tie.spec move-up-requires fill-words-requires same-length returns)
+insert-words-spec = tie.close (tie.spec (λ c κs. search needs) (λ c κs. search needs) (λ c. search needs) returns)

@@ -5,18 +5,9 @@ use borrow.Author.Needs.{needs}
 use Rattle.placing.proofs.values_before.Statement.{statement}
 use Rattle.placing.proofs.values_before.Tie as tie
 
-number-of-requires : tie.Need-number-of-requires
-number-of-requires c κs = search needs
-
-first-at-requires : tie.Need-first-at-requires
-first-at-requires c κs = search needs
-
 returns : tie.Need-returns
 returns c =
     c .first-at .ensures ∙ simp (lt-ltb _ _ (rw (c .before .before .number-of .ensures) at (c .before .if1 .taken)))
-
-values-of-requires : tie.Need-values-of-requires
-values-of-requires c κs = search needs
 
 returns-2 : tie.Need-returns-2
 returns-2 c =
@@ -24,4 +15,4 @@ returns-2 c =
 
 pub values-before-spec : {M : Type 1} → statement M
 values-before-spec =
-    tie.close (tie.spec number-of-requires first-at-requires returns values-of-requires returns-2)
+    tie.close (tie.spec (λ c κs. search needs) (λ c κs. search needs) returns (λ c κs. search needs) returns-2)

@@ -7,9 +7,6 @@ use borrow.Author.Needs.{needs}
 use Rattle.placing.proofs.word_in.Statement.{statement}
 use Rattle.placing.proofs.word_in.Tie as tie
 
-is-text-requires : tie.Need-is-text-requires
-is-text-requires c κs = search needs
-
 returns : tie.Need-returns
 returns c =
     let a = c .before .before .before .args in
@@ -23,4 +20,4 @@ returns-2 : tie.Need-returns-2
 returns-2 c = rw (sym (c .before .before .is-text .ensures) ∙ c .before .if1 .left) (c .number .ensures)
 
 pub word-in-spec : {M : Type 1} → statement M
-word-in-spec = tie.close (tie.spec is-text-requires returns number-requires returns-2)
+word-in-spec = tie.close (tie.spec (λ c κs. search needs) returns number-requires returns-2)

@@ -6,13 +6,10 @@ use Rattle.text.proofs.AsciiLaws.{low-part}
 use Rattle.text.proofs.eight_ascii.Statement.{statement}
 use Rattle.text.proofs.eight_ascii.Tie as tie
 
-eight-requires : tie.Need-eight-requires
-eight-requires c κs = search needs
-
 returns : tie.Need-returns
 returns c = λ e k a b.
     let i = c .before .before in
     low-part (now (i .args .s)) (i .args .i) 8 (c .eight .result) 0x8080808080808080 refl (λ j. c .before .shared-slice-known .given j .fits) (i .pre) (c .eight .ensures) e k a b
 
 pub eight-ascii-spec : {M : Type 1} → statement M
-eight-ascii-spec = tie.close (tie.spec eight-requires returns)
+eight-ascii-spec = tie.close (tie.spec (λ c κs. search needs) returns)

@@ -6,17 +6,8 @@ use Rattle.text.proofs.AsciiLaws.{skip-low}
 use Rattle.text.proofs.half_block.Statement.{statement}
 use Rattle.text.proofs.half_block.Tie as tie
 
-sub-if1 : tie.Need-sub-if1
-sub-if1 c = search needs
-
 returns : tie.Need-returns
 returns c = search needs
-
-four-ascii-requires : tie.Need-four-ascii-requires
-four-ascii-requires c κs = search needs
-
-add-result : tie.Need-add-result
-add-result c = search needs
 
 returns-2 : tie.Need-returns-2
 returns-2 c =
@@ -28,4 +19,4 @@ returns-3 c = search needs
 
 pub half-block-spec : {M : Type 1} → statement M
 half-block-spec =
-    tie.close (tie.spec sub-if1 returns four-ascii-requires add-result returns-2 returns-3)
+    tie.close (tie.spec (λ c. search needs) returns (λ c κs. search needs) (λ c. search needs) returns-2 returns-3)

@@ -12,12 +12,6 @@ small c =
     let o = c .before .before in
     omega (arith, c .wide .ensures, class-lt (now (o .args .class)) (now (o .args .after)) (o .pre .0) (o .args .b) (o .fits .b .fits))
 
-element-copy-out-wide : tie.Need-element-copy-out-wide
-element-copy-out-wide c = search needs
-
-wide-requires : tie.Need-wide-requires
-wide-requires c κs = search needs
-
 mul-wide : tie.Need-mul-wide
 mul-wide c = omega (arith, small c)
 
@@ -26,9 +20,6 @@ add-wide c = omega (arith, small c)
 
 element-copy-out-wide-2 : tie.Need-element-copy-out-wide-2
 element-copy-out-wide-2 c = omega (arith, small c)
-
-wide-requires-2 : tie.Need-wide-requires-2
-wide-requires-2 c κs = search needs
 
 returns : tie.Need-returns
 returns c =
@@ -39,10 +30,10 @@ pub next-spec : {M : Type 1} → statement M
 next-spec =
     tie.close
     (tie.spec
-    element-copy-out-wide
-    wide-requires
+    (λ c. search needs)
+    (λ c κs. search needs)
     mul-wide
     add-wide
     element-copy-out-wide-2
-    wide-requires-2
+    (λ c κs. search needs)
     returns)

@@ -12,20 +12,8 @@ use Rattle.text.proofs.Laws.{skip-pair}
 use Rattle.text.proofs.pair.Statement.{statement}
 use Rattle.text.proofs.pair.Tie as tie
 
-sub-if1 : tie.Need-sub-if1
-sub-if1 c = search needs
-
 returns : tie.Need-returns
 returns c = λ e. absurd (subst T (sym e) tt)
-
-shared-slice-read-b : tie.Need-shared-slice-read-b
-shared-slice-read-b c = search needs
-
-add-c : tie.Need-add-c
-add-c c = search needs
-
-shared-slice-read-c : tie.Need-shared-slice-read-c
-shared-slice-read-c c = search needs
 
 returns-2 : tie.Need-returns-2
 returns-2 c = λ e.
@@ -39,4 +27,4 @@ returns-2 c = λ e.
 
 pub pair-spec : {M : Type 1} → statement M
 pair-spec =
-    tie.close (tie.spec sub-if1 returns shared-slice-read-b add-c shared-slice-read-c returns-2)
+    tie.close (tie.spec (λ c. search needs) returns (λ c. search needs) (λ c. search needs) (λ c. search needs) returns-2)

@@ -8,23 +8,8 @@ use Rattle.text.proofs.AsciiLaws.{low-join}
 use Rattle.text.proofs.short_ascii.Statement.{statement}
 use Rattle.text.proofs.short_ascii.Tie as tie
 
-sub-n : tie.Need-sub-n
-sub-n c = search needs
-
-few-ascii-requires : tie.Need-few-ascii-requires
-few-ascii-requires c κs = search needs
-
 returns : tie.Need-returns
 returns c = search needs
-
-eight-ascii-requires : tie.Need-eight-ascii-requires
-eight-ascii-requires c κs = search needs
-
-sub-eight-ascii : tie.Need-sub-eight-ascii
-sub-eight-ascii c = search needs
-
-eight-ascii-requires-2 : tie.Need-eight-ascii-requires-2
-eight-ascii-requires-2 c κs = search needs
 
 returns-2 : tie.Need-returns-2
 returns-2 c = λ e k a b.
@@ -32,18 +17,6 @@ returns-2 c = λ e k a b.
     let i = o .before .before .before .before .args in
     let t = and-eq-true-iff (o .before .eight-ascii .result) (o .eight-ascii2 .result) .0 e in
     low-join (now (i .s)) (i .start) (i .start + 8) (i .end - 8) (i .end - 8 + 8) (omega arith) (o .before .eight-ascii .ensures (t .0)) (o .eight-ascii2 .ensures (t .1)) k a (omega arith)
-
-add-eight-ascii : tie.Need-add-eight-ascii
-add-eight-ascii c = search needs
-
-eight-ascii-requires-3 : tie.Need-eight-ascii-requires-3
-eight-ascii-requires-3 c κs = search needs
-
-sub-eight-ascii-2 : tie.Need-sub-eight-ascii-2
-sub-eight-ascii-2 c = search needs
-
-eight-ascii-requires-4 : tie.Need-eight-ascii-requires-4
-eight-ascii-requires-4 c κs = search needs
 
 returns-3 : tie.Need-returns-3
 returns-3 c = λ e k a b.
@@ -65,15 +38,15 @@ pub short-ascii-spec : {M : Type 1} → statement M
 short-ascii-spec =
     tie.close
     (tie.spec
-    sub-n
-    few-ascii-requires
+    (λ c. search needs)
+    (λ c κs. search needs)
     returns
-    eight-ascii-requires
-    sub-eight-ascii
-    eight-ascii-requires-2
+    (λ c κs. search needs)
+    (λ c. search needs)
+    (λ c κs. search needs)
     returns-2
-    add-eight-ascii
-    eight-ascii-requires-3
-    sub-eight-ascii-2
-    eight-ascii-requires-4
+    (λ c. search needs)
+    (λ c κs. search needs)
+    (λ c. search needs)
+    (λ c κs. search needs)
     returns-3)

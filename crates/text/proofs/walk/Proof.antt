@@ -45,9 +45,6 @@ loop-again c =
     let k = more s (l .i) (l .i) (l .i + 1) (record { on = le-refl _; inside = omega arith; same = refl }) refl (omega arith) (omega (arith, ltb-true)) in
     (omega arith, omega arith, cc)
 
-next-requires : tie.Need-next-requires Inv-loop μ-loop
-next-requires c κs = search needs
-
 returns : tie.Need-returns Inv-loop μ-loop
 returns c =
     let l = c .before .before .before .before .before .loop in
@@ -91,7 +88,7 @@ walk-spec =
     ascii-requires
     loop-less
     loop-again
-    next-requires
+    (λ c κs. search needs)
     returns
     add-i
     loop-less-2

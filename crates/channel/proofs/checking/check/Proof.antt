@@ -6,9 +6,6 @@ use borrow.Author.Needs.{needs}
 use Rattle.channel.proofs.checking.check.Statement.{statement}
 use Rattle.channel.proofs.checking.check.Tie as tie
 
-well-formed-requires : tie.Need-well-formed-requires
-well-formed-requires c κs = search needs
-
 returns : tie.Need-returns
 unfolding checkOf
 returns c = simp (sym (c .before .well-formed .ensures) ∙ not-true _ (c .if1 .taken))
@@ -20,4 +17,4 @@ returns-2 : tie.Need-returns-2
 returns-2 c = c .check-judged .ensures
 
 pub check-spec : {M : Type 1} → statement M
-check-spec = tie.close (tie.spec well-formed-requires returns check-judged-requires returns-2)
+check-spec = tie.close (tie.spec (λ c κs. search needs) returns check-judged-requires returns-2)

@@ -51,9 +51,6 @@ list-count-requires c κs = let s = c .before .before .before .before .before in
 ends-requires : tie.Need-ends-requires
 ends-requires c κs = lie c
 
-is-far-requires : tie.Need-is-far-requires
-is-far-requires c κs = search needs
-
 first-fault-requires : tie.Need-first-fault-requires
 first-fault-requires c κs = let n = c .before .before .before in let s = start n in (shape-of (D s) (s .pre .0), lie n)
 
@@ -73,7 +70,7 @@ check-elements-spec =
     first-at-requires
     list-count-requires
     ends-requires
-    is-far-requires
+    (λ c κs. search needs)
     first-fault-requires
     returns
     first-fault-requires-2

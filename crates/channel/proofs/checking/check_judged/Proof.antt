@@ -9,15 +9,9 @@ use Rattle.channel.proofs.checking.check_judged.Tie as tie
 abbrev start : tie.After-has-sender → tie.Start
 start c = c .before .before .before .before .before
 
-has-sender-requires : tie.Need-has-sender-requires
-has-sender-requires c κs = search needs
-
 returns : tie.Need-returns
 unfolding checkOf
 returns c = let h = c .before in simp (start h .pre, sym (h .has-sender .ensures) ∙ not-true _ (c .if1 .taken))
-
-add-check-list : tie.Need-add-check-list
-add-check-list c = search needs
 
 check-list-requires : tie.Need-check-list-requires
 check-list-requires c κs = start (c .before) .pre
@@ -31,4 +25,4 @@ returns-2 c =
 
 pub check-judged-spec : {M : Type 1} → statement M
 check-judged-spec =
-    tie.close (tie.spec has-sender-requires returns add-check-list check-list-requires returns-2)
+    tie.close (tie.spec (λ c κs. search needs) returns (λ c. search needs) check-list-requires returns-2)

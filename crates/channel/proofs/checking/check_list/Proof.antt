@@ -32,12 +32,6 @@ tested n = sym (ap₂ (λ a b. eqb a 0 || eqb b 0) (n .before .kind-at .ensures)
 find-requires : tie.Need-find-requires
 find-requires c κs = let s = c .before .before .before .before in rows-of (D s) (s .pre)
 
-enum-known-r : tie.Need-enum-known-r
-enum-known-r c = search needs
-
-enum-told : tie.Need-enum-told
-enum-told c = search needs
-
 returns : tie.Need-returns
 returns c = listed (c .before .before) _ (c .enum-told .given .1)
 
@@ -70,8 +64,8 @@ check-list-spec =
     tie.close
     (tie.spec
     find-requires
-    enum-known-r
-    enum-told
+    (λ c. search needs)
+    (λ c. search needs)
     returns
     kind-at-requires
     list-count-requires

@@ -78,9 +78,6 @@ shared-slice-read-word-verdict c = let i = c .before .before .before in omega (a
 word-verdict-requires : tie.Need-word-verdict-requires Inv-loop μ-loop
 word-verdict-requires c κs = let i = c .before .before .before in start (i .before) .pre .0
 
-enum-known-fault : tie.Need-enum-known-fault Inv-loop μ-loop
-enum-known-fault c = search needs
-
 add-t17 : tie.Need-add-t17 Inv-loop μ-loop
 add-t17 c = let i = c .before .before .before .before .before .before .before in omega (arith, i .loop-test .taken, start (i .before) .pre .1 .few)
 
@@ -89,15 +86,6 @@ returns-2 c =
     let f = c .before in
     let v = f .before .before in
     sym (ap (onVerdict _ _) (verdict-is v ∙ f .fault .given .1)) ∙ decided (v .before .before .before .before)
-
-enum-told : tie.Need-enum-told Inv-loop μ-loop
-enum-told c = search needs
-
-add-j : tie.Need-add-j Inv-loop μ-loop
-add-j c = search needs
-
-loop-less : tie.Need-loop-less Inv-loop μ-loop
-loop-less c = search needs
 
 loop-again : tie.Need-loop-again Inv-loop μ-loop
 loop-again c =
@@ -126,11 +114,11 @@ first-fault-spec =
     mul-word-verdict
     shared-slice-read-word-verdict
     word-verdict-requires
-    enum-known-fault
+    (λ c. search needs)
     add-t17
     returns-2
-    enum-told
-    add-j
-    loop-less
+    (λ c. search needs)
+    (λ c. search needs)
+    (λ c. search needs)
     loop-again
     returns-3)

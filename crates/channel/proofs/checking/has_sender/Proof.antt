@@ -28,17 +28,8 @@ told m =
     let s = start (found u) in
     ap (isAt (s .args .i)) (m .first-match .ensures ∙ ap (firstMatch (D s)) (m .before .sender-for .ensures)) ∙ ap (hasSender (D s) (s .args .i)) (sym (v .v .given .1) ∙ u .u8-in .ensures)
 
-add-index : tie.Need-add-index
-add-index c = search needs
-
 find-requires : tie.Need-find-requires
 find-requires c κs = let s = c .before .before .before .before in rows-of (D s) (s .pre)
-
-enum-known-row : tie.Need-enum-known-row
-enum-known-row c = search needs
-
-enum-told : tie.Need-enum-told
-enum-told c = search needs
 
 returns : tie.Need-returns
 returns c =
@@ -51,12 +42,6 @@ u8-in-requires c κs =
     let r = c .before in
     let f = r .before .before in
     (start f .pre, sym (f .find .ensures) ∙ r .row .given .1)
-
-enum-known-v : tie.Need-enum-known-v
-enum-known-v c = search needs
-
-enum-told-2 : tie.Need-enum-told-2
-enum-told-2 c = search needs
 
 returns-2 : tie.Need-returns-2
 returns-2 c =
@@ -71,15 +56,6 @@ sender-for-requires c κs =
     let s = start (found u) in
     u8-small (D s) (s .pre) (commIndex (s .args .i)) 1 _ (sym (u .u8-in .ensures) ∙ v .v .given .1)
 
-first-match-requires : tie.Need-first-match-requires
-first-match-requires c κs = search needs
-
-enum-known-j : tie.Need-enum-known-j
-enum-known-j c = search needs
-
-enum-told-3 : tie.Need-enum-told-3
-enum-told-3 c = search needs
-
 returns-3 : tie.Need-returns-3
 returns-3 c = let m = c .before .before in ap (isAt _) (sym (c .enum-told3 .given .1)) ∙ told m
 
@@ -90,18 +66,18 @@ pub has-sender-spec : {M : Type 1} → statement M
 has-sender-spec =
     tie.close
     (tie.spec
-    add-index
+    (λ c. search needs)
     find-requires
-    enum-known-row
-    enum-told
+    (λ c. search needs)
+    (λ c. search needs)
     returns
     u8-in-requires
-    enum-known-v
-    enum-told-2
+    (λ c. search needs)
+    (λ c. search needs)
     returns-2
     sender-for-requires
-    first-match-requires
-    enum-known-j
-    enum-told-3
+    (λ c κs. search needs)
+    (λ c. search needs)
+    (λ c. search needs)
     returns-3
     returns-4)

@@ -5,12 +5,6 @@ use borrow.Author.Needs.{needs}
 use Rattle.channel.proofs.checking.is_far.Statement.{statement}
 use Rattle.channel.proofs.checking.is_far.Tie as tie
 
-enum-known-ends : tie.Need-enum-known-ends
-enum-known-ends c = search needs
-
-enum-told : tie.Need-enum-told
-enum-told c = search needs
-
 returns : tie.Need-returns
 returns c = sym (ap isFar (c .before .ends .given .1))
 
@@ -18,4 +12,4 @@ returns-2 : tie.Need-returns-2
 returns-2 c = search needs
 
 pub is-far-spec : {M : Type 1} → statement M
-is-far-spec = tie.close (tie.spec enum-known-ends enum-told returns returns-2)
+is-far-spec = tie.close (tie.spec (λ c. search needs) (λ c. search needs) returns returns-2)

@@ -8,11 +8,8 @@ use Rattle.channel.proofs.checking.sender_for.Tie as tie
 returns : tie.Need-returns
 returns c = sym (rw (eq-eqb _ 0 (c .if1 .taken)))
 
-cast-result : tie.Need-cast-result
-cast-result c = search needs
-
 returns-2 : tie.Need-returns-2
 returns-2 c = sym (rw (ne-eqb _ 0 (c .if1 .left)))
 
 pub sender-for-spec : {M : Type 1} → statement M
-sender-for-spec = tie.close (tie.spec returns cast-result returns-2)
+sender-for-spec = tie.close (tie.spec returns (λ c. search needs) returns-2)

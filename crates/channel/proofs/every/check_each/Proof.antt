@@ -53,12 +53,6 @@ add-find c = omega (arith, c .loop-test .taken)
 find-requires : tie.Need-find-requires Inv-loop μ-loop
 find-requires c κs = let s = start (c .before) in rows-of (D s) (s .pre .0)
 
-enum-told : tie.Need-enum-told Inv-loop μ-loop
-enum-told c = search needs
-
-enum-told-2 : tie.Need-enum-told-2 Inv-loop μ-loop
-enum-told-2 c = search needs
-
 add-i : tie.Need-add-i Inv-loop μ-loop
 add-i c = let i = c .before .before .before in omega (arith, i .loop-test .taken)
 
@@ -115,9 +109,6 @@ loop-again-2 c =
           ∙ turned f _ (t .enum-told .given .1),
     )
 
-same-length : tie.Need-same-length Inv-loop μ-loop
-same-length c = search needs
-
 returns : tie.Need-returns Inv-loop μ-loop
 returns c =
     let l = c .before in
@@ -134,8 +125,8 @@ check-each-spec =
     cast-find
     add-find
     find-requires
-    enum-told
-    enum-told-2
+    (λ c. search needs)
+    (λ c. search needs)
     add-i
     loop-less
     loop-again
@@ -146,5 +137,5 @@ check-each-spec =
     add-i-2
     loop-less-2
     loop-again-2
-    same-length
+    (λ c. search needs)
     returns)

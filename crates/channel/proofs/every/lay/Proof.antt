@@ -7,21 +7,6 @@ use borrow.Author.Needs.{needs}
 use Rattle.channel.proofs.every.lay.Statement.{statement}
 use Rattle.channel.proofs.every.lay.Tie as tie
 
-number-requires : tie.Need-number-requires
-number-requires c κs = search needs
-
-named-requires : tie.Need-named-requires
-named-requires c κs = search needs
-
-slice-aggregate-lay-words : tie.Need-slice-aggregate-lay-words
-slice-aggregate-lay-words c = search needs
-
-lay-words-requires : tie.Need-lay-words-requires
-lay-words-requires c κs = search needs
-
-same-length : tie.Need-same-length
-same-length c = search needs
-
 returns : tie.Need-returns
 returns c =
     let u = c .before .before in
@@ -34,9 +19,9 @@ pub lay-spec : {M : Type 1} → statement M
 lay-spec =
     tie.close
     (tie.spec
-    number-requires
-    named-requires
-    slice-aggregate-lay-words
-    lay-words-requires
-    same-length
+    (λ c κs. search needs)
+    (λ c κs. search needs)
+    (λ c. search needs)
+    (λ c κs. search needs)
+    (λ c. search needs)
     returns)

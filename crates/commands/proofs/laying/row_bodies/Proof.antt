@@ -85,12 +85,6 @@ add-p c =
     let s = begin (i .before .before) in
     omega (arith, length-is c, left-step (D s) (s .args .i) (s .args .n) (l .k) (i .loop-test .taken), l .inv .2, s .pre .1 .1)
 
-add-k : tie.Need-add-k Inv-loop μ-loop
-add-k c = search needs
-
-loop-less : tie.Need-loop-less Inv-loop μ-loop
-loop-less c = search needs
-
 loop-again : tie.Need-loop-again Inv-loop μ-loop
 loop-again c =
     let y = c .before .before .before in
@@ -105,9 +99,6 @@ loop-again c =
       omega (arith, length-is c, left-step (D s) (s .args .i) (s .args .n) (l .k) h, l .inv .2),
       l .inv .3 ∙ bodies-more (D s) (s .args .i) (l .store) _ (s .args .n) (l .k) (l .p) _ (c .length-at .result) h (omega (arith, l .inv .1, l .inv .2, s .pre .1 .1)) (length-is c) refl q,
     )
-
-same-length : tie.Need-same-length Inv-loop μ-loop
-same-length c = search needs
 
 returns : tie.Need-returns Inv-loop μ-loop
 returns c =
@@ -129,8 +120,8 @@ row-bodies-spec =
     add-length-at
     length-at-requires
     add-p
-    add-k
-    loop-less
+    (λ c. search needs)
+    (λ c. search needs)
     loop-again
-    same-length
+    (λ c. search needs)
     returns)

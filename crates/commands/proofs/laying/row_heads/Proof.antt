@@ -66,12 +66,6 @@ add-s c =
     let s = begin (i .before) in
     omega (arith, v .value-head .ensures .0, left-step (D s) (s .args .i) (s .args .n) (l .k) (i .loop-test .taken), l .inv .2, s .pre .1 .1)
 
-add-k : tie.Need-add-k Inv-loop μ-loop
-add-k c = search needs
-
-loop-less : tie.Need-loop-less Inv-loop μ-loop
-loop-less c = search needs
-
 loop-again : tie.Need-loop-again Inv-loop μ-loop
 loop-again c =
     let v = c .before .before in
@@ -84,9 +78,6 @@ loop-again c =
       omega (arith, v .value-head .ensures .0, left-step (D s) (s .args .i) (s .args .n) (l .k) h, l .inv .2),
       l .inv .3 ∙ heads-more (D s) (s .args .i) (l .store) _ (s .args .at) (s .args .n) (l .k) (l .s) _ (v .value-head .result) h (omega (arith, l .inv .1, s .pre .1 .0 .1)) (v .value-head .ensures .0) refl (v .value-head .ensures .1),
     )
-
-same-length : tie.Need-same-length Inv-loop μ-loop
-same-length c = search needs
 
 returns : tie.Need-returns Inv-loop μ-loop
 returns c =
@@ -106,8 +97,8 @@ row-heads-spec =
     add-value-head
     value-head-requires
     add-s
-    add-k
-    loop-less
+    (λ c. search needs)
+    (λ c. search needs)
     loop-again
-    same-length
+    (λ c. search needs)
     returns)

@@ -55,12 +55,6 @@ type-at-requires c κs = let t = there (c .before .before .before) in (t .0, t .
 length-at-requires : tie.Need-length-at-requires
 length-at-requires c κs = there (c .before .before .before .before)
 
-lay-head-requires : tie.Need-lay-head-requires
-lay-head-requires c κs = search needs
-
-same-length : tie.Need-same-length
-same-length c = search needs
-
 returns : tie.Need-returns
 returns c =
     let h = c .before .before in
@@ -85,6 +79,6 @@ value-head-spec =
     sub-in-requires
     type-at-requires
     length-at-requires
-    lay-head-requires
-    same-length
+    (λ c κs. search needs)
+    (λ c. search needs)
     returns)

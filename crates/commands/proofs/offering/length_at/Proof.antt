@@ -5,26 +5,11 @@ use borrow.Author.Needs.{needs}
 use Rattle.commands.proofs.offering.length_at.Statement.{statement}
 use Rattle.commands.proofs.offering.length_at.Tie as tie
 
-type-at-requires : tie.Need-type-at-requires
-type-at-requires c κs = search needs
-
-mul-w : tie.Need-mul-w
-mul-w c = search needs
-
-shared-slice-read-w : tie.Need-shared-slice-read-w
-shared-slice-read-w c = search needs
-
-is-text-requires : tie.Need-is-text-requires
-is-text-requires c κs = search needs
-
 returns : tie.Need-returns
 unfolding lengthIn
 returns c =
     let t = c .before in
     simp (rw (t .before .before .type-at .ensures) at (sym (t .is-text .ensures) ∙ c .if1 .taken))
-
-size-of-requires : tie.Need-size-of-requires
-size-of-requires c κs = search needs
 
 returns-2 : tie.Need-returns-2
 unfolding lengthIn
@@ -36,10 +21,10 @@ pub length-at-spec : {M : Type 1} → statement M
 length-at-spec =
     tie.close
     (tie.spec
-    type-at-requires
-    mul-w
-    shared-slice-read-w
-    is-text-requires
+    (λ c κs. search needs)
+    (λ c. search needs)
+    (λ c. search needs)
+    (λ c κs. search needs)
     returns
-    size-of-requires
+    (λ c κs. search needs)
     returns-2)

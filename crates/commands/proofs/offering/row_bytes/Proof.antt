@@ -71,12 +71,6 @@ length-at-requires c κs =
 add-sum : tie.Need-add-sum Inv-loop μ-loop
 add-sum c = omega (arith, few c, c .before .before .loop .inv .1, c .before .loop-test .taken)
 
-add-k : tie.Need-add-k Inv-loop μ-loop
-add-k c = search needs
-
-loop-less : tie.Need-loop-less Inv-loop μ-loop
-loop-less c = search needs
-
 loop-again : tie.Need-loop-again Inv-loop μ-loop
 loop-again c =
     let l = c .before .before .loop in
@@ -101,7 +95,7 @@ row-bytes-spec =
     add-length-at
     length-at-requires
     add-sum
-    add-k
-    loop-less
+    (λ c. search needs)
+    (λ c. search needs)
     loop-again
     returns)

@@ -5,9 +5,6 @@ use borrow.Author.Needs.{needs}
 use Rattle.commands.proofs.offering.sub_in.Statement.{statement}
 use Rattle.commands.proofs.offering.sub_in.Tie as tie
 
-add-result : tie.Need-add-result
-add-result c = search needs
-
 returns : tie.Need-returns
 unfolding subIn
 returns c = simp (eq-eqb _ _ (c .if1 .taken))
@@ -17,4 +14,4 @@ unfolding subIn
 returns-2 c = simp (ne-eqb _ _ (c .if1 .left))
 
 pub sub-in-spec : {M : Type 1} → statement M
-sub-in-spec = tie.close (tie.spec add-result returns returns-2)
+sub-in-spec = tie.close (tie.spec (λ c. search needs) returns returns-2)

@@ -5,21 +5,6 @@ use borrow.Author.Needs.{needs}
 use Rattle.element.proofs.elements.onto_target.Statement.{statement}
 use Rattle.element.proofs.elements.onto_target.Tie as tie
 
-enum-told : tie.Need-enum-told
-enum-told c = search needs
-
-enum-told-2 : tie.Need-enum-told-2
-enum-told-2 c = search needs
-
-enum-told-3 : tie.Need-enum-told-3
-enum-told-3 c = search needs
-
-enum-known-target : tie.Need-enum-known-target
-enum-known-target c = search needs
-
-fits-in-requires : tie.Need-fits-in-requires
-fits-in-requires c κs = search needs
-
 returns : tie.Need-returns
 returns c = ap (ontoTarget (c .before .before .args .n)) (sym (c .enum-told .given .1))
 
@@ -39,11 +24,11 @@ pub onto-target-spec : {M : Type 1} → statement M
 onto-target-spec =
     tie.close
     (tie.spec
-    enum-told
-    enum-told-2
-    enum-told-3
-    enum-known-target
-    fits-in-requires
+    (λ c. search needs)
+    (λ c. search needs)
+    (λ c. search needs)
+    (λ c. search needs)
+    (λ c κs. search needs)
     returns
     returns-2
     returns-3

@@ -19,21 +19,6 @@ away j =
     (λ w. between-high 0x1200 0x12FF x (omega (arith, w .1 .left)))
     (j .if1 .came)
 
-enum-told : tie.Need-enum-told
-enum-told c = search needs
-
-enum-told-2 : tie.Need-enum-told-2
-enum-told-2 c = search needs
-
-enum-known-e : tie.Need-enum-known-e
-enum-known-e c = search needs
-
-onto-target-requires : tie.Need-onto-target-requires
-onto-target-requires c κs = search needs
-
-enum-told-3 : tie.Need-enum-told-3
-enum-told-3 c = search needs
-
 returns : tie.Need-returns
 returns c = ap saidOf (sym (c .enum-told .given .1))
 
@@ -53,11 +38,11 @@ pub said-spec : {M : Type 1} → statement M
 said-spec =
     tie.close
     (tie.spec
-    enum-told
-    enum-told-2
-    enum-known-e
-    onto-target-requires
-    enum-told-3
+    (λ c. search needs)
+    (λ c. search needs)
+    (λ c. search needs)
+    (λ c κs. search needs)
+    (λ c. search needs)
     returns
     returns-2
     returns-3

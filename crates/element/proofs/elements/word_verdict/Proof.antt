@@ -5,15 +5,9 @@ use borrow.Author.Needs.{needs}
 use Rattle.element.proofs.elements.word_verdict.Statement.{statement}
 use Rattle.element.proofs.elements.word_verdict.Tie as tie
 
-of-word-requires : tie.Need-of-word-requires
-of-word-requires c κs = search needs
-
-said-requires : tie.Need-said-requires
-said-requires c κs = search needs
-
 returns : tie.Need-returns
 unfolding wordVerdict
 returns c = c .said .ensures ∙ ap saidOf (c .before .of-word .ensures)
 
 pub word-verdict-spec : {M : Type 1} → statement M
-word-verdict-spec = tie.close (tie.spec of-word-requires said-requires returns)
+word-verdict-spec = tie.close (tie.spec (λ c κs. search needs) (λ c κs. search needs) returns)

@@ -6,17 +6,8 @@ use borrow.Author.Needs.{needs}
 use Rattle.element.proofs.explaining.target_value.Statement.{statement}
 use Rattle.element.proofs.explaining.target_value.Tie as tie
 
-type-at-requires : tie.Need-type-at-requires
-type-at-requires c κs = search needs
-
-room-at-requires : tie.Need-room-at-requires
-room-at-requires c κs = search needs
-
-holds-requires : tie.Need-holds-requires
-holds-requires c κs = search needs
-
 returns : tie.Need-returns
 returns c = let r = c .before in rw (c .holds .ensures) (ap₂ (λ t m. Value t (holds t m)) (r .before .type-at .ensures) (r .room-at .ensures))
 
 pub target-value-spec : {M : Type 1} → statement M
-target-value-spec = tie.close (tie.spec type-at-requires room-at-requires holds-requires returns)
+target-value-spec = tie.close (tie.spec (λ c κs. search needs) (λ c κs. search needs) (λ c κs. search needs) returns)

@@ -4,12 +4,9 @@ use borrow.Author.Needs.{needs}
 use Rattle.entry.proofs.columns.list_count.Statement.{statement}
 use Rattle.entry.proofs.columns.list_count.Tie as tie
 
-count-at-requires : tie.Need-count-at-requires
-count-at-requires c κs = search needs
-
 returns : tie.Need-returns
 unfolding listCount
 returns c = search needs
 
 pub list-count-spec : {M : Type 1} → statement M
-list-count-spec = tie.close (tie.spec count-at-requires returns)
+list-count-spec = tie.close (tie.spec (λ c κs. search needs) returns)

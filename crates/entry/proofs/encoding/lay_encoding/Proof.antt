@@ -42,29 +42,8 @@ number c =
     let a = begin (c .before .before .before .before) .args in
     laid-fixed (now (a .slots)) (now (a .words)) (now (a .bytes)) (a .p) (c .size-of .result) (untexted (c .before)) (c .size-of .ensures ∙ ap sizeOf (c .before .before .before .before .type-at .ensures))
 
-type-at-requires : tie.Need-type-at-requires
-type-at-requires c κs = search needs
-
-mul-w : tie.Need-mul-w
-mul-w c = search needs
-
-shared-slice-read-w : tie.Need-shared-slice-read-w
-shared-slice-read-w c = search needs
-
-is-text-requires : tie.Need-is-text-requires
-is-text-requires c κs = search needs
-
-start-at-requires : tie.Need-start-at-requires
-start-at-requires c κs = search needs
-
 add-end : tie.Need-add-end
 add-end c = omega (arith, inside c)
-
-sub-lay : tie.Need-sub-lay
-sub-lay c = search needs
-
-part-lay-start : tie.Need-part-lay-start
-part-lay-start c = search needs
 
 part-lay-end : tie.Need-part-lay-end
 part-lay-end c = omega (arith, inside (c .before))
@@ -74,17 +53,11 @@ lay-requires c κs =
     let s = c .before .before in
     omega (arith, ap length (string s), begin (s .before .before .before .before) .pre .room)
 
-size-of-requires : tie.Need-size-of-requires
-size-of-requires c κs = search needs
-
 put-number-requires : tie.Need-put-number-requires
 put-number-requires c κs =
     let n = c .before in
     let b = begin (n .before .before .before .before) in
     omega (arith, ap length (number n), length-bytesOf (n .size-of .result) (getD (now (b .args .words)) (b .args .p) 0), b .pre .room)
-
-same-length : tie.Need-same-length
-same-length c = search needs
 
 returns : tie.Need-returns
 returns c =
@@ -92,9 +65,6 @@ returns c =
     let s = l .before .before .before in
     let a = begin (s .before .before .before .before) .args in
     l .lay .ensures ∙ ap (over (now (a .out)) (a .at)) (string s)
-
-same-length-2 : tie.Need-same-length-2
-same-length-2 c = search needs
 
 returns-2 : tie.Need-returns-2
 returns-2 c =
@@ -107,19 +77,19 @@ pub lay-encoding-spec : {M : Type 1} → statement M
 lay-encoding-spec =
     tie.close
     (tie.spec
-    type-at-requires
-    mul-w
-    shared-slice-read-w
-    is-text-requires
-    start-at-requires
+    (λ c κs. search needs)
+    (λ c. search needs)
+    (λ c. search needs)
+    (λ c κs. search needs)
+    (λ c κs. search needs)
     add-end
-    sub-lay
-    part-lay-start
+    (λ c. search needs)
+    (λ c. search needs)
     part-lay-end
     lay-requires
-    size-of-requires
+    (λ c κs. search needs)
     put-number-requires
-    same-length
+    (λ c. search needs)
     returns
-    same-length-2
+    (λ c. search needs)
     returns-2)

@@ -7,21 +7,12 @@ use borrow.Author.Needs.{needs}
 use Rattle.entry.proofs.lookup.find.Statement.{statement}
 use Rattle.entry.proofs.lookup.find.Tie as tie
 
-lower-requires : tie.Need-lower-requires
-lower-requires c κs = search needs
-
-number-of-requires : tie.Need-number-of-requires
-number-of-requires c κs = search needs
-
 returns : tie.Need-returns
 returns c =
     let n = c .before in
     let l = n .before in
     let s = l .before .before in
     sym (lower-none (now (s .args .objects)) (s .args .index) _ (l .lower .ensures) (λ h. absurd (omega (arith, h, c .if1 .taken, n .number-of .ensures))) (s .pre .rises))
-
-index-at-requires : tie.Need-index-at-requires
-index-at-requires c κs = search needs
 
 returns-2 : tie.Need-returns-2
 returns-2 c =
@@ -42,4 +33,4 @@ returns-3 c =
 pub find-spec : {M : Type 1} → statement M
 find-spec =
     tie.close
-    (tie.spec lower-requires number-of-requires returns index-at-requires returns-2 returns-3)
+    (tie.spec (λ c κs. search needs) (λ c κs. search needs) returns (λ c κs. search needs) returns-2 returns-3)

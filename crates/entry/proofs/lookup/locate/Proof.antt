@@ -9,15 +9,6 @@ use borrow.Author.Needs.{needs}
 use Rattle.entry.proofs.lookup.locate.Statement.{statement}
 use Rattle.entry.proofs.lookup.locate.Tie as tie
 
-find-requires : tie.Need-find-requires
-find-requires c κs = search needs
-
-enum-known-i : tie.Need-enum-known-i
-enum-known-i c = search needs
-
-enum-told : tie.Need-enum-told
-enum-told c = search needs
-
 returns : tie.Need-returns
 returns c =
     let f = c .before .before in
@@ -41,4 +32,4 @@ returns-2 c =
 
 pub locate-spec : {M : Type 1} → statement M
 locate-spec =
-    tie.close (tie.spec find-requires enum-known-i enum-told returns sub-at-requires returns-2)
+    tie.close (tie.spec (λ c κs. search needs) (λ c. search needs) (λ c. search needs) returns sub-at-requires returns-2)

@@ -41,12 +41,6 @@ returns-3 c =
     let k = z .before .before in
     simp (ne-eqb _ _ (λ q. k .if1 .left (k .before .before .kind-at .ensures ∙ q)), eq-eqb _ _ (z .if3 .taken)) (ap Count (c .list-count .ensures))
 
-sub-t11 : tie.Need-sub-t11
-sub-t11 c = search needs
-
-cast-t12 : tie.Need-cast-t12
-cast-t12 c = search needs
-
 add-t13 : tie.Need-add-t13
 add-t13 c =
     let n = c .before .before in
@@ -81,8 +75,8 @@ sub-at-spec =
     count-at-requires
     list-count-requires
     returns-3
-    sub-t11
-    cast-t12
+    (λ c. search needs)
+    (λ c. search needs)
     add-t13
     returns-4
     returns-5)

@@ -10,30 +10,12 @@ use Rattle.entry.proofs.put.put_new.Tie as tie
 abbrev start : tie.After-slot → tie.Start
 start c = c .before .before .before .before .before
 
-slot-requires : tie.Need-slot-requires
-slot-requires c κs = search needs
-
-mul-slots : tie.Need-mul-slots
-mul-slots c = search needs
-
-slice-write-slots : tie.Need-slice-write-slots
-slice-write-slots c = search needs
-
 put-value-requires : tie.Need-put-value-requires
 put-value-requires c κs =
     let l = c .before .before .before in
     let s = start l in
     let a = s .args in
     subst (λ n. Puts (set (now (a .slots)) n (a .t)) (now (a .words)) (now (a .bytes)) (a .p) (now (a .«data»))) (sym (l .slot .ensures)) (s .pre .1)
-
-same-length : tie.Need-same-length
-same-length c = search needs
-
-same-length-2 : tie.Need-same-length-2
-same-length-2 c = search needs
-
-same-length-3 : tie.Need-same-length-3
-same-length-3 c = search needs
 
 returns : tie.Need-returns
 returns c =
@@ -46,11 +28,11 @@ pub put-new-spec : {M : Type 1} → statement M
 put-new-spec =
     tie.close
     (tie.spec
-    slot-requires
-    mul-slots
-    slice-write-slots
+    (λ c κs. search needs)
+    (λ c. search needs)
+    (λ c. search needs)
     put-value-requires
-    same-length
-    same-length-2
-    same-length-3
+    (λ c. search needs)
+    (λ c. search needs)
+    (λ c. search needs)
     returns)

@@ -21,46 +21,16 @@ texted c = rw (c .before .before .type-at .ensures) at (sym (c .before .is-text 
 untexted : (c : tie.Else1) → let a = c .before .before .before .before .before .before .before .args in isText (typeAt (now (a .slots)) (a .p)) ≡ false
 untexted c = rw (c .before .before .type-at .ensures) at (sym (c .before .is-text .ensures) ∙ c .if1 .left)
 
-type-at-requires : tie.Need-type-at-requires
-type-at-requires c κs = search needs
-
-is-text-requires : tie.Need-is-text-requires
-is-text-requires c κs = search needs
-
-mul-words : tie.Need-mul-words
-mul-words c = search needs
-
-slice-write-words : tie.Need-slice-write-words
-slice-write-words c = search needs
-
-start-at-requires : tie.Need-start-at-requires
-start-at-requires c κs = search needs
-
 lay-requires : tie.Need-lay-requires
 lay-requires c κs =
     let b = c .before .before in
     omega (arith, c .before .start-at .ensures, b .before .before .before .before .before .before .before .pre .text (texted b))
-
-size-of-requires : tie.Need-size-of-requires
-size-of-requires c κs = search needs
 
 number-requires : tie.Need-number-requires
 number-requires c κs =
     let e = c .before in
     let s = c .size-of .ensures ∙ ap sizeOf (e .before .before .type-at .ensures) in
     (omega (arith, c .size-of .ensures, size-le (e .before .before .type-at .result)), omega (arith, s, e .before .before .before .before .before .before .before .pre .fixed (untexted e)))
-
-mul-words-2 : tie.Need-mul-words-2
-mul-words-2 c = search needs
-
-slice-write-words-2 : tie.Need-slice-write-words-2
-slice-write-words-2 c = search needs
-
-same-length : tie.Need-same-length
-same-length c = search needs
-
-same-length-2 : tie.Need-same-length-2
-same-length-2 c = search needs
 
 returns : tie.Need-returns
 returns c =
@@ -69,9 +39,6 @@ returns c =
     let b = s .before in
     let a = b .before .before .before .before .before .before .before .args in
     ap (contents _) (l .lay .ensures ∙ ap (λ n. over (now (a .bytes)) n (now (a .«data»))) (s .start-at .ensures)) ∙ sym (put-text (now (a .slots)) (contents (now (a .words)) (now (a .bytes))) (a .p) (now (a .«data»)) (texted b))
-
-same-length-3 : tie.Need-same-length-3
-same-length-3 c = search needs
 
 returns-2 : tie.Need-returns-2
 returns-2 c =
@@ -85,18 +52,18 @@ pub put-value-spec : {M : Type 1} → statement M
 put-value-spec =
     tie.close
     (tie.spec
-    type-at-requires
-    is-text-requires
-    mul-words
-    slice-write-words
-    start-at-requires
+    (λ c κs. search needs)
+    (λ c κs. search needs)
+    (λ c. search needs)
+    (λ c. search needs)
+    (λ c κs. search needs)
     lay-requires
-    size-of-requires
+    (λ c κs. search needs)
     number-requires
-    mul-words-2
-    slice-write-words-2
-    same-length
-    same-length-2
+    (λ c. search needs)
+    (λ c. search needs)
+    (λ c. search needs)
+    (λ c. search needs)
     returns
-    same-length-3
+    (λ c. search needs)
     returns-2)

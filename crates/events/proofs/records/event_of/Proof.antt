@@ -30,9 +30,6 @@ returns-5 c =
     let b = c .before .before in
     simp (ne-eqb _ _ (b .before .before .if1 .left), ne-eqb _ _ (b .before .if2 .left), ne-eqb _ _ (b .if3 .left), ne-eqb _ _ (c .before .if4 .left), eq-eqb _ _ (c .if5 .taken))
 
-cause-of-requires : tie.Need-cause-of-requires
-cause-of-requires c κs = search needs
-
 returns-6 : tie.Need-returns-6
 returns-6 c =
     let a = c .before in
@@ -40,4 +37,4 @@ returns-6 c =
     ap PayloadShort (c .cause-of .ensures) ∙ event-short _ _ _ (b .before .before .if1 .left) (b .before .if2 .left) (b .if3 .left) (a .before .if4 .left) (a .if5 .left)
 
 pub event-of-spec : {M : Type 1} → statement M
-event-of-spec = tie.close (tie.spec returns returns-2 returns-3 returns-4 returns-5 cause-of-requires returns-6)
+event-of-spec = tie.close (tie.spec returns returns-2 returns-3 returns-4 returns-5 (λ c κs. search needs) returns-6)

@@ -6,12 +6,6 @@ use Rattle.events.proofs.NumberLaws.{recorded-is, recorded-none}
 use Rattle.events.proofs.records.event_record.Statement.{statement}
 use Rattle.events.proofs.records.event_record.Tie as tie
 
-is-record-requires : tie.Need-is-record-requires
-is-record-requires c κs = search needs
-
-record-of-requires : tie.Need-record-of-requires
-record-of-requires c κs = search needs
-
 returns : tie.Need-returns
 returns c = ap Is (c .record-of .ensures) ∙ recorded-is _ (sym (c .before .before .is-record .ensures) ∙ c .before .if1 .taken)
 
@@ -19,4 +13,4 @@ returns-2 : tie.Need-returns-2
 returns-2 c = recorded-none _ (sym (c .before .is-record .ensures) ∙ c .if1 .left)
 
 pub event-record-spec : {M : Type 1} → statement M
-event-record-spec = tie.close (tie.spec is-record-requires record-of-requires returns returns-2)
+event-record-spec = tie.close (tie.spec (λ c κs. search needs) (λ c κs. search needs) returns returns-2)

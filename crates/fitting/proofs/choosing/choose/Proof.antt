@@ -36,12 +36,6 @@ key-at-requires c κs =
 look-up-requires : tie.Need-look-up-requires
 look-up-requires c κs = c .before .before .before .before .before .before .pre .1 .1
 
-enum-known-found : tie.Need-enum-known-found
-enum-known-found c = search needs
-
-enum-told : tie.Need-enum-told
-enum-told c = search needs
-
 default-for-requires : tie.Need-default-for-requires
 default-for-requires c κs = let s = start (c .before .before) in (s .pre .0, s .pre .1 .0)
 
@@ -57,8 +51,8 @@ choose-spec =
     (tie.spec
     key-at-requires
     look-up-requires
-    enum-known-found
-    enum-told
+    (λ c. search needs)
+    (λ c. search needs)
     default-for-requires
     returns
     returns-2)

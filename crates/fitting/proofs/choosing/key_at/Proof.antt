@@ -7,12 +7,6 @@ use borrow.Author.Needs.{needs}
 use Rattle.fitting.proofs.choosing.key_at.Statement.{statement}
 use Rattle.fitting.proofs.choosing.key_at.Tie as tie
 
-index-at-requires : tie.Need-index-at-requires
-index-at-requires c κs = search needs
-
-kind-at-requires : tie.Need-kind-at-requires
-kind-at-requires c κs = search needs
-
 mul-result : tie.Need-mul-result
 mul-result c = let s = c .before .before .before in omega (arith, c .before .index-at .ensures, s .pre)
 
@@ -33,4 +27,4 @@ returns c =
 pub key-at-spec : {M : Type 1} → statement M
 key-at-spec =
     tie.close
-    (tie.spec index-at-requires kind-at-requires mul-result sub-in-requires add-result returns)
+    (tie.spec (λ c κs. search needs) (λ c κs. search needs) mul-result sub-in-requires add-result returns)

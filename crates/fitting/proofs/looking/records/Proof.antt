@@ -7,9 +7,6 @@ use borrow.Author.Needs.{needs}
 use Rattle.fitting.proofs.looking.records.Statement.{statement}
 use Rattle.fitting.proofs.looking.records.Tie as tie
 
-judge-image-requires : tie.Need-judge-image-requires
-judge-image-requires c κs = search needs
-
 number-requires : tie.Need-number-requires
 number-requires c κs =
     let j = c .before in
@@ -22,4 +19,4 @@ returns-2 : tie.Need-returns-2
 returns-2 c = let j = c .before in rw (sym (j .judge-image .ensures) ∙ c .if1 .left)
 
 pub records-spec : {M : Type 1} → statement M
-records-spec = tie.close (tie.spec judge-image-requires number-requires returns returns-2)
+records-spec = tie.close (tie.spec (λ c κs. search needs) number-requires returns returns-2)

@@ -46,9 +46,6 @@ add-j : tie.Need-add-j Inv-loop μ-loop
 add-j c =
     let i = c .before .before in omega (arith, i .before .before .before .pre, i .loop-test .taken)
 
-loop-less : tie.Need-loop-less Inv-loop μ-loop
-loop-less c = search needs
-
 loop-again : tie.Need-loop-again Inv-loop μ-loop
 loop-again c =
     let i = c .before .before in
@@ -74,6 +71,6 @@ seek-spec =
     key-in-requires
     returns
     add-j
-    loop-less
+    (λ c. search needs)
     loop-again
     returns-2)

@@ -6,11 +6,8 @@ use borrow.Author.Needs.{needs}
 use Rattle.fitting.proofs.rooms.text_fits.Statement.{statement}
 use Rattle.fitting.proofs.rooms.text_fits.Tie as tie
 
-is-text-requires : tie.Need-is-text-requires
-is-text-requires c κs = search needs
-
 returns : tie.Need-returns
 returns c = let s = c .before .args in ap (λ b. not b || leb (s .len) (s .room)) (c .is-text .ensures)
 
 pub text-fits-spec : {M : Type 1} → statement M
-text-fits-spec = tie.close (tie.spec is-text-requires returns)
+text-fits-spec = tie.close (tie.spec (λ c κs. search needs) returns)

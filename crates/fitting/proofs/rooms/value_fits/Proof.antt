@@ -56,12 +56,6 @@ add-room-at c = omega (arith, there (c .before) .low, c .first-at .ensures)
 room-at-requires : tie.Need-room-at-requires
 room-at-requires c κs = let f = there (c .before) in rw (c .first-at .ensures) (f .low, f .slot)
 
-enum-told : tie.Need-enum-told
-enum-told c = search needs
-
-enum-known-choice : tie.Need-enum-known-choice
-enum-known-choice c = search needs
-
 type-in-requires : tie.Need-type-in-requires
 type-in-requires c κs =
     let a = c .before in
@@ -75,12 +69,6 @@ size-at-requires c κs =
     let h = a .before .before .before .before in
     let s = start h in
     chosen-stored (D s) (now (s .args .store)) (s .args .i) (s .args .k) _ (chosen h _ (a .choice .given .1)) .body .head
-
-text-fits-requires : tie.Need-text-fits-requires
-text-fits-requires c κs = search needs
-
-enum-known-choice-2 : tie.Need-enum-known-choice-2
-enum-known-choice-2 c = search needs
 
 type-at-requires : tie.Need-type-at-requires
 type-at-requires c κs =
@@ -100,9 +88,6 @@ shared-slice-read-text-fits c =
     let a = c .before .before .before in
     let h = a .before .before .before .before in
     default-there h _ (a .choice2 .given .1) .word
-
-text-fits-requires-2 : tie.Need-text-fits-requires-2
-text-fits-requires-2 c κs = search needs
 
 returns : tie.Need-returns
 unfolding fitsRoom
@@ -135,16 +120,16 @@ value-fits-spec =
     first-at-requires
     add-room-at
     room-at-requires
-    enum-told
-    enum-known-choice
+    (λ c. search needs)
+    (λ c. search needs)
     type-in-requires
     size-at-requires
-    text-fits-requires
-    enum-known-choice-2
+    (λ c κs. search needs)
+    (λ c. search needs)
     type-at-requires
     mul-text-fits
     shared-slice-read-text-fits
-    text-fits-requires-2
+    (λ c κs. search needs)
     returns
     returns-2
     returns-3)

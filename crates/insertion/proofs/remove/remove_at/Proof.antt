@@ -21,33 +21,6 @@ spot c =
 inside : (c : tie.After-bytes-before2) → Within (c .before .before .before .before .before .before .values-before .result) (c .before .before .before .before .values-before2 .result) (c .before .before .before .before .before .before .before .before .before .before .values-of .result) (c .before .before .bytes-before .result) (c .bytes-before2 .result) (c .before .before .before .before .before .before .before .before .used-of .result)
 inside c = let s = begin c in within (modelOf (D s)) (D s) (s .pre .0) (s .args .i) _ _ _ _ _ _ _ (s .pre .1 .1) (spot c)
 
-number-of-requires : tie.Need-number-of-requires
-number-of-requires c κs = search needs
-
-values-of-requires : tie.Need-values-of-requires
-values-of-requires c κs = search needs
-
-used-of-requires : tie.Need-used-of-requires
-used-of-requires c κs = search needs
-
-values-before-requires : tie.Need-values-before-requires
-values-before-requires c κs = search needs
-
-add-values-before : tie.Need-add-values-before
-add-values-before c = search needs
-
-values-before-requires-2 : tie.Need-values-before-requires-2
-values-before-requires-2 c κs = search needs
-
-bytes-before-requires : tie.Need-bytes-before-requires
-bytes-before-requires c κs = search needs
-
-add-bytes-before : tie.Need-add-bytes-before
-add-bytes-before c = search needs
-
-bytes-before-requires-2 : tie.Need-bytes-before-requires-2
-bytes-before-requires-2 c κs = search needs
-
 sub-u : tie.Need-sub-u
 sub-u c = omega (arith, inside c .values)
 
@@ -66,18 +39,6 @@ move-down-bytes-requires c κs = let p = c .before .before .before .before .befo
 remove-row-requires : tie.Need-remove-row-requires
 remove-row-requires c κs = let p = c .before .before .before .before .before .before .before .before .before .before .before .before .before in let s = begin p in (omega (arith, spot p .number, s .pre .1 .1), omega (arith, spot p .number, s .pre .1 .0 .few), omega (arith, spot p .number, s .pre .1 .0 .rows))
 
-same-length : tie.Need-same-length
-same-length c = search needs
-
-same-length-2 : tie.Need-same-length-2
-same-length-2 c = search needs
-
-same-length-3 : tie.Need-same-length-3
-same-length-3 c = search needs
-
-same-length-4 : tie.Need-same-length-4
-same-length-4 c = search needs
-
 returns : tie.Need-returns
 returns c =
     let p = c .before .before .before .before .before .before .before .before .before .before .before .before .before .before .before .before in
@@ -92,23 +53,23 @@ pub remove-at-spec : {M : Type 1} → statement M
 remove-at-spec =
     tie.close
     (tie.spec
-    number-of-requires
-    values-of-requires
-    used-of-requires
-    values-before-requires
-    add-values-before
-    values-before-requires-2
-    bytes-before-requires
-    add-bytes-before
-    bytes-before-requires-2
+    (λ c κs. search needs)
+    (λ c κs. search needs)
+    (λ c κs. search needs)
+    (λ c κs. search needs)
+    (λ c. search needs)
+    (λ c κs. search needs)
+    (λ c κs. search needs)
+    (λ c. search needs)
+    (λ c κs. search needs)
     sub-u
     sub-g
     move-down-requires
     remove-slots-requires
     move-down-bytes-requires
     remove-row-requires
-    same-length
-    same-length-2
-    same-length-3
-    same-length-4
+    (λ c. search needs)
+    (λ c. search needs)
+    (λ c. search needs)
+    (λ c. search needs)
     returns)

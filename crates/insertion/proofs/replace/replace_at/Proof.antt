@@ -35,18 +35,6 @@ insert-at-requires c κs =
     let r : RoomIn (without (s .args .i) 1 (D s)) (s .args .i) (countIn (s .args .vals .now)) (s .args .g) = subst (λ j. RoomIn (without (s .args .i) j (D s)) (s .args .i) (countIn (s .args .vals .now)) (s .args .g)) (c .before .before .before .before .before .before .before .before .before .before .before .before .before .before .before .before .before .if1 .taken) (s .pre .1 .0 .2) in
     (subst (λ m. Lies (modelOf m) m) (sym e) (lies-without (D s) (kept s) (s .args .i) 1), (subst (λ m. RoomIn m (s .args .i) (countIn (s .args .vals .now)) (s .args .g)) (sym e) r, s .pre .1 .1))
 
-same-length : tie.Need-same-length
-same-length c = search needs
-
-same-length-2 : tie.Need-same-length-2
-same-length-2 c = search needs
-
-same-length-3 : tie.Need-same-length-3
-same-length-3 c = search needs
-
-same-length-4 : tie.Need-same-length-4
-same-length-4 c = search needs
-
 returns : tie.Need-returns
 returns c =
     let s = c .before .before .before .before .before .before .before .before .before .before .before .before .before .before .before .before .before .before .before .before .before .before .before .before .before .before .before .before .before .before .before .before .before .before in
@@ -61,18 +49,6 @@ insert-at-requires-2 c κs =
     let r : RoomIn (without (s .args .i) 0 (D s)) (s .args .i) (countIn (s .args .vals .now)) (s .args .g) = subst (λ j. RoomIn (without (s .args .i) j (D s)) (s .args .i) (countIn (s .args .vals .now)) (s .args .g)) z (s .pre .1 .0 .2) in
     (kept s .lies, (subst (λ m. RoomIn m (s .args .i) (countIn (s .args .vals .now)) (s .args .g)) (without-none (D s) (kept s .lies) (s .args .i)) r, s .pre .1 .1))
 
-same-length-5 : tie.Need-same-length-5
-same-length-5 c = search needs
-
-same-length-6 : tie.Need-same-length-6
-same-length-6 c = search needs
-
-same-length-7 : tie.Need-same-length-7
-same-length-7 c = search needs
-
-same-length-8 : tie.Need-same-length-8
-same-length-8 c = search needs
-
 returns-2 : tie.Need-returns-2
 returns-2 c =
     let s = c .before .before .before .before .before .before .before .before .before .before .before .before .before .before .before .before .before .before .before .before .before in
@@ -85,14 +61,14 @@ replace-at-spec =
     (tie.spec
     remove-at-requires
     insert-at-requires
-    same-length
-    same-length-2
-    same-length-3
-    same-length-4
+    (λ c. search needs)
+    (λ c. search needs)
+    (λ c. search needs)
+    (λ c. search needs)
     returns
     insert-at-requires-2
-    same-length-5
-    same-length-6
-    same-length-7
-    same-length-8
+    (λ c. search needs)
+    (λ c. search needs)
+    (λ c. search needs)
+    (λ c. search needs)
     returns-2)

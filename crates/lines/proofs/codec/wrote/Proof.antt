@@ -6,32 +6,8 @@ use borrow.Author.Needs.{needs}
 use Rattle.lines.proofs.codec.wrote.Statement.{statement}
 use Rattle.lines.proofs.codec.wrote.Tie as tie
 
-room-requires : tie.Need-room-requires
-room-requires c κs = search needs
-
-slice-aggregate-bytes : tie.Need-slice-aggregate-bytes
-slice-aggregate-bytes c = search needs
-
-bytes-requires : tie.Need-bytes-requires
-bytes-requires c κs = search needs
-
-enum-known-a : tie.Need-enum-known-a
-enum-known-a c = search needs
-
 slice-aggregate-same : tie.Need-slice-aggregate-same
 slice-aggregate-same c = sym (length-take-le _ _ (omega arith))
-
-array-share-prefix-expected : tie.Need-array-share-prefix-expected
-array-share-prefix-expected c = search needs
-
-slice-aggregate-same-2 : tie.Need-slice-aggregate-same-2
-slice-aggregate-same-2 c = search needs
-
-same-requires : tie.Need-same-requires
-same-requires c κs = search needs
-
-enum-told : tie.Need-enum-told
-enum-told c = search needs
 
 returns : tie.Need-returns
 returns c = search needs
@@ -46,15 +22,15 @@ pub wrote-spec : {M : Type 1} → statement M
 wrote-spec =
     tie.close
     (tie.spec
-    room-requires
-    slice-aggregate-bytes
-    bytes-requires
-    enum-known-a
+    (λ c κs. search needs)
+    (λ c. search needs)
+    (λ c κs. search needs)
+    (λ c. search needs)
     slice-aggregate-same
-    array-share-prefix-expected
-    slice-aggregate-same-2
-    same-requires
-    enum-told
+    (λ c. search needs)
+    (λ c. search needs)
+    (λ c κs. search needs)
+    (λ c. search needs)
     returns
     returns-2
     returns-3)

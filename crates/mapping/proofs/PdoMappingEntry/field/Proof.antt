@@ -7,30 +7,12 @@ use Rattle.mapping.proofs.WordLaws.{joined-field}
 use Rattle.mapping.proofs.PdoMappingEntry.field.Statement.{statement}
 use Rattle.mapping.proofs.PdoMappingEntry.field.Tie as tie
 
-byte-offset-requires : tie.Need-byte-offset-requires
-byte-offset-requires c κs = search needs
-
-enum-known-start : tie.Need-enum-known-start
-enum-known-start c = search needs
-
-enum-told : tie.Need-enum-told
-enum-told c = search needs
-
 returns : tie.Need-returns
 returns c = joined-field _ (sym (c .enum-told .given .1) ∙ c .before .before .byte-offset .ensures) refl
 
 -- behind the first `let`: the offset is whole
 whole-offset : (c : tie.After-known-told) → Bytes (c .before .start .given .0 .0) ≡ alignedOf (c .before .before .before .before .args .self .«offset_bits»)
 whole-offset c = sym (c .before .start .given .1) ∙ c .before .before .before .byte-offset .ensures
-
-byte-length-requires : tie.Need-byte-length-requires
-byte-length-requires c κs = search needs
-
-enum-known-length : tie.Need-enum-known-length
-enum-known-length c = search needs
-
-enum-told-2 : tie.Need-enum-told-2
-enum-told-2 c = search needs
 
 returns-2 : tie.Need-returns-2
 returns-2 c =
@@ -46,12 +28,12 @@ pub field-spec : {M : Type 1} → statement M
 field-spec =
     tie.close
     (tie.spec
-    byte-offset-requires
-    enum-known-start
-    enum-told
+    (λ c κs. search needs)
+    (λ c. search needs)
+    (λ c. search needs)
     returns
-    byte-length-requires
-    enum-known-length
-    enum-told-2
+    (λ c κs. search needs)
+    (λ c. search needs)
+    (λ c. search needs)
     returns-2
     returns-3)

@@ -5,21 +5,9 @@ use Rattle.mapping.proofs.WordLaws.{bits-low}
 use Rattle.mapping.proofs.PdoMappingEntry.from_u64.Statement.{statement}
 use Rattle.mapping.proofs.PdoMappingEntry.from_u64.Tie as tie
 
-cast-t3 : tie.Need-cast-t3
-cast-t3 c = search needs
-
-cast-t6 : tie.Need-cast-t6
-cast-t6 c = search needs
-
-cast-t9 : tie.Need-cast-t9
-cast-t9 c = search needs
-
-cast-t12 : tie.Need-cast-t12
-cast-t12 c = search needs
-
 returns : tie.Need-returns
 unfolding entryOf
 returns c = rw (bits-low 16 (c .args .value))
 
 pub from-u64-spec : {M : Type 1} → statement M
-from-u64-spec = tie.close (tie.spec cast-t3 cast-t6 cast-t9 cast-t12 returns)
+from-u64-spec = tie.close (tie.spec (λ c. search needs) (λ c. search needs) (λ c. search needs) (λ c. search needs) returns)

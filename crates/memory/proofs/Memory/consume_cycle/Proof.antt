@@ -6,26 +6,8 @@ use borrow.Author.Needs.{needs}
 use Rattle.memory.proofs.Memory.consume_cycle.Statement.{statement}
 use Rattle.memory.proofs.Memory.consume_cycle.Tie as tie
 
-slice-aggregate-loomfinch-consume-cycle : tie.Need-slice-aggregate-loomfinch-consume-cycle
-slice-aggregate-loomfinch-consume-cycle c = search needs
-
-slice-aggregate-loomfinch-consume-cycle-2 : tie.Need-slice-aggregate-loomfinch-consume-cycle-2
-slice-aggregate-loomfinch-consume-cycle-2 c = search needs
-
-slice-aggregate-loomfinch-consume-cycle-3 : tie.Need-slice-aggregate-loomfinch-consume-cycle-3
-slice-aggregate-loomfinch-consume-cycle-3 c = search needs
-
-slice-aggregate-loomfinch-consume-cycle-4 : tie.Need-slice-aggregate-loomfinch-consume-cycle-4
-slice-aggregate-loomfinch-consume-cycle-4 c = search needs
-
-array-borrow-prefix-events : tie.Need-array-borrow-prefix-events
-array-borrow-prefix-events c = search needs
-
 slice-aggregate-loomfinch-consume-cycle-5 : tie.Need-slice-aggregate-loomfinch-consume-cycle-5
 slice-aggregate-loomfinch-consume-cycle-5 c = sym (length-take-le _ _ (omega arith))
-
-loomfinch-consume-cycle-requires : tie.Need-loomfinch-consume-cycle-requires
-loomfinch-consume-cycle-requires c κs = search needs
 
 returns : tie.Need-returns
 returns c = search needs
@@ -34,11 +16,11 @@ pub consume-cycle-spec : {M : Type 1} → statement M
 consume-cycle-spec =
     tie.close
     (tie.spec
-    slice-aggregate-loomfinch-consume-cycle
-    slice-aggregate-loomfinch-consume-cycle-2
-    slice-aggregate-loomfinch-consume-cycle-3
-    slice-aggregate-loomfinch-consume-cycle-4
-    array-borrow-prefix-events
+    (λ c. search needs)
+    (λ c. search needs)
+    (λ c. search needs)
+    (λ c. search needs)
+    (λ c. search needs)
     slice-aggregate-loomfinch-consume-cycle-5
-    loomfinch-consume-cycle-requires
+    (λ c κs. search needs)
     returns)

@@ -22,15 +22,9 @@ slice-aggregate-loomfinch-consume-pdo-payload-4 :
     tie.Need-slice-aggregate-loomfinch-consume-pdo-payload-4
 slice-aggregate-loomfinch-consume-pdo-payload-4 c = search needs
 
-array-borrow-prefix-events : tie.Need-array-borrow-prefix-events
-array-borrow-prefix-events c = search needs
-
 slice-aggregate-loomfinch-consume-pdo-payload-5 :
     tie.Need-slice-aggregate-loomfinch-consume-pdo-payload-5
 slice-aggregate-loomfinch-consume-pdo-payload-5 c = sym (length-take-le _ _ (omega arith))
-
-loomfinch-consume-pdo-payload-requires : tie.Need-loomfinch-consume-pdo-payload-requires
-loomfinch-consume-pdo-payload-requires c κs = search needs
 
 returns : tie.Need-returns
 returns c = search needs
@@ -43,7 +37,7 @@ consume-logged-spec =
     slice-aggregate-loomfinch-consume-pdo-payload-2
     slice-aggregate-loomfinch-consume-pdo-payload-3
     slice-aggregate-loomfinch-consume-pdo-payload-4
-    array-borrow-prefix-events
+    (λ c. search needs)
     slice-aggregate-loomfinch-consume-pdo-payload-5
-    loomfinch-consume-pdo-payload-requires
+    (λ c κs. search needs)
     returns)

@@ -12,23 +12,11 @@ use Rattle.value.proofs.IntegerLaws.{integer-low, integer-high, down}
 use Rattle.object_value.proofs.integer.integer.Statement.{statement}
 use Rattle.object_value.proofs.integer.integer.Tie as tie
 
-rem-low : tie.Need-rem-low
-rem-low c = search needs
-
-div-if1 : tie.Need-div-if1
-div-if1 c = search needs
-
 cast-result : tie.Need-cast-result
 cast-result c = let a = c .before in record { sfits = omega (arith, mod-lt (a .args .x) (a .pre .0)) }
 
-sub-result : tie.Need-sub-result
-sub-result c = search needs
-
 sub-result-2 : tie.Need-sub-result-2
 sub-result-2 c = let a = c .before in omega (arith, mod-lt (a .args .x) (a .pre .0))
-
-cast-result-2 : tie.Need-cast-result-2
-cast-result-2 c = search needs
 
 -- what the code takes from -1, as it is taken
 taken : (c : tie.Else1) → negsuc 0 -ℤ toZ w64 (c .before .args .half - 1 - c .before .args .x % c .before .args .half)
@@ -53,12 +41,12 @@ pub integer-spec : {M : Type 1} → statement M
 integer-spec =
     tie.close
     (tie.spec
-    rem-low
-    div-if1
+    (λ c. search needs)
+    (λ c. search needs)
     cast-result
-    sub-result
+    (λ c. search needs)
     sub-result-2
-    cast-result-2
+    (λ c. search needs)
     sub-result-3
     returns
     returns-2)

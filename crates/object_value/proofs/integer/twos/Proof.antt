@@ -40,14 +40,8 @@ back c = toZ-ofZ (sub-k c) ∙ counted c
 cast-k : tie.Need-cast-k
 cast-k c = rw (back c) (tt, record { fits = omega arith })
 
-sub-result : tie.Need-sub-result
-sub-result c = search needs
-
 sub-result-2 : tie.Need-sub-result-2
 sub-result-2 c = rw (back c) (omega arith)
-
-add-result : tie.Need-add-result
-add-result c = search needs
 
 returns : tie.Need-returns
 returns c = ap natAbs (same (c .before)) ∙ twos-low (c .before .args .half) (c .before .args .z) (at-least-0 c) .1
@@ -58,4 +52,4 @@ returns-2 c = rw (back c) (twos-high (c .before .args .half) (c .before .args .z
 pub twos-spec : {M : Type 1} → statement M
 twos-spec =
     tie.close
-    (tie.spec cast-result sub-k cast-k sub-result sub-result-2 add-result returns returns-2)
+    (tie.spec cast-result sub-k cast-k (λ c. search needs) sub-result-2 (λ c. search needs) returns returns-2)

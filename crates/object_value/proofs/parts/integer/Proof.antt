@@ -8,15 +8,9 @@ use borrow.Author.Needs.{needs}
 use Rattle.object_value.proofs.parts.integer.Statement.{statement}
 use Rattle.object_value.proofs.parts.integer.Tie as tie
 
-twos-requires : tie.Need-twos-requires
-twos-requires c κs = search needs
-
-one-requires : tie.Need-one-requires
-one-requires c κs = search needs
-
 returns : tie.Need-returns
 unfolding fieldsOf partsOf
 returns c = c .one .ensures ∙ ap (λ a. a ∷ 0 ∷ 0 ∷ 0 ∷ 0 ∷ 0 ∷ []) (c .before .twos .ensures ∙ ap (twos (2 ^ 63)) (toZ-ofZ (c .before .before .fits .z)))
 
 pub integer-spec : {M : Type 1} → statement M
-integer-spec = tie.close (tie.spec twos-requires one-requires returns)
+integer-spec = tie.close (tie.spec (λ c κs. search needs) (λ c κs. search needs) returns)

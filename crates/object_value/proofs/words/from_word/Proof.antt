@@ -13,56 +13,14 @@ use borrow.Author.Needs.{needs}
 use Rattle.object_value.proofs.words.from_word.Statement.{statement}
 use Rattle.object_value.proofs.words.from_word.Tie as tie
 
-low8-requires : tie.Need-low8-requires
-low8-requires c κs = search needs
-
-integer-requires : tie.Need-integer-requires
-integer-requires c κs = search needs
-
 cast-t6 : tie.Need-cast-t6
 cast-t6 c = narrow-fits w8 (2 ^ 7) (c .before .before .args .x) (c .integer .result) (c .integer .ensures) (omega arith) (omega arith) (omega arith)
-
-integer-requires-2 : tie.Need-integer-requires-2
-integer-requires-2 c κs = search needs
 
 cast-t8 : tie.Need-cast-t8
 cast-t8 c = narrow-fits w16 (2 ^ 15) (c .before .before .args .x) (c .integer2 .result) (c .integer2 .ensures) (omega arith) (omega arith) (omega arith)
 
-integer-requires-3 : tie.Need-integer-requires-3
-integer-requires-3 c κs = search needs
-
 cast-t10 : tie.Need-cast-t10
 cast-t10 c = narrow-fits w32 (2 ^ 31) (c .before .before .args .x) (c .integer3 .result) (c .integer3 .ensures) (omega arith) (omega arith) (omega arith)
-
-integer-requires-4 : tie.Need-integer-requires-4
-integer-requires-4 c κs = search needs
-
-low8-requires-2 : tie.Need-low8-requires-2
-low8-requires-2 c κs = search needs
-
-low16-requires : tie.Need-low16-requires
-low16-requires c κs = search needs
-
-low32-requires : tie.Need-low32-requires
-low32-requires c κs = search needs
-
-low32-requires-2 : tie.Need-low32-requires-2
-low32-requires-2 c κs = search needs
-
-time-of-day-requires : tie.Need-time-of-day-requires
-time-of-day-requires c κs = search needs
-
-time-difference-requires : tie.Need-time-difference-requires
-time-difference-requires c κs = search needs
-
-net-time-requires : tie.Need-net-time-requires
-net-time-requires c κs = search needs
-
-mac-address-requires : tie.Need-mac-address-requires
-mac-address-requires c κs = search needs
-
-ip-address-requires : tie.Need-ip-address-requires
-ip-address-requires c κs = search needs
 
 returns : tie.Need-returns
 unfolding readings
@@ -152,23 +110,23 @@ pub from-word-spec : {M : Type 1} → statement M
 from-word-spec =
     tie.close
     (tie.spec
-    low8-requires
-    integer-requires
+    (λ c κs. search needs)
+    (λ c κs. search needs)
     cast-t6
-    integer-requires-2
+    (λ c κs. search needs)
     cast-t8
-    integer-requires-3
+    (λ c κs. search needs)
     cast-t10
-    integer-requires-4
-    low8-requires-2
-    low16-requires
-    low32-requires
-    low32-requires-2
-    time-of-day-requires
-    time-difference-requires
-    net-time-requires
-    mac-address-requires
-    ip-address-requires
+    (λ c κs. search needs)
+    (λ c κs. search needs)
+    (λ c κs. search needs)
+    (λ c κs. search needs)
+    (λ c κs. search needs)
+    (λ c κs. search needs)
+    (λ c κs. search needs)
+    (λ c κs. search needs)
+    (λ c κs. search needs)
+    (λ c κs. search needs)
     returns
     returns-2
     returns-3

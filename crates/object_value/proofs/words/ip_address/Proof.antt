@@ -3,21 +3,9 @@ use borrow.Author.Needs.{needs}
 use Rattle.object_value.proofs.words.ip_address.Statement.{statement}
 use Rattle.object_value.proofs.words.ip_address.Tie as tie
 
-low8-requires : tie.Need-low8-requires
-low8-requires c κs = search needs
-
-low8-requires-2 : tie.Need-low8-requires-2
-low8-requires-2 c κs = search needs
-
-low8-requires-3 : tie.Need-low8-requires-3
-low8-requires-3 c κs = search needs
-
-low8-requires-4 : tie.Need-low8-requires-4
-low8-requires-4 c κs = search needs
-
 returns : tie.Need-returns
 returns c = rw (c .before .before .before .low8 .ensures, c .before .before .low82 .ensures, c .before .low83 .ensures, c .low84 .ensures)
 
 pub ip-address-spec : {M : Type 1} → statement M
 ip-address-spec =
-    tie.close (tie.spec low8-requires low8-requires-2 low8-requires-3 low8-requires-4 returns)
+    tie.close (tie.spec (λ c κs. search needs) (λ c κs. search needs) (λ c κs. search needs) (λ c κs. search needs) returns)

@@ -3,24 +3,6 @@ use borrow.Author.Needs.{needs}
 use Rattle.object_value.proofs.words.mac_address.Statement.{statement}
 use Rattle.object_value.proofs.words.mac_address.Tie as tie
 
-low8-requires : tie.Need-low8-requires
-low8-requires c κs = search needs
-
-low8-requires-2 : tie.Need-low8-requires-2
-low8-requires-2 c κs = search needs
-
-low8-requires-3 : tie.Need-low8-requires-3
-low8-requires-3 c κs = search needs
-
-low8-requires-4 : tie.Need-low8-requires-4
-low8-requires-4 c κs = search needs
-
-low8-requires-5 : tie.Need-low8-requires-5
-low8-requires-5 c κs = search needs
-
-low8-requires-6 : tie.Need-low8-requires-6
-low8-requires-6 c κs = search needs
-
 returns : tie.Need-returns
 returns c = rw (c .before .before .before .before .before .low8 .ensures, c .before .before .before .before .low82 .ensures, c .before .before .before .low83 .ensures, c .before .before .low84 .ensures, c .before .low85 .ensures, c .low86 .ensures)
 
@@ -28,10 +10,10 @@ pub mac-address-spec : {M : Type 1} → statement M
 mac-address-spec =
     tie.close
     (tie.spec
-    low8-requires
-    low8-requires-2
-    low8-requires-3
-    low8-requires-4
-    low8-requires-5
-    low8-requires-6
+    (λ c κs. search needs)
+    (λ c κs. search needs)
+    (λ c κs. search needs)
+    (λ c κs. search needs)
+    (λ c κs. search needs)
+    (λ c κs. search needs)
     returns)

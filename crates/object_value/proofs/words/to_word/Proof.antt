@@ -11,23 +11,11 @@ use borrow.Author.Needs.{needs}
 use Rattle.object_value.proofs.words.to_word.Statement.{statement}
 use Rattle.object_value.proofs.words.to_word.Tie as tie
 
-enum-known-v : tie.Need-enum-known-v
-enum-known-v c = search needs
-
-cast-result : tie.Need-cast-result
-cast-result c = search needs
-
-enum-known-v-2 : tie.Need-enum-known-v-2
-enum-known-v-2 c = search needs
-
 cast-twos : tie.Need-cast-twos
 cast-twos c = widened-fits w8 (c .before .v2 .given .0 .0) (search needs) (omega arith)
 
 twos-requires : tie.Need-twos-requires
 twos-requires c κs = let f : SFits w8 (c .before .v2 .given .0 .0) = search needs in rw (widened-same w8 (c .before .v2 .given .0 .0) f (omega arith)) (f .sfits, omega arith)
-
-enum-known-v-3 : tie.Need-enum-known-v-3
-enum-known-v-3 c = search needs
 
 cast-twos-2 : tie.Need-cast-twos-2
 cast-twos-2 c = widened-fits w16 (c .before .v3 .given .0 .0) (search needs) (omega arith)
@@ -35,95 +23,14 @@ cast-twos-2 c = widened-fits w16 (c .before .v3 .given .0 .0) (search needs) (om
 twos-requires-2 : tie.Need-twos-requires-2
 twos-requires-2 c κs = let f : SFits w16 (c .before .v3 .given .0 .0) = search needs in rw (widened-same w16 (c .before .v3 .given .0 .0) f (omega arith)) (f .sfits, omega arith)
 
-enum-known-v-4 : tie.Need-enum-known-v-4
-enum-known-v-4 c = search needs
-
 cast-twos-3 : tie.Need-cast-twos-3
 cast-twos-3 c = widened-fits w32 (c .before .v4 .given .0 .0) (search needs) (omega arith)
 
 twos-requires-3 : tie.Need-twos-requires-3
 twos-requires-3 c κs = let f : SFits w32 (c .before .v4 .given .0 .0) = search needs in rw (widened-same w32 (c .before .v4 .given .0 .0) f (omega arith)) (f .sfits, omega arith)
 
-enum-known-v-5 : tie.Need-enum-known-v-5
-enum-known-v-5 c = search needs
-
 twos-requires-4 : tie.Need-twos-requires-4
 twos-requires-4 c κs = let f : SFits w64 (c .before .v5 .given .0 .0) = search needs in rw (toZ-ofZ f) (f .sfits, omega arith)
-
-enum-known-v-6 : tie.Need-enum-known-v-6
-enum-known-v-6 c = search needs
-
-cast-result-2 : tie.Need-cast-result-2
-cast-result-2 c = search needs
-
-enum-known-v-7 : tie.Need-enum-known-v-7
-enum-known-v-7 c = search needs
-
-cast-result-3 : tie.Need-cast-result-3
-cast-result-3 c = search needs
-
-enum-known-v-8 : tie.Need-enum-known-v-8
-enum-known-v-8 c = search needs
-
-cast-result-4 : tie.Need-cast-result-4
-cast-result-4 c = search needs
-
-enum-known-v-9 : tie.Need-enum-known-v-9
-enum-known-v-9 c = search needs
-
-enum-known-v-10 : tie.Need-enum-known-v-10
-enum-known-v-10 c = search needs
-
-cast-result-5 : tie.Need-cast-result-5
-cast-result-5 c = search needs
-
-enum-known-v-11 : tie.Need-enum-known-v-11
-enum-known-v-11 c = search needs
-
-enum-known-v-12 : tie.Need-enum-known-v-12
-enum-known-v-12 c = search needs
-
-enum-known-v-13 : tie.Need-enum-known-v-13
-enum-known-v-13 c = search needs
-
-enum-known-v-14 : tie.Need-enum-known-v-14
-enum-known-v-14 c = search needs
-
-enum-known-v-15 : tie.Need-enum-known-v-15
-enum-known-v-15 c = search needs
-
-enum-known-v-16 : tie.Need-enum-known-v-16
-enum-known-v-16 c = search needs
-
-time-word-requires : tie.Need-time-word-requires
-time-word-requires c κs = search needs
-
-enum-known-v-17 : tie.Need-enum-known-v-17
-enum-known-v-17 c = search needs
-
-time-word-requires-2 : tie.Need-time-word-requires-2
-time-word-requires-2 c κs = search needs
-
-enum-known-v-18 : tie.Need-enum-known-v-18
-enum-known-v-18 c = search needs
-
-net-word-requires : tie.Need-net-word-requires
-net-word-requires c κs = search needs
-
-enum-known-v-19 : tie.Need-enum-known-v-19
-enum-known-v-19 c = search needs
-
-enum-known-v-20 : tie.Need-enum-known-v-20
-enum-known-v-20 c = search needs
-
-mac-word-requires : tie.Need-mac-word-requires
-mac-word-requires c κs = search needs
-
-enum-known-v-21 : tie.Need-enum-known-v-21
-enum-known-v-21 c = search needs
-
-ip-word-requires : tie.Need-ip-word-requires
-ip-word-requires c κs = search needs
 
 returns : tie.Need-returns
 unfolding wordOf
@@ -213,44 +120,44 @@ pub to-word-spec : {M : Type 1} → statement M
 to-word-spec =
     tie.close
     (tie.spec
-    enum-known-v
-    cast-result
-    enum-known-v-2
+    (λ c. search needs)
+    (λ c. search needs)
+    (λ c. search needs)
     cast-twos
     twos-requires
-    enum-known-v-3
+    (λ c. search needs)
     cast-twos-2
     twos-requires-2
-    enum-known-v-4
+    (λ c. search needs)
     cast-twos-3
     twos-requires-3
-    enum-known-v-5
+    (λ c. search needs)
     twos-requires-4
-    enum-known-v-6
-    cast-result-2
-    enum-known-v-7
-    cast-result-3
-    enum-known-v-8
-    cast-result-4
-    enum-known-v-9
-    enum-known-v-10
-    cast-result-5
-    enum-known-v-11
-    enum-known-v-12
-    enum-known-v-13
-    enum-known-v-14
-    enum-known-v-15
-    enum-known-v-16
-    time-word-requires
-    enum-known-v-17
-    time-word-requires-2
-    enum-known-v-18
-    net-word-requires
-    enum-known-v-19
-    enum-known-v-20
-    mac-word-requires
-    enum-known-v-21
-    ip-word-requires
+    (λ c. search needs)
+    (λ c. search needs)
+    (λ c. search needs)
+    (λ c. search needs)
+    (λ c. search needs)
+    (λ c. search needs)
+    (λ c. search needs)
+    (λ c. search needs)
+    (λ c. search needs)
+    (λ c. search needs)
+    (λ c. search needs)
+    (λ c. search needs)
+    (λ c. search needs)
+    (λ c. search needs)
+    (λ c. search needs)
+    (λ c κs. search needs)
+    (λ c. search needs)
+    (λ c κs. search needs)
+    (λ c. search needs)
+    (λ c κs. search needs)
+    (λ c. search needs)
+    (λ c. search needs)
+    (λ c κs. search needs)
+    (λ c. search needs)
+    (λ c κs. search needs)
     returns
     returns-2
     returns-3

@@ -7,17 +7,8 @@ use borrow.Author.Needs.{needs}
 use Rattle.od.proofs.empty.new.Statement.{statement}
 use Rattle.od.proofs.empty.new.Tie as tie
 
-row-requires : tie.Need-row-requires
-row-requires c κs = search needs
-
 returns : tie.Need-returns
 returns c = simp (lt-ltb _ _ (rw (c .before .row .ensures) at (c .if1 .taken)))
-
-lay-header-requires : tie.Need-lay-header-requires
-lay-header-requires c κs = search needs
-
-same-length : tie.Need-same-length
-same-length c = search needs
 
 returns-2 : tie.Need-returns-2
 returns-2 c =
@@ -26,4 +17,4 @@ returns-2 c =
     simp (le-ltb _ _ (rw (i .before .row .ensures) at (i .if1 .left))) (ap (made Done) (l .lay-header .ensures))
 
 pub new-spec : {M : Type 1} → statement M
-new-spec = tie.close (tie.spec row-requires returns lay-header-requires same-length returns-2)
+new-spec = tie.close (tie.spec (λ c κs. search needs) returns (λ c κs. search needs) (λ c. search needs) returns-2)

@@ -61,9 +61,6 @@ receive-at-requires c κs =
     let s = begin l in
     (l .loop .inv .5, (lies _ _ (l .loop .i) (s .pre .1 .0) (s .pre .1 .1) (s .pre .1 .2) (i .loop-test .taken), omega (arith, e .if1 .left, l .loop .inv .1)))
 
-add-i : tie.Need-add-i Inv-loop μ-loop
-add-i c = search needs
-
 loop-less : tie.Need-loop-less Inv-loop μ-loop
 loop-less c =
     let i = turn (c .before .before .before .before .before .before) .before in
@@ -94,15 +91,6 @@ loop-again c =
       turned v (payloadsIn (v .payloads)) (l .loop .i) (C l) (l .loop .log) (l .loop .n) (i .loop-test .taken) (e .if1 .left) few _ q (c .before .log .given) ∙ k .7,
     )
 
-same-length : tie.Need-same-length Inv-loop μ-loop
-same-length c = search needs
-
-same-length-2 : tie.Need-same-length-2 Inv-loop μ-loop
-same-length-2 c = search needs
-
-same-length-3 : tie.Need-same-length-3 Inv-loop μ-loop
-same-length-3 c = search needs
-
 returns : tie.Need-returns Inv-loop μ-loop
 returns c =
     let l = c .before in
@@ -110,15 +98,6 @@ returns c =
     ap done (sym (ended-none (l .loop .log) (l .loop .n) (l .loop .i) (C l))
     ∙ ap (λ x. ended x (l .loop .log) (l .loop .n) (l .loop .i)) (sym (cycle-end (P s) (payloadsIn (now (s .args .payloads))) (l .loop .i) (C l) (length (l .loop .log) - l .loop .n) (omega (arith, c .loop-test .left))))
     ∙ l .loop .inv .7)
-
-same-length-4 : tie.Need-same-length-4 Inv-loop μ-loop
-same-length-4 c = search needs
-
-same-length-5 : tie.Need-same-length-5 Inv-loop μ-loop
-same-length-5 c = search needs
-
-same-length-6 : tie.Need-same-length-6 Inv-loop μ-loop
-same-length-6 c = search needs
 
 returns-2 : tie.Need-returns-2 Inv-loop μ-loop
 returns-2 c =
@@ -138,14 +117,14 @@ receive-all-spec =
     loop-holds
     sub-if1
     receive-at-requires
-    add-i
+    (λ c. search needs)
     loop-less
     loop-again
-    same-length
-    same-length-2
-    same-length-3
+    (λ c. search needs)
+    (λ c. search needs)
+    (λ c. search needs)
     returns
-    same-length-4
-    same-length-5
-    same-length-6
+    (λ c. search needs)
+    (λ c. search needs)
+    (λ c. search needs)
     returns-2)

@@ -11,39 +11,6 @@ use Rattle.pdo_cycle.proofs.cycling.receive_at.Tie as tie
 abbrev start : tie.After-number-at → tie.Start
 start c = c .before .before .before .before .before .before .before .before
 
-number-at-requires : tie.Need-number-at-requires
-number-at-requires c κs = search needs
-
-number-at-requires-2 : tie.Need-number-at-requires-2
-number-at-requires-2 c κs = search needs
-
-add-end : tie.Need-add-end
-add-end c = search needs
-
-sub-receive : tie.Need-sub-receive
-sub-receive c = search needs
-
-part-receive-start : tie.Need-part-receive-start
-part-receive-start c = search needs
-
-part-receive-end : tie.Need-part-receive-end
-part-receive-end c = search needs
-
-number-at-requires-3 : tie.Need-number-at-requires-3
-number-at-requires-3 c κs = search needs
-
-cast-receive : tie.Need-cast-receive
-cast-receive c = search needs
-
-number-at-requires-4 : tie.Need-number-at-requires-4
-number-at-requires-4 c κs = search needs
-
-cast-receive-2 : tie.Need-cast-receive-2
-cast-receive-2 c = search needs
-
-number-at-requires-5 : tie.Need-number-at-requires-5
-number-at-requires-5 c κs = search needs
-
 receive-requires : tie.Need-receive-requires
 receive-requires c κs =
     let l = c .before .before .before .before .before .before .before in
@@ -53,15 +20,6 @@ receive-requires c κs =
     let n = f .number-at .result in
     let m = l .number-at2 .result in
     (s .pre .0, (omega (arith, length-take ((n + m) - n) (drop n (now (s .args .delivered))), l .number-at2 .ensures, p .short), p .few, s .pre .1 .1))
-
-same-length : tie.Need-same-length
-same-length c = search needs
-
-same-length-2 : tie.Need-same-length-2
-same-length-2 c = search needs
-
-same-length-3 : tie.Need-same-length-3
-same-length-3 c = search needs
 
 returns : tie.Need-returns
 returns c =
@@ -78,19 +36,19 @@ pub receive-at-spec : {M : Type 1} → statement M
 receive-at-spec =
     tie.close
     (tie.spec
-    number-at-requires
-    number-at-requires-2
-    add-end
-    sub-receive
-    part-receive-start
-    part-receive-end
-    number-at-requires-3
-    cast-receive
-    number-at-requires-4
-    cast-receive-2
-    number-at-requires-5
+    (λ c κs. search needs)
+    (λ c κs. search needs)
+    (λ c. search needs)
+    (λ c. search needs)
+    (λ c. search needs)
+    (λ c. search needs)
+    (λ c κs. search needs)
+    (λ c. search needs)
+    (λ c κs. search needs)
+    (λ c. search needs)
+    (λ c κs. search needs)
     receive-requires
-    same-length
-    same-length-2
-    same-length-3
+    (λ c. search needs)
+    (λ c. search needs)
+    (λ c. search needs)
     returns)

@@ -3,11 +3,8 @@ use borrow.Author.Needs.{needs}
 use Rattle.pdo_cycle.proofs.payloads.short.Statement.{statement}
 use Rattle.pdo_cycle.proofs.payloads.short.Tie as tie
 
-number-at-requires : tie.Need-number-at-requires
-number-at-requires c κs = search needs
-
 returns : tie.Need-returns
 returns c = rw (c .number-at .ensures)
 
 pub short-spec : {M : Type 1} → statement M
-short-spec = tie.close (tie.spec number-at-requires returns)
+short-spec = tie.close (tie.spec (λ c κs. search needs) returns)

@@ -22,18 +22,6 @@ returns c =
     let a = s .args in
     sym (finished-none (now (a .log)) (a .begun) (contents (now (a .words)) (now (a .bytes)))) ∙ decided s _ (not-true (a .ready) (c .if1 .taken))
 
-consume-ready-requires : tie.Need-consume-ready-requires
-consume-ready-requires c κs = search needs
-
-same-length : tie.Need-same-length
-same-length c = search needs
-
-same-length-2 : tie.Need-same-length-2
-same-length-2 c = search needs
-
-same-length-3 : tie.Need-same-length-3
-same-length-3 c = search needs
-
 returns-2 : tie.Need-returns-2
 returns-2 c =
     let u = c .before .before .before .before .before .before in
@@ -44,4 +32,4 @@ returns-2 c =
 pub receive-spec : {M : Type 1} → statement M
 receive-spec =
     tie.close
-    (tie.spec returns consume-ready-requires same-length same-length-2 same-length-3 returns-2)
+    (tie.spec returns (λ c κs. search needs) (λ c. search needs) (λ c. search needs) (λ c. search needs) returns-2)

@@ -29,20 +29,11 @@ by c =
 decide-requires : tie.Need-decide-requires
 decide-requires c κs = let s = c .before .before .before .before .before in shape-of (D s) (s .pre)
 
-enum-known-o : tie.Need-enum-known-o
-enum-known-o c = search needs
-
 returns : tie.Need-returns
 returns c = let d = c .before in let a = start d .args in (d .decide .ensures, idle (now (a .slots)) (now (a .payload)) (contents (now (a .words)) (now (a .bytes))) (d .decide .result) (c .match .keys2))
 
 add-end : tie.Need-add-end
 add-end c = omega (arith, by (c .before) .small)
-
-sub-put-value : tie.Need-sub-put-value
-sub-put-value c = search needs
-
-part-put-value-start : tie.Need-part-put-value-start
-part-put-value-start c = search needs
 
 part-put-value-end : tie.Need-part-put-value-end
 part-put-value-end c = omega (arith, by (c .before .before .before) .within)
@@ -54,12 +45,6 @@ put-value-requires c κs =
     let b = by o in
     let z : (o .o .given .0 .1 .0 + o .o .given .0 .1 .1 .0) - o .o .given .0 .1 .0 ≡ o .o .given .0 .1 .1 .0 = omega arith in
     rw z (puts-of (D s) _ _ _ (element-facts (D s) (s .pre) (element-of (D s) (s .pre) (b .index) (b .sub) _ (b .place))) (b .fits))
-
-same-length : tie.Need-same-length
-same-length c = search needs
-
-same-length-2 : tie.Need-same-length-2
-same-length-2 c = search needs
 
 returns-2 : tie.Need-returns-2
 unfolding applied
@@ -75,13 +60,13 @@ step-spec =
     tie.close
     (tie.spec
     decide-requires
-    enum-known-o
+    (λ c. search needs)
     returns
     add-end
-    sub-put-value
-    part-put-value-start
+    (λ c. search needs)
+    (λ c. search needs)
     part-put-value-end
     put-value-requires
-    same-length
-    same-length-2
+    (λ c. search needs)
+    (λ c. search needs)
     returns-2)

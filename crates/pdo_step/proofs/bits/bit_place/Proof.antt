@@ -59,12 +59,6 @@ returns c = rw (c .if1 .taken)
 find-requires : tie.Need-find-requires
 find-requires c κs = let s = c .before .before .before .before .before in rows-of (D s) (s .pre)
 
-enum-known-i : tie.Need-enum-known-i
-enum-known-i c = search needs
-
-enum-told : tie.Need-enum-told
-enum-told c = search needs
-
 returns-2 : tie.Need-returns-2
 returns-2 c = found (c .before .before) _ (c .enum-told .given .1)
 
@@ -82,9 +76,6 @@ first-at-requires c κs = let r = lies (c .before .before .before) in (r .small,
 
 sub-k : tie.Need-sub-k
 sub-k c = let e = c .before .before .before .before .before .before .before in omega (arith, has-bit (e .before .before .before .before .before .args .node) (e .if1 .left))
-
-cast-k : tie.Need-cast-k
-cast-k c = search needs
 
 mul-long : tie.Need-mul-long
 mul-long c = omega (arith, there c .low, c .first-at .ensures)
@@ -129,14 +120,14 @@ bit-place-spec =
     (tie.spec
     returns
     find-requires
-    enum-known-i
-    enum-told
+    (λ c. search needs)
+    (λ c. search needs)
     returns-2
     kind-at-requires
     returns-3
     first-at-requires
     sub-k
-    cast-k
+    (λ c. search needs)
     mul-long
     shared-slice-read-long
     type-at-requires

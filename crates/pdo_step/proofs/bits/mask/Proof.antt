@@ -6,17 +6,8 @@ use borrow.Author.Needs.{needs}
 use Rattle.pdo_step.proofs.bits.mask.Statement.{statement}
 use Rattle.pdo_step.proofs.bits.mask.Tie as tie
 
-sub-result : tie.Need-sub-result
-sub-result c = search needs
-
-cast-result : tie.Need-cast-result
-cast-result c = search needs
-
-array-read-result : tie.Need-array-read-result
-array-read-result c = search needs
-
 returns : tie.Need-returns
 returns c = mask-is ((c .args .node - 1) % 8) (omega arith)
 
 pub mask-spec : {M : Type 1} → statement M
-mask-spec = tie.close (tie.spec sub-result cast-result array-read-result returns)
+mask-spec = tie.close (tie.spec (λ c. search needs) (λ c. search needs) (λ c. search needs) returns)

@@ -31,15 +31,6 @@ lies c =
 bit-place-requires : tie.Need-bit-place-requires
 bit-place-requires c κs = c .before .before .before .before .before .pre
 
-enum-known-a : tie.Need-enum-known-a
-enum-known-a c = search needs
-
-enum-told : tie.Need-enum-told
-enum-told c = search needs
-
-same-length : tie.Need-same-length
-same-length c = search needs
-
 returns : tie.Need-returns
 returns c = placed (c .before .before) _ (c .enum-told .given .1)
 
@@ -51,9 +42,6 @@ mask-requires c κs = lies (c .before .before) .node
 
 slice-write-bytes : tie.Need-slice-write-bytes
 slice-write-bytes c = lies (c .before .before .before) .inside
-
-same-length-2 : tie.Need-same-length-2
-same-length-2 c = search needs
 
 returns-2 : tie.Need-returns-2
 returns-2 c =
@@ -68,12 +56,12 @@ set-bit-spec =
     tie.close
     (tie.spec
     bit-place-requires
-    enum-known-a
-    enum-told
-    same-length
+    (λ c. search needs)
+    (λ c. search needs)
+    (λ c. search needs)
     returns
     slice-read-bytes
     mask-requires
     slice-write-bytes
-    same-length-2
+    (λ c. search needs)
     returns-2)

@@ -10,9 +10,6 @@ returns : tie.Need-returns
 unfolding onCount
 returns c = rw (eq-eqb _ 0 (c .if1 .taken))
 
-is-mapping-requires : tie.Need-is-mapping-requires
-is-mapping-requires c κs = search needs
-
 returns-2 : tie.Need-returns-2
 unfolding onCount
 returns-2 c = let i = c .before in rw (ne-eqb _ 0 (i .before .if1 .left), sym (i .is-mapping .ensures) ∙ c .if2 .taken)
@@ -22,4 +19,4 @@ unfolding onCount
 returns-3 c = let i = c .before in rw (ne-eqb _ 0 (i .before .if1 .left), sym (i .is-mapping .ensures) ∙ c .if2 .left)
 
 pub at-count-spec : {M : Type 1} → statement M
-at-count-spec = tie.close (tie.spec returns is-mapping-requires returns-2 returns-3)
+at-count-spec = tie.close (tie.spec returns (λ c κs. search needs) returns-2 returns-3)

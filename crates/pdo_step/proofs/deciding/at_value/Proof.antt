@@ -33,36 +33,6 @@ tested c =
     let r = c .before .before .before .before .before in
     sym (ap₂ (λ b n. b && ltb n (start (c .before .before .before) .args .len)) (c .is-text .ensures ∙ ap isText (r .before .type-at .ensures)) (r .room-at .ensures))
 
-type-at-requires : tie.Need-type-at-requires
-type-at-requires c κs = search needs
-
-room-at-requires : tie.Need-room-at-requires
-room-at-requires c κs = search needs
-
-add-end : tie.Need-add-end
-add-end c = search needs
-
-sub-decode-word : tie.Need-sub-decode-word
-sub-decode-word c = search needs
-
-part-decode-word-start : tie.Need-part-decode-word-start
-part-decode-word-start c = search needs
-
-part-decode-word-end : tie.Need-part-decode-word-end
-part-decode-word-end c = search needs
-
-decode-word-requires : tie.Need-decode-word-requires
-decode-word-requires c κs = search needs
-
-enum-known-f : tie.Need-enum-known-f
-enum-known-f c = search needs
-
-enum-told : tie.Need-enum-told
-enum-told c = search needs
-
-is-text-requires : tie.Need-is-text-requires
-is-text-requires c κs = search needs
-
 returns : tie.Need-returns
 returns c = let f = c .before in decided (f .before .before) _ (f .f .given .1)
 
@@ -82,16 +52,16 @@ pub at-value-spec : {M : Type 1} → statement M
 at-value-spec =
     tie.close
     (tie.spec
-    type-at-requires
-    room-at-requires
-    add-end
-    sub-decode-word
-    part-decode-word-start
-    part-decode-word-end
-    decode-word-requires
-    enum-known-f
-    enum-told
-    is-text-requires
+    (λ c κs. search needs)
+    (λ c κs. search needs)
+    (λ c. search needs)
+    (λ c. search needs)
+    (λ c. search needs)
+    (λ c. search needs)
+    (λ c κs. search needs)
+    (λ c. search needs)
+    (λ c. search needs)
+    (λ c κs. search needs)
     returns
     returns-2
     returns-3)

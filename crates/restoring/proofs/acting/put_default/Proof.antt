@@ -29,39 +29,6 @@ untexted b =
 shape : (g : tie.After-slot) → let a = start g .args in set (now (a .slots)) (g .slot .result) (g .before .before .before .before .before .before .type-at .result) ≡ retyped (now (a .slots)) (a .p) (typeAt (now (a .slots)) (a .q))
 shape g = ap₂ (set (now (start g .args .slots))) (g .slot .ensures) (g .before .before .before .before .before .before .type-at .ensures)
 
-type-at-requires : tie.Need-type-at-requires
-type-at-requires c κs = search needs
-
-mul-w : tie.Need-mul-w
-mul-w c = search needs
-
-slice-read-w : tie.Need-slice-read-w
-slice-read-w c = search needs
-
-start-at-requires : tie.Need-start-at-requires
-start-at-requires c κs = search needs
-
-start-at-requires-2 : tie.Need-start-at-requires-2
-start-at-requires-2 c κs = search needs
-
-slot-requires : tie.Need-slot-requires
-slot-requires c κs = search needs
-
-mul-slots : tie.Need-mul-slots
-mul-slots c = search needs
-
-slice-write-slots : tie.Need-slice-write-slots
-slice-write-slots c = search needs
-
-mul-words : tie.Need-mul-words
-mul-words c = search needs
-
-slice-write-words : tie.Need-slice-write-words
-slice-write-words c = search needs
-
-is-text-requires : tie.Need-is-text-requires
-is-text-requires c κs = search needs
-
 add-move-down-bytes : tie.Need-add-move-down-bytes
 add-move-down-bytes c =
     let b = c .before in
@@ -75,15 +42,6 @@ move-down-bytes-requires c κs =
     let x = start g .pre .text (texted b) in
     (omega (arith, g .before .start-at2 .ensures, g .before .before .before .start-at .ensures, x .0), omega arith, omega (arith, g .before .before .before .start-at .ensures, x .1))
 
-same-length : tie.Need-same-length
-same-length c = search needs
-
-same-length-2 : tie.Need-same-length-2
-same-length-2 c = search needs
-
-same-length-3 : tie.Need-same-length-3
-same-length-3 c = search needs
-
 returns : tie.Need-returns
 returns c =
     let m = c .before .before in
@@ -92,12 +50,6 @@ returns c =
     let a = start g .args in
     let w = getD (now (a .words)) (a .q) 0 in
     (shape g, ap (contents _) (m .move-down-bytes .ensures ∙ ap₂ (λ x y. over (now (a .bytes)) x (slice y (y + w) (now (a .bytes)))) (g .before .start-at2 .ensures) (g .before .before .before .start-at .ensures)) ∙ copied-text (now (a .slots)) (now (a .words)) (now (a .bytes)) (a .p) (a .q) (start g .pre) (texted b))
-
-same-length-4 : tie.Need-same-length-4
-same-length-4 c = search needs
-
-same-length-5 : tie.Need-same-length-5
-same-length-5 c = search needs
 
 returns-2 : tie.Need-returns-2
 returns-2 c =
@@ -109,23 +61,23 @@ pub put-default-spec : {M : Type 1} → statement M
 put-default-spec =
     tie.close
     (tie.spec
-    type-at-requires
-    mul-w
-    slice-read-w
-    start-at-requires
-    start-at-requires-2
-    slot-requires
-    mul-slots
-    slice-write-slots
-    mul-words
-    slice-write-words
-    is-text-requires
+    (λ c κs. search needs)
+    (λ c. search needs)
+    (λ c. search needs)
+    (λ c κs. search needs)
+    (λ c κs. search needs)
+    (λ c κs. search needs)
+    (λ c. search needs)
+    (λ c. search needs)
+    (λ c. search needs)
+    (λ c. search needs)
+    (λ c κs. search needs)
     add-move-down-bytes
     move-down-bytes-requires
-    same-length
-    same-length-2
-    same-length-3
+    (λ c. search needs)
+    (λ c. search needs)
+    (λ c. search needs)
     returns
-    same-length-4
-    same-length-5
+    (λ c. search needs)
+    (λ c. search needs)
     returns-2)

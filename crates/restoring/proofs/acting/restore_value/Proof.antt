@@ -50,12 +50,6 @@ first-at-requires c κs = let s = start c in let r = row-lies (D s) (s .pre .0) 
 add-p : tie.Need-add-p
 add-p c = omega (arith, there (c .before) .low, c .first-at .ensures)
 
-enum-told : tie.Need-enum-told
-enum-told c = search needs
-
-enum-known-choice : tie.Need-enum-known-choice
-enum-known-choice c = search needs
-
 put-stored-requires : tie.Need-put-stored-requires
 put-stored-requires c κs =
     let b = c .before .before .before .before in
@@ -68,9 +62,6 @@ put-stored-requires c κs =
     let g = stored-fits (D s) (s .pre .0) (now (a .store)) (a .i) (a .k) (s .pre .1 .0 .0) (s .pre .1 .0 .1) _ m (fits (n .before) _ q) in
     rw (n .first-at .ensures) ((m .body, f .low, f .slot), puts-new (D s) _ _ _ _ f g)
 
-enum-known-choice-2 : tie.Need-enum-known-choice-2
-enum-known-choice-2 c = search needs
-
 put-default-requires : tie.Need-put-default-requires
 put-default-requires c κs =
     let b = c .before .before .before .before in
@@ -80,29 +71,11 @@ put-default-requires c κs =
     let z = default-slot (D s) (s .pre .0) (now (a .store)) (a .i) (a .k) (s .pre .1 .0 .0) (s .pre .1 .0 .1) _ (chosen-default (D s) (now (a .store)) (a .i) (a .k) _ (chosen (n .before) _ (b .choice2 .given .1))) in
     rw (n .first-at .ensures) (copies (D s) (s .pre .0) (now (a .store)) (a .i) (a .k) (s .pre .1 .0 .0) (s .pre .1 .0 .1) _ z)
 
-same-length : tie.Need-same-length
-same-length c = search needs
-
-same-length-2 : tie.Need-same-length-2
-same-length-2 c = search needs
-
-same-length-3 : tie.Need-same-length-3
-same-length-3 c = search needs
-
 returns : tie.Need-returns
 unfolding restoredBy
 returns c =
     let n = c .before .before in
     (got (n .before) _ (c .enum-told .given .1), n .before .choose .ensures .1)
-
-same-length-4 : tie.Need-same-length-4
-same-length-4 c = search needs
-
-same-length-5 : tie.Need-same-length-5
-same-length-5 c = search needs
-
-same-length-6 : tie.Need-same-length-6
-same-length-6 c = search needs
 
 returns-2 : tie.Need-returns-2
 unfolding restoredBy
@@ -113,15 +86,6 @@ returns-2 c =
     let s = start (n .before) in
     let a = s .args in
     (same (now (a .objects)) (rw (n .first-at .ensures) at (u .put-stored .ensures .0)) (rw (n .first-at .ensures) at (u .put-stored .ensures .1)) ∙ got (n .before) _ (b .choice .given .1), n .before .choose .ensures .1)
-
-same-length-7 : tie.Need-same-length-7
-same-length-7 c = search needs
-
-same-length-8 : tie.Need-same-length-8
-same-length-8 c = search needs
-
-same-length-9 : tie.Need-same-length-9
-same-length-9 c = search needs
 
 returns-3 : tie.Need-returns-3
 unfolding restoredBy
@@ -140,20 +104,20 @@ restore-value-spec =
     choose-requires
     first-at-requires
     add-p
-    enum-told
-    enum-known-choice
+    (λ c. search needs)
+    (λ c. search needs)
     put-stored-requires
-    enum-known-choice-2
+    (λ c. search needs)
     put-default-requires
-    same-length
-    same-length-2
-    same-length-3
+    (λ c. search needs)
+    (λ c. search needs)
+    (λ c. search needs)
     returns
-    same-length-4
-    same-length-5
-    same-length-6
+    (λ c. search needs)
+    (λ c. search needs)
+    (λ c. search needs)
     returns-2
-    same-length-7
-    same-length-8
-    same-length-9
+    (λ c. search needs)
+    (λ c. search needs)
+    (λ c. search needs)
     returns-3)

@@ -82,15 +82,6 @@ loop-again c =
       turn-put _ _ (now (a .store)) (a .i) (n .count-at .result) (l .loop .k) (i .loop-test .taken) (u .restore-value .ensures .0) ∙ l .loop .inv .6,
     )
 
-same-length : tie.Need-same-length Inv-loop μ-loop
-same-length c = search needs
-
-same-length-2 : tie.Need-same-length-2 Inv-loop μ-loop
-same-length-2 c = search needs
-
-same-length-3 : tie.Need-same-length-3 Inv-loop μ-loop
-same-length-3 c = search needs
-
 returns : tie.Need-returns Inv-loop μ-loop
 returns c =
     let l = c .before in
@@ -111,7 +102,7 @@ restore-values-spec =
     add-k
     loop-less
     loop-again
-    same-length
-    same-length-2
-    same-length-3
+    (λ c. search needs)
+    (λ c. search needs)
+    (λ c. search needs)
     returns)

@@ -6,15 +6,6 @@ use Rattle.value.specs.Codec.{textWord}
 use Rattle.value.proofs.codec.decode_text.Statement.{statement}
 use Rattle.value.proofs.codec.decode_text.Tie as tie
 
-text-ok-requires : tie.Need-text-ok-requires
-text-ok-requires c κs = search needs
-
-enum-told : tie.Need-enum-told
-enum-told c = search needs
-
-enum-told-2 : tie.Need-enum-told-2
-enum-told-2 c = search needs
-
 returns : tie.Need-returns
 unfolding textWord
 returns c =
@@ -37,4 +28,4 @@ returns-4 c = simp (ne-eqb _ _ (c .before .if1 .left), c .if2 .left)
 
 pub decode-text-spec : {M : Type 1} → statement M
 decode-text-spec =
-    tie.close (tie.spec text-ok-requires enum-told enum-told-2 returns returns-2 returns-3 returns-4)
+    tie.close (tie.spec (λ c κs. search needs) (λ c. search needs) (λ c. search needs) returns returns-2 returns-3 returns-4)

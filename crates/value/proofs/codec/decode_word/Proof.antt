@@ -12,18 +12,9 @@ use Rattle.value.proofs.CodecLaws.{size-le}
 use Rattle.value.proofs.codec.decode_word.Statement.{statement}
 use Rattle.value.proofs.codec.decode_word.Tie as tie
 
-is-text-requires : tie.Need-is-text-requires
-is-text-requires c κs = search needs
-
-decode-text-requires : tie.Need-decode-text-requires
-decode-text-requires c κs = search needs
-
 returns : tie.Need-returns
 unfolding wordAt
 returns c = simp (sym (c .before .before .is-text .ensures) ∙ c .before .if1 .taken) (c .decode-text .ensures)
-
-size-of-requires : tie.Need-size-of-requires
-size-of-requires c κs = search needs
 
 returns-2 : tie.Need-returns-2
 unfolding wordAt
@@ -45,10 +36,10 @@ pub decode-word-spec : {M : Type 1} → statement M
 decode-word-spec =
     tie.close
     (tie.spec
-    is-text-requires
-    decode-text-requires
+    (λ c κs. search needs)
+    (λ c κs. search needs)
     returns
-    size-of-requires
+    (λ c κs. search needs)
     returns-2
     number-requires
     returns-3)

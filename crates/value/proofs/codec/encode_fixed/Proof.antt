@@ -30,16 +30,10 @@ fitting c =
     let a = c .before .before .before in
     sayable-fixed (a .args .t) (a .args .word) [] (a .pre .0) (a .pre .1) ∙ sym (c .before .fits2 .ensures) ∙ not-false _ (c .if1 .left)
 
-fits-requires : tie.Need-fits-requires
-fits-requires c κs = search needs
-
 returns : tie.Need-returns
 returns c =
     let a = c .before .before .before in
     sym (encode-bad (a .args .t) (a .args .word) [] (now (a .args .out)) (sayable-fixed (a .args .t) (a .args .word) [] (a .pre .0) (a .pre .1) ∙ sym (c .before .fits2 .ensures) ∙ not-true _ (c .if1 .taken)))
-
-size-of-requires : tie.Need-size-of-requires
-size-of-requires c κs = search needs
 
 returns-2 : tie.Need-returns-2
 returns-2 c =
@@ -49,9 +43,6 @@ returns-2 c =
 
 put-number-requires : tie.Need-put-number-requires
 put-number-requires c κs = search needs
-
-same-length : tie.Need-same-length
-same-length c = search needs
 
 returns-3 : tie.Need-returns-3
 returns-3 c =
@@ -70,10 +61,10 @@ pub encode-fixed-spec : {M : Type 1} → statement M
 encode-fixed-spec =
     tie.close
     (tie.spec
-    fits-requires
+    (λ c κs. search needs)
     returns
-    size-of-requires
+    (λ c κs. search needs)
     returns-2
     put-number-requires
-    same-length
+    (λ c. search needs)
     returns-3)

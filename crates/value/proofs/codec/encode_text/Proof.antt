@@ -22,15 +22,6 @@ returns c =
     sym (encode-bad (a .args .t) (a .args .word) (now (a .args .part)) (now (a .args .out))
     (sayable-text (a .args .t) (a .args .word) (now (a .args .part)) (a .pre .0) (a .pre .1) ∙ simp (ne-eqb _ _ (c .if1 .taken))))
 
-decode-text-requires : tie.Need-decode-text-requires
-decode-text-requires c κs = search needs
-
-enum-told : tie.Need-enum-told
-enum-told c = search needs
-
-enum-told-2 : tie.Need-enum-told-2
-enum-told-2 c = search needs
-
 returns-2 : tie.Need-returns-2
 returns-2 c =
     let k = c .before .before in
@@ -54,12 +45,6 @@ returns-3 c =
     let a = c .before .before .before .before .before .before .before in
     sym (encode-short (a .args .t) (a .args .word) (now (a .args .part)) (now (a .args .out)) (good (c .before)) (rw (part-itself a) (c .if2 .taken)))
 
-lay-requires : tie.Need-lay-requires
-lay-requires c κs = search needs
-
-same-length : tie.Need-same-length
-same-length c = search needs
-
 returns-4 : tie.Need-returns-4
 returns-4 c =
     let p = c .before .before in
@@ -74,11 +59,11 @@ encode-text-spec =
     tie.close
     (tie.spec
     returns
-    decode-text-requires
-    enum-told
-    enum-told-2
+    (λ c κs. search needs)
+    (λ c. search needs)
+    (λ c. search needs)
     returns-2
     returns-3
-    lay-requires
-    same-length
+    (λ c κs. search needs)
+    (λ c. search needs)
     returns-4)

@@ -12,16 +12,10 @@ returns c =
     let a = c .before .before .before .args in
     sym (encode-bad (a .t) (a .word) (now (a .part)) (now (a .out)) (sayable-none (a .t) (a .word) (now (a .part)) (c .if1 .taken)))
 
-is-text-requires : tie.Need-is-text-requires
-is-text-requires c κs = search needs
-
 encode-text-requires : tie.Need-encode-text-requires
 encode-text-requires c κs =
     let k = c .before .before in
     (omega arith, sym (k .is-text .ensures) ∙ c .before .if2 .taken)
-
-same-length : tie.Need-same-length
-same-length c = search needs
 
 returns-2 : tie.Need-returns-2
 returns-2 c = search needs
@@ -30,9 +24,6 @@ encode-fixed-requires : tie.Need-encode-fixed-requires
 encode-fixed-requires c κs =
     let k = c .before .before in
     (omega arith, sym (k .is-text .ensures) ∙ c .before .if2 .left)
-
-same-length-2 : tie.Need-same-length-2
-same-length-2 c = search needs
 
 returns-3 : tie.Need-returns-3
 returns-3 c =
@@ -46,10 +37,10 @@ encode-word-spec =
     tie.close
     (tie.spec
     returns
-    is-text-requires
+    (λ c κs. search needs)
     encode-text-requires
-    same-length
+    (λ c. search needs)
     returns-2
     encode-fixed-requires
-    same-length-2
+    (λ c. search needs)
     returns-3)

@@ -10,9 +10,6 @@ use Rattle.value.proofs.CodecLaws.{size-le, none-over}
 use Rattle.value.proofs.codec.fits.Statement.{statement}
 use Rattle.value.proofs.codec.fits.Tie as tie
 
-over-requires : tie.Need-over-requires
-over-requires c κs = search needs
-
 returns : tie.Need-returns
 returns c =
     let a = c .before in
@@ -20,4 +17,4 @@ returns c =
     ∙ none-over (a .args .word) (8 * sizeOf (a .args .t)) (a .fits .word .fits) (omega (arith, size-le (a .args .t)))
 
 pub fits-spec : {M : Type 1} → statement M
-fits-spec = tie.close (tie.spec over-requires returns)
+fits-spec = tie.close (tie.spec (λ c κs. search needs) returns)

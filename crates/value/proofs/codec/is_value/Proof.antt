@@ -14,18 +14,6 @@ returns : tie.Need-returns
 returns c =
     let a = c .before .before .args in sym (exact-none (a .t) (now (a .«data»)) (c .if1 .taken))
 
-is-text-requires : tie.Need-is-text-requires
-is-text-requires c κs = search needs
-
-decode-text-requires : tie.Need-decode-text-requires
-decode-text-requires c κs = search needs
-
-enum-told : tie.Need-enum-told
-enum-told c = search needs
-
-enum-told-2 : tie.Need-enum-told-2
-enum-told-2 c = search needs
-
 returns-2 : tie.Need-returns-2
 returns-2 c =
     let d = c .before .before in
@@ -40,9 +28,6 @@ returns-3 c =
     let a = k .before .before .before .args in
     ap takes (sym (c .enum-told2 .given .1) ∙ d .decode-text .ensures) ∙ sym (exact-text (a .t) (now (a .«data»)) (omega (arith, k .before .if1 .left)) (sym (k .is-text .ensures) ∙ d .before .if2 .taken))
 
-size-of-requires : tie.Need-size-of-requires
-size-of-requires c κs = search needs
-
 returns-4 : tie.Need-returns-4
 returns-4 c =
     let k = c .before .before in
@@ -55,11 +40,11 @@ is-value-spec =
     tie.close
     (tie.spec
     returns
-    is-text-requires
-    decode-text-requires
-    enum-told
-    enum-told-2
+    (λ c κs. search needs)
+    (λ c κs. search needs)
+    (λ c. search needs)
+    (λ c. search needs)
     returns-2
     returns-3
-    size-of-requires
+    (λ c κs. search needs)
     returns-4)

@@ -21,18 +21,9 @@ typed c = eq-eqb _ _ (sym (c .before .type-at .ensures) ∙ c .if1 .left)
 tested : (c : tie.After-is-text) → let a = start c .args in (isText (a .t) && ltb (roomAt (now (a .slots)) (a .p)) (length (now (a .«data»)))) ≡ (c .is-text .result && ltb (c .before .room-at .result) (length (now (a .«data»))))
 tested c = ap₂ (λ x y. x && ltb y (length (now (start c .args .«data»)))) (sym (c .is-text .ensures)) (sym (c .before .room-at .ensures))
 
-type-at-requires : tie.Need-type-at-requires
-type-at-requires c κs = search needs
-
 returns : tie.Need-returns
 returns c =
     let a = c .before .before .before .before .args in sym (value-type (now (a .slots)) (a .p) (a .t) (now (a .«data»)) (ne-eqb _ _ (λ q. c .if1 .taken (c .before .type-at .ensures ∙ q))))
-
-room-at-requires : tie.Need-room-at-requires
-room-at-requires c κs = search needs
-
-is-text-requires : tie.Need-is-text-requires
-is-text-requires c κs = search needs
 
 returns-2 : tie.Need-returns-2
 returns-2 c =
@@ -45,4 +36,4 @@ returns-3 c =
 pub at-value-spec : {M : Type 1} → statement M
 at-value-spec =
     tie.close
-    (tie.spec type-at-requires returns room-at-requires is-text-requires returns-2 returns-3)
+    (tie.spec (λ c κs. search needs) returns (λ c κs. search needs) (λ c κs. search needs) returns-2 returns-3)

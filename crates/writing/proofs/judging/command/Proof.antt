@@ -6,9 +6,6 @@ use borrow.Author.Needs.{needs}
 use Rattle.writing.proofs.judging.command.Statement.{statement}
 use Rattle.writing.proofs.judging.command.Tie as tie
 
-is-signed-requires : tie.Need-is-signed-requires
-is-signed-requires c κs = search needs
-
 returns : tie.Need-returns
 unfolding commandOf
 returns c =
@@ -25,4 +22,4 @@ returns-3 c =
     let i = c .before in simp (sym (i .before .is-signed .ensures) ∙ not-false _ (i .if1 .left), le-ltb _ _ (c .if2 .left))
 
 pub command-spec : {M : Type 1} → statement M
-command-spec = tie.close (tie.spec is-signed-requires returns returns-2 returns-3)
+command-spec = tie.close (tie.spec (λ c κs. search needs) returns returns-2 returns-3)

@@ -21,9 +21,6 @@ start c = c .before .before .before .before .before .before
 tested : (c : tie.After-is-mapping) → let a = start c .args in (eqb (a .sub) 0 && isMapping (a .index)) ≡ (eqb (a .sub) 0 && c .is-mapping .result)
 tested c = ap (λ m. eqb (start c .args .sub) 0 && m) (sym (c .is-mapping .ensures))
 
-is-mapping-requires : tie.Need-is-mapping-requires
-is-mapping-requires c κs = search needs
-
 returns : tie.Need-returns
 returns c =
     let m = c .before .before in let s = start m in sym (count-type (D s) (s .args .index) (s .args .sub) (s .args .t) (now (s .args .«data»)) (tested m ∙ c .before .if1 .taken) (ne-eqb _ 5 (c .if2 .taken)))
@@ -31,9 +28,6 @@ returns c =
 shared-slice-read-judge-count : tie.Need-shared-slice-read-judge-count
 shared-slice-read-judge-count c =
     let i = c .before in let s = start (i .before .before) in omega (arith, one-byte (s .args .t) (now (s .args .«data»)) (s .pre .1) (i .if2 .left))
-
-judge-count-requires : tie.Need-judge-count-requires
-judge-count-requires c κs = search needs
 
 returns-2 : tie.Need-returns-2
 returns-2 c =
@@ -47,9 +41,9 @@ pub count-first-spec : {M : Type 1} → statement M
 count-first-spec =
     tie.close
     (tie.spec
-    is-mapping-requires
+    (λ c κs. search needs)
     returns
     shared-slice-read-judge-count
-    judge-count-requires
+    (λ c κs. search needs)
     returns-2
     returns-3)

@@ -18,12 +18,6 @@ find-requires : tie.Need-find-requires
 find-requires c κs =
     let s = c .before .before .before .before .before in rows-of (D s) (s .pre)
 
-enum-known-i : tie.Need-enum-known-i
-enum-known-i c = search needs
-
-enum-told : tie.Need-enum-told
-enum-told c = search needs
-
 returns : tie.Need-returns
 returns c =
     let f = c .before .before in
@@ -45,4 +39,4 @@ returns-2 c =
 
 pub in-object-spec : {M : Type 1} → statement M
 in-object-spec =
-    tie.close (tie.spec find-requires enum-known-i enum-told returns in-row-requires returns-2)
+    tie.close (tie.spec find-requires (λ c. search needs) (λ c. search needs) returns in-row-requires returns-2)

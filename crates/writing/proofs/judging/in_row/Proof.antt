@@ -47,21 +47,6 @@ sub-at-requires : tie.Need-sub-at-requires
 sub-at-requires c κs =
     let s = start (c .before) in (rows-of (D s) (s .pre .0), lies s .below)
 
-enum-told : tie.Need-enum-told
-enum-told c = search needs
-
-enum-told-2 : tie.Need-enum-told-2
-enum-told-2 c = search needs
-
-enum-told-3 : tie.Need-enum-told-3
-enum-told-3 c = search needs
-
-is-mapping-requires : tie.Need-is-mapping-requires
-is-mapping-requires c κs = search needs
-
-enum-known-p : tie.Need-enum-known-p
-enum-known-p c = search needs
-
 at-value-requires : tie.Need-at-value-requires
 at-value-requires c κs =
     let p = c .before in
@@ -102,11 +87,11 @@ in-row-spec =
     access-at-requires
     returns
     sub-at-requires
-    enum-told
-    enum-told-2
-    enum-told-3
-    is-mapping-requires
-    enum-known-p
+    (λ c. search needs)
+    (λ c. search needs)
+    (λ c. search needs)
+    (λ c κs. search needs)
+    (λ c. search needs)
     at-value-requires
     returns-2
     returns-3

@@ -21,24 +21,15 @@ start c = c .before .before .before .before .before .before
 valued : (c : tie.Else1) → let a = start (c .before) .args in exact (a .t) (now (a .«data»)) ≡ true
 valued c = sym (c .before .is-value .ensures) ∙ not-false _ (c .if1 .left)
 
-is-value-requires : tie.Need-is-value-requires
-is-value-requires c κs = search needs
-
 returns : tie.Need-returns
 unfolding judgeOf
 returns c =
     simp (sym (c .before .is-value .ensures) ∙ not-true _ (c .if1 .taken))
 
-command-requires : tie.Need-command-requires
-command-requires c κs = search needs
-
 returns-2 : tie.Need-returns-2
 unfolding judgeOf number
 returns-2 c =
     let i = c .before in simp (valued (i .before), eq-eqb _ 0x1010 (i .if2 .taken)) (c .command .ensures)
-
-command-requires-2 : tie.Need-command-requires-2
-command-requires-2 c κs = search needs
 
 returns-3 : tie.Need-returns-3
 unfolding judgeOf number
@@ -48,15 +39,6 @@ returns-3 c =
 count-first-requires : tie.Need-count-first-requires
 count-first-requires c κs =
     let v = c .before .before in (start (v .before) .pre, valued v)
-
-enum-told : tie.Need-enum-told
-enum-told c = search needs
-
-in-object-requires : tie.Need-in-object-requires
-in-object-requires c κs = search needs
-
-enum-known-r : tie.Need-enum-known-r
-enum-known-r c = search needs
 
 returns-4 : tie.Need-returns-4
 unfolding judgeOf
@@ -85,15 +67,15 @@ pub judge-write-spec : {M : Type 1} → statement M
 judge-write-spec =
     tie.close
     (tie.spec
-    is-value-requires
+    (λ c κs. search needs)
     returns
-    command-requires
+    (λ c κs. search needs)
     returns-2
-    command-requires-2
+    (λ c κs. search needs)
     returns-3
     count-first-requires
-    enum-told
-    in-object-requires
-    enum-known-r
+    (λ c. search needs)
+    (λ c κs. search needs)
+    (λ c. search needs)
     returns-4
     returns-5)

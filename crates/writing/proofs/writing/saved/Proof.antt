@@ -5,12 +5,6 @@ use borrow.Author.Needs.{needs}
 use Rattle.writing.proofs.writing.saved.Statement.{statement}
 use Rattle.writing.proofs.writing.saved.Tie as tie
 
-enum-told : tie.Need-enum-told
-enum-told c = search needs
-
-enum-known-a : tie.Need-enum-known-a
-enum-known-a c = search needs
-
 returns : tie.Need-returns
 returns c = search needs
 
@@ -19,4 +13,4 @@ returns-2 c =
     ap savedAs (sym (c .before .a .given .1))
 
 pub saved-spec : {M : Type 1} → statement M
-saved-spec = tie.close (tie.spec enum-told enum-known-a returns returns-2)
+saved-spec = tie.close (tie.spec (λ c. search needs) (λ c. search needs) returns returns-2)
