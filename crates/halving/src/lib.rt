@@ -1,5 +1,4 @@
 // Dictionaries of up to 1,024 rows, looked up at each row and beside each: for lines of tables, whose own dictionary has 8 objects.
-
 mod laying;
 
 use laying::bounded;
@@ -14,7 +13,8 @@ pub struct Spread {
     pub width: u16,
 }
 
-// How often a row was found and how often none, and a sum over all answers in turn, in which each has an odd factor below 2^32.
+// How often a row was found and how often none, and a sum over all answers in turn. Each has an odd factor there, modulo 2^32, so
+// that no single wrong answer leaves the sum as it was.
 pub struct Swept {
     pub found: u64,
     pub missing: u64,
