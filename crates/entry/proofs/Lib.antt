@@ -1,4 +1,5 @@
 pub mod ModelLaws
+pub mod HalvingLaws
 pub mod JudgeLaws
 pub mod WalkLaws
 pub mod BackLaws

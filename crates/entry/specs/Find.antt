@@ -4,7 +4,7 @@ use Prim.Native.Nat.{ℕ, zero, suc, _+_, _-_, _≤_, _<_}
 use mathlib.Core.Bool.{cond}
 use mathlib.Core.List.{List, [], _∷_}
 use mathlib.Core.Option.{Option, none, some}
-use lib.Dec.{eqb, leb}
+use lib.Dec.{eqb, leb, ltb}
 use lib.ListN.{length}
 use Rattle.entry.specs.Model.{Val, Obj}
 use Rattle.entry.specs.Table.{Dict, numberOf, rowPlace, slotPlace, indexAt, kindAt, countAt, listCount, firstAt, valAt, objAt}
@@ -107,6 +107,10 @@ pub record Lower (objects : List ℕ) (x r : ℕ) : Type 0 where
   pub within : r ≤ numberOf objects
   pub before : (i : ℕ) → i < r → indexAt objects i < x
   pub behind : (i : ℕ) → r ≤ i → i < numberOf objects → x ≤ indexAt objects i
+
+-- what is found where halving ends at row r: that row, if it has the index
+abbrev pub halved : List ℕ → ℕ → ℕ → Found
+halved objects x r = cond (ltb r (numberOf objects)) (cond (eqb (indexAt objects r) x) (At r) Nothing) Nothing
 
 -- ---- what walking over some elements needs, of which the first lies at slot `first`
 pub record Elements (slots words : List ℕ) (count first : ℕ) : Type 0 where

@@ -10,7 +10,7 @@ ghost use Rattle.pdo_channel.specs.Channel.{u8At, isSender, matchesIn, f
 use entry::Found;
 use entry::Place;
 
-// The row of an index, where row r is that row or the first behind its place; else it is looked for from the first row on.
+// The row of an index, where row r is that row or the first behind its place; else the index is looked up.
 fn row_near(objects: &[u64], r: usize, index: u16) -> Found
     requires { ⌜ Rows (now objects) × (r ≤ numberOf (now objects)) ⌝ }
     ensures { λ f. ⌜ f ≡ findRow (now (objects .entry)) index ⌝ }

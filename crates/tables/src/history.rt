@@ -22,6 +22,9 @@
 //   D SLICE PLACE VALUE                                    damage: sets an element of slice 0 to 3, or of the store, 4
 //   S SUM                                                  the sum over the dictionary
 //   T SUM                                                  the sum over the dictionary and the store
+//   H COUNT FIRST WIDTH INDEX ANSWER [ROW]                 looking an index up, in a dictionary of its own: COUNT rows, row i at
+//                                                          FIRST + i * WIDTH / (COUNT - 1)
+//   G COUNT FIRST WIDTH FOUND MISSING SUM                  the same at each row and beside each, with a sum over the answers
 use crate::cells::damage;
 use crate::cells::sum;
 use crate::cells::sum_with_store;
@@ -37,6 +40,8 @@ use crate::dictionary::name_line;
 use crate::dictionary::nodes_line;
 use crate::dictionary::read_line;
 use crate::dictionary::typed_line;
+use crate::rows::lookup_line;
+use crate::rows::sweep_line;
 use crate::storing::count_line;
 use crate::storing::restore_line;
 use crate::storing::write_line;
@@ -79,6 +84,8 @@ fn asked(kind: u8, s: &[u8], at: usize, m: Memory) -> bool {
         b'K' => channel_line(s, at, m),
         b'L' => channels_line(s, at, m),
         b'X' => element_line(s, at, m),
+        b'H' => lookup_line(s, at),
+        b'G' => sweep_line(s, at),
         b'S' => sum(m) == number(s, at),
         b'T' => sum_with_store(m) == number(s, at),
         b'#' => true,

@@ -5,6 +5,7 @@ mod checking;
 mod consuming;
 mod dictionary;
 mod history;
+mod rows;
 mod storing;
 mod tally;
 

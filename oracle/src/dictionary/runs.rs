@@ -7,6 +7,7 @@ pub mod consumed;
 pub mod demand;
 pub mod faults;
 pub mod goals;
+pub mod halves;
 pub mod histories;
 pub mod images;
 pub mod malice;
