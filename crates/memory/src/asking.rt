@@ -18,36 +18,18 @@ impl Memory {
         loomfinch::read(&objects, &slots, &words, &bytes, index, sub_index)
     }
 
-    pub fn read_u8(self, index: u16, sub_index: u8) -> Number {
+    // The number of type 5 to 8, an Unsigned8 to an Unsigned64.
+    pub fn read_number(self, t: u64, index: u16, sub_index: u8) -> Number {
         let objects = self.objects;
         let slots = self.slots;
         let words = self.words;
         let bytes = self.bytes;
-        loomfinch::read_u8(&objects, &slots, &words, &bytes, index, sub_index)
-    }
-
-    pub fn read_u16(self, index: u16, sub_index: u8) -> Number {
-        let objects = self.objects;
-        let slots = self.slots;
-        let words = self.words;
-        let bytes = self.bytes;
-        loomfinch::read_u16(&objects, &slots, &words, &bytes, index, sub_index)
-    }
-
-    pub fn read_u32(self, index: u16, sub_index: u8) -> Number {
-        let objects = self.objects;
-        let slots = self.slots;
-        let words = self.words;
-        let bytes = self.bytes;
-        loomfinch::read_u32(&objects, &slots, &words, &bytes, index, sub_index)
-    }
-
-    pub fn read_u64(self, index: u16, sub_index: u8) -> Number {
-        let objects = self.objects;
-        let slots = self.slots;
-        let words = self.words;
-        let bytes = self.bytes;
-        loomfinch::read_u64(&objects, &slots, &words, &bytes, index, sub_index)
+        match t {
+            5 => loomfinch::read_u8(&objects, &slots, &words, &bytes, index, sub_index),
+            6 => loomfinch::read_u16(&objects, &slots, &words, &bytes, index, sub_index),
+            7 => loomfinch::read_u32(&objects, &slots, &words, &bytes, index, sub_index),
+            _ => loomfinch::read_u64(&objects, &slots, &words, &bytes, index, sub_index),
+        }
     }
 
     pub fn find_by_name(self, name: &[u8]) -> ByName {

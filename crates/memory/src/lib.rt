@@ -2,10 +2,6 @@
 // slices from function to function. There is room for 8 objects, 300 values and 1,200 bytes, so that each of these can be full.
 mod asking;
 mod changing;
-mod receiving;
-
-use loomfinch::Consumed;
-use loomfinch::EventRecord;
 
 pub struct Memory {
     pub objects: [u64; 108],
@@ -19,22 +15,6 @@ pub struct Memory {
 pub struct Called {
     pub memory: Memory,
     pub answer: u64,
-}
-
-// The same of a payload or a cycle, with its list of events as numbers.
-pub struct Logged {
-    pub memory: Memory,
-    pub answer: u64,
-    pub consumed: u64,
-    pub count: u64,
-    pub events: [u64; 1024],
-}
-
-// The same of a payload, with its list of events as records.
-pub struct Received {
-    pub memory: Memory,
-    pub answer: Consumed,
-    pub events: [EventRecord; 254],
 }
 
 // Nothing was called on it yet.

@@ -40,7 +40,7 @@ fn consume(m: Memory, payload: &[u8]) -> Memory {
         element: 0,
         event: Event::MapVersion,
     };
-    let heard = m.consume_recorded(payload, 5, 0x10, true, blank);
+    let heard = receiving::consume_recorded(m, payload, 5, 0x10, true, blank);
     let a = heard.answer;
     match a {
         Consumed::Done(n) => number(n as u64),
@@ -51,7 +51,7 @@ fn consume(m: Memory, payload: &[u8]) -> Memory {
 }
 
 fn stored(m: Memory) {
-    match m.read_u16(0x6000, 0) {
+    match m.read_number(6, 0x6000, 0) {
         Number::Is(n) => number(n),
         Number::Refused(_) => say(b"nothing"),
     }

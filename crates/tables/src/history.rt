@@ -25,37 +25,32 @@
 //   H COUNT FIRST WIDTH INDEX ANSWER [ROW]                 looking an index up, in a dictionary of its own: COUNT rows, row i at
 //                                                          FIRST + i * WIDTH / (COUNT - 1)
 //   G COUNT FIRST WIDTH FOUND MISSING SUM                  the same at each row and beside each, with a sum over the answers
-use crate::cells::damage;
-use crate::cells::sum;
-use crate::cells::sum_with_store;
-use crate::checking::channel_line;
-use crate::checking::channels_line;
-use crate::checking::element_line;
-use crate::consuming::bit_line;
-use crate::consuming::consume_line;
-use crate::consuming::cycle_line;
-use crate::dictionary::counter_line;
-use crate::dictionary::insert_line;
-use crate::dictionary::name_line;
-use crate::dictionary::nodes_line;
-use crate::dictionary::read_line;
-use crate::dictionary::typed_line;
 use crate::rows::lookup_line;
 use crate::rows::sweep_line;
-use crate::storing::count_line;
-use crate::storing::restore_line;
-use crate::storing::write_line;
-use lines::last;
-use lines::next;
-use lines::number;
+use asking_lines::channel_line;
+use asking_lines::channels_line;
+use asking_lines::count_line;
+use asking_lines::element_line;
+use asking_lines::name_line;
+use asking_lines::nodes_line;
+use asking_lines::read_line;
+use asking_lines::sum;
+use asking_lines::sum_with_store;
+use asking_lines::typed_line;
+use changing_lines::bit_line;
+use changing_lines::counter_line;
+use changing_lines::damage;
+use changing_lines::insert_line;
+use changing_lines::restore_line;
+use changing_lines::write_line;
+use consuming_lines::Turn;
+use consuming_lines::consume_line;
+use consuming_lines::cycle_line;
 use memory::Called;
 use memory::Memory;
-
-// The memory after a line, and whether the line's answer was given.
-pub struct Turn {
-    pub memory: Memory,
-    pub right: bool,
-}
+use tokens::last;
+use tokens::next;
+use tokens::number;
 
 fn damage_line(s: &[u8], at: usize, m: Memory) -> Turn {
     let place = next(s, at);
@@ -89,7 +84,7 @@ fn asked(kind: u8, s: &[u8], at: usize, m: Memory) -> bool {
         b'S' => sum(m) == number(s, at),
         b'T' => sum_with_store(m) == number(s, at),
         b'#' => true,
-        _ => lines::asked(kind, s, at),
+        _ => codec_lines::asked(kind, s, at),
     }
 }
 

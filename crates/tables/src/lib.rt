@@ -1,12 +1,7 @@
-// Tables of calls and the answers that they must give, a line each: those of the codec (crate lines) and histories, whose lines call
+// Tables of calls and the answers that they must give, a line each: those of the codec (codec_lines) and histories, whose lines call
 // one dictionary and one store after another (history.rt). A line that begins with # says something to its reader.
-mod cells;
-mod checking;
-mod consuming;
-mod dictionary;
 mod history;
 mod rows;
-mod storing;
 mod tally;
 
 pub use tally::State;

@@ -1,9 +1,9 @@
 // The lines that look rows up in a dictionary of their own (crate halving).
-use crate::dictionary::index_at;
 use halving::Spread;
-use lines::next;
-use lines::number;
 use loomfinch::Number;
+use tokens::index_at;
+use tokens::next;
+use tokens::number;
 
 fn spread_at(s: &[u8], at: usize) -> Spread {
     let first = next(s, at);

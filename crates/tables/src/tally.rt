@@ -1,8 +1,8 @@
 // How many lines of the tables were run, and how many differ.
 ghost use Rattle.tables.specs.Lines.{LineEnd};
 use crate::history::take_turn;
-use lines::next;
 use memory::Memory;
+use tokens::next;
 
 pub struct State {
     pub memory: Memory,

@@ -68,7 +68,7 @@ fn blank() -> EventRecord {
 
 // A payload of node 5, ready.
 fn receive(m: Memory, payload: &[u8], version: u8) -> After {
-    let recorded = m.consume_recorded(payload, 5, version, true, blank());
+    let recorded = receiving::consume_recorded(m, payload, 5, version, true, blank());
     let memory = recorded.memory;
     let events = recorded.events;
     let first = events[0];
@@ -94,7 +94,7 @@ fn is_number(a: Number, wanted: u64) -> bool {
 
 // 6000h and 6200h/3.
 fn are_stored(m: Memory, short: u64, long: u64) -> bool {
-    is_number(m.read_u16(0x6000, 0), short) & is_number(m.read_u32(0x6200, 3), long)
+    is_number(m.read_number(6, 0x6000, 0), short) & is_number(m.read_number(7, 0x6200, 3), long)
 }
 
 // Is the byte at a place `wanted`, and every other one 0?

@@ -1,0 +1,38 @@
+-- `tokens::cells::are` is safe and ends. Assumes nothing.
+use Prim.Native.Nat.{_-_}
+use lib.ListN.{length}
+use borrow.Author.Needs.{needs}
+use Rattle.tokens.proofs.cells.are.Statement.{statement}
+use Rattle.tokens.proofs.cells.are.Tie as tie
+
+abbrev Inv-loop : tie.InvT-loop
+Inv-loop s at all n p₀ i₀ p i = Unit {0}
+
+abbrev μ-loop : tie.MeasureT-loop
+μ-loop s at all n p₀ i₀ p i = length all - i
+
+returns : tie.Need-returns Inv-loop μ-loop
+returns c = search needs
+
+loop-again : tie.Need-loop-again Inv-loop μ-loop
+loop-again c = search needs
+
+returns-2 : tie.Need-returns-2 Inv-loop μ-loop
+returns-2 c = search needs
+
+pub are-spec : {M : Type 1} → statement M
+are-spec =
+    tie.close
+    (tie.spec
+    Inv-loop
+    μ-loop
+    (λ c. search needs)
+    (λ c κs. search needs)
+    (λ c. search needs)
+    (λ c. search needs)
+    returns
+    (λ c κs. search needs)
+    (λ c. search needs)
+    (λ c. search needs)
+    loop-again
+    returns-2)
