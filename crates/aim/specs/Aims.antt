@@ -21,17 +21,17 @@ abbrev pub between : ℕ → ℕ → ℕ → Bool
 between low high x = leb low x && leb x high
 
 -- "the target is missing"; else a list's sub-index 0, or a value
-abbrev pub ofPlace : ℕ → ℕ → Place → Class
-ofPlace start n place.NoObject = class.NoTarget
-ofPlace start n place.NoSub = class.NoTarget
-ofPlace start n (place.Count k) = class.Count start n
-ofPlace start n (place.Value p) = class.Value start n p
+abbrev pub classAt : ℕ → ℕ → Place → Class
+classAt start n place.NoObject = class.NoTarget
+classAt start n place.NoSub = class.NoTarget
+classAt start n (place.Count k) = class.Count start n
+classAt start n (place.Value p) = class.Value start n p
 
 -- "misaligned"; "index 1200h..127Fh: to the SDO server", "1280h..12FFh: to the SDO client"
-abbrev pub ofField : ℕ → Place → Field → Class
-ofField x q field.Misaligned = class.Misaligned
-ofField x q (field.Whole start n) =
-    cond (between 0x1200 0x127F x) (class.Server start n) (cond (between 0x1280 0x12FF x) (class.Client start n) (ofPlace start n q))
+abbrev pub classIn : ℕ → Place → Field → Class
+classIn x q field.Misaligned = class.Misaligned
+classIn x q (field.Whole start n) =
+    cond (between 0x1200 0x127F x) (class.Server start n) (cond (between 0x1280 0x12FF x) (class.Client start n) (classAt start n q))
 
 unfoldable pub classOf : Aim → Class
-classOf a = ofField (a .entry .index) (a .place) (a .field)
+classOf a = classIn (a .entry .index) (a .place) (a .field)

@@ -1,7 +1,7 @@
 // A mapping word read against the dictionary, in one place: for the step, the check and its explanation.
 ghost use mathlib.Core.Path.{_≡_};
 ghost use Rattle.entry.specs.Find.{Rows};
-ghost use Rattle.aim.specs.Aims.{aimOf, ofPlace, classOf};
+ghost use Rattle.aim.specs.Aims.{aimOf, classAt, classOf};
 use entry::Place;
 use mapping::Field;
 use mapping::PdoMappingEntry;
@@ -38,7 +38,7 @@ pub fn aim_of(objects: &[u64], word: u64) -> Aim
 }
 
 fn at_place(start: usize, len: usize, place: Place) -> Class
-    ensures { λ r. ⌜ r ≡ ofPlace start len place ⌝ }
+    ensures { λ r. ⌜ r ≡ classAt start len place ⌝ }
 {
     match place {
         Place::NoObject => Class::NoTarget,

@@ -50,12 +50,12 @@ pub record AfterCheckAll : Type 0 where
 abbrev pub afterCheckAll : CheckedAll → List ℕ → AfterCheckAll
 afterCheckAll a out = record { answer = a; out = out }
 
-abbrev pub done : Laid → AfterCheckAll
-done l = afterCheckAll (Done (l .count)) (l .out)
+abbrev pub checkAllDone : Laid → AfterCheckAll
+checkAllDone l = afterCheckAll (Done (l .count)) (l .out)
 
 -- R12.13: "Malformed (1); under 768 numbers: BufferTooShort (12)"
 unfoldable pub checkAllOf : Dict → List ℕ → AfterCheckAll
 checkAllOf d out =
     cond (wellFormed d)
-    (cond (ltb (length out) 768) (afterCheckAll (Refused BufferTooShort) out) (done (laidOn (linesFrom d 256 0) out 0)))
+    (cond (ltb (length out) 768) (afterCheckAll (Refused BufferTooShort) out) (checkAllDone (laidOn (linesFrom d 256 0) out 0)))
     (afterCheckAll (Refused Malformed) out)

@@ -149,7 +149,7 @@ consume-bytes d payload sender version ready room log w bp b = rw w (go (ltb roo
     c : Contents
     c = contents (d .words) (d .bytes)
 
-    go : (x y : Bool) → Bytes (cond x (consume.afterConsume (consumed.Refused NoEventRoom) c log) (cond y (consume.afterConsume (consumed.Refused PayloadTooLong) c log) (consume.done (finished (receivedBy f c version ready) log 0))) .contents .bytes)
+    go : (x y : Bool) → Bytes (cond x (consume.afterConsume (consumed.Refused NoEventRoom) c log) (cond y (consume.afterConsume (consumed.Refused PayloadTooLong) c log) (consume.consumeDone (finished (receivedBy f c version ready) log 0))) .contents .bytes)
     go true y = b
     go false true = b
     go false false = received-sane f bp c version ready (record { well = w; bytes = b }) .bytes
@@ -169,7 +169,7 @@ cycle-bytes d delivered ps log w bd b = rw w (go (areShaped ps && arePlaced (len
         let x = cycleFrom v (payloadsIn ps) 0 c (length log) in
         subst (λ (y : Contents). Bytes (y .bytes)) (sym (from-turns v (payloadsIn ps) 0 c (length log) .leaves)) (turns-sane v bd 0 (x .consumed) c (record { well = w; bytes = b }) .bytes)
 
-    go : (x y : Bool) → Bytes (cond x (cond y (cycle.done (ended (cycleFrom v (payloadsIn ps) 0 c (length log)) log 0 0)) (cycle.afterCycle (cycles.Refused PayloadTooLong) c log)) (cycle.afterCycle (cycles.Refused BadValue) c log) .contents .bytes)
+    go : (x y : Bool) → Bytes (cond x (cond y (cycle.cycleDone (ended (cycleFrom v (payloadsIn ps) 0 c (length log)) log 0 0)) (cycle.afterCycle (cycles.Refused PayloadTooLong) c log)) (cycle.afterCycle (cycles.Refused BadValue) c log) .contents .bytes)
     go true true = consumed-bytes
     go true false = b
     go false y = b

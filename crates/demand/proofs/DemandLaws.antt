@@ -19,7 +19,7 @@ use Rattle.pdo_validator.specs.Counting.{endsFrom}
 use Rattle.pdo_channel.specs.Channel.{u8At, commIndex, firstMatch}
 use Rattle.pdo_run.specs.Run.{frame, listIn}
 use Rattle.pdo_handler.specs.declared.Consumed.the-variants.{Done}
-use Rattle.pdo_handler.specs.Consume.{consumedBy, afterConsume, done, consumeOf}
+use Rattle.pdo_handler.specs.Consume.{consumedBy, afterConsume, consumeDone, consumeOf}
 use Rattle.pdo_run.proofs.RunLaws.{finished-none}
 use Rattle.element.specs.declared.Verdict.{Verdict}
 use Rattle.element.specs.declared.Verdict.the-variants.{Clean, Faulty}
@@ -118,4 +118,4 @@ pub written-consumed : (d : Dict) (payload : List ℕ) (sender version : ℕ) (r
     → consumeOf d payload sender version ready room log ≡ afterConsume (Done 0) (putAll (frame (d .objects) (d .slots) payload sender 0) ws (contents (d .words) (d .bytes))) log
 unfolding consumeOf
 written-consumed d payload sender version ready room log p ws w r l o =
-    rw (w, le-ltb room 254 r, le-ltb 1490 (length payload) l, o .silent) (ap done (finished-none log 0 (putAll (frame (d .objects) (d .slots) payload sender 0) ws (contents (d .words) (d .bytes)))))
+    rw (w, le-ltb room 254 r, le-ltb 1490 (length payload) l, o .silent) (ap consumeDone (finished-none log 0 (putAll (frame (d .objects) (d .slots) payload sender 0) ws (contents (d .words) (d .bytes)))))

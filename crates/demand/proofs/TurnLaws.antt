@@ -19,7 +19,7 @@ use Rattle.entry.specs.declared.Found.the-variants.{At}
 use Rattle.pdo_run.specs.Run.{Ran, listIn}
 use Rattle.pdo_cycle.specs.declared.Cycle.the-variants.{Done, Refused}
 use Rattle.pdo_cycle.specs.Payloads.{startOf, lengthOf, senderOf, versionOf, readyOf, payloadOf, payloadsIn, areShaped, arePlaced, areShort}
-use Rattle.pdo_cycle.specs.Cycle.{Delivery, receivedAt, cycled, cycleFrom, ended, AfterCycle, afterCycle, done, cycleOf}
+use Rattle.pdo_cycle.specs.Cycle.{Delivery, receivedAt, cycled, cycleFrom, ended, AfterCycle, afterCycle, cycleDone, cycleOf}
 use Rattle.channel.specs.declared.Checked.the-variants.{Pass}
 use Rattle.channel.specs.Check.{checkOf}
 use Rattle.demand.specs.Demand.{Admitted, Written}
@@ -33,7 +33,7 @@ use Rattle.demand.proofs.HoldLaws.{calls-keep, pass-left, shape-held}
 
 -- ---- a cycle that is Done is its turns
 cycle-done : (d : Dict) (delivered ps log : List ℕ) (n m : ℕ) → cycleOf d delivered ps log .answer ≡ Done n m
-    → cycleOf d delivered ps log ≡ done (ended (cycleFrom (deliveryOf d delivered ps) (payloadsIn ps) 0 (contents (d .words) (d .bytes)) (length log)) log 0 0)
+    → cycleOf d delivered ps log ≡ cycleDone (ended (cycleFrom (deliveryOf d delivered ps) (payloadsIn ps) 0 (contents (d .words) (d .bytes)) (length log)) log 0 0)
 unfolding cycleOf
 cycle-done d delivered ps log n m e = go (wellFormed d) (areShaped ps && arePlaced (length delivered) ps) (areShort ps) e
   where
@@ -41,7 +41,7 @@ cycle-done d delivered ps log n m e = go (wellFormed d) (areShaped ps && arePlac
     c = contents (d .words) (d .bytes)
 
     whole : AfterCycle
-    whole = done (ended (cycleFrom (deliveryOf d delivered ps) (payloadsIn ps) 0 c (length log)) log 0 0)
+    whole = cycleDone (ended (cycleFrom (deliveryOf d delivered ps) (payloadsIn ps) 0 c (length log)) log 0 0)
 
     go : (x y z : Bool) → cond x (cond y (cond z whole (afterCycle (Refused PayloadTooLong) c log)) (afterCycle (Refused BadValue) c log)) (afterCycle (Refused Malformed) c log) .answer ≡ Done n m
         → cond x (cond y (cond z whole (afterCycle (Refused PayloadTooLong) c log)) (afterCycle (Refused BadValue) c log)) (afterCycle (Refused Malformed) c log) ≡ whole

@@ -69,8 +69,8 @@ heldAs (some v) = holds v
 heldAs none = no-sub
 
 -- how many elements of a list are used
-abbrev pub listed : Obj → ℕ
-listed o = count o
+abbrev pub usedElements : Obj → ℕ
+usedElements o = count o
 
 -- R7.2, of an object
 unfoldable pub subOf : Obj → ℕ → Named
@@ -78,7 +78,7 @@ subOf o sub =
     cond (eqb (o .kind) 0)
     (cond (eqb sub 0) (heldAs (nth (o .values) 0)) no-sub)
     (cond (eqb sub 0)
-    (counts (listed o))
+    (counts (usedElements o))
     (cond (leb sub (count o)) (heldAs (nth (o .values) (sub - 1))) no-sub))
 
 abbrev pub onObject : ℕ → Option Obj → Named

@@ -13,7 +13,7 @@ use Rattle.entry.specs.Judge.{wellFormed}
 use Rattle.entry.specs.Put.{Contents, contents}
 use Rattle.pdo_handler.specs.declared.Consumed.the-variants.{Refused}
 use Rattle.pdo_run.specs.Run.{Frame, frame, finished}
-use Rattle.pdo_handler.specs.Consume.{receivedBy, afterConsume, done, consumeOf}
+use Rattle.pdo_handler.specs.Consume.{receivedBy, afterConsume, consumeDone, consumeOf}
 use Rattle.pdo_handler.proofs.EventLaws.{received-few}
 use Rattle.events.specs.Receive.{eventCount}
 
@@ -31,7 +31,7 @@ count-few d payload sender version ready room log = go (wellFormed d) refl (ltb 
     Few n = (n ≤ 254) × (n ≤ room)
 
     go : (x : Bool) → wellFormed d ≡ x → (y : Bool) → ltb room 254 ≡ y → (z : Bool)
-        → Few (eventCount (cond x (cond y (afterConsume (Refused NoEventRoom) c log) (cond z (afterConsume (Refused PayloadTooLong) c log) (done (finished (receivedBy f c version ready) log 0)))) (afterConsume (Refused Malformed) c log) .answer))
+        → Few (eventCount (cond x (cond y (afterConsume (Refused NoEventRoom) c log) (cond z (afterConsume (Refused PayloadTooLong) c log) (consumeDone (finished (receivedBy f c version ready) log 0)))) (afterConsume (Refused Malformed) c log) .answer))
     go true w true r z = (omega arith, omega arith)
     go true w false r true = (omega arith, omega arith)
     go true w false r false = (omega (arith, received-few f c w version ready), omega (arith, received-few f c w version ready, ltb-false room 254 r))

@@ -12,16 +12,16 @@ use Rattle.entry.specs.Table.{Dict, dict}
 use Rattle.entry.specs.Judge.{wellFormed}
 use Rattle.entry.specs.Put.{Contents, contents, filled}
 use Rattle.pdo_run.specs.Run.{frame, Ran, finished}
-use Rattle.pdo_handler.specs.Consume.{receivedBy, consumeOf, done as consumed}
+use Rattle.pdo_handler.specs.Consume.{receivedBy, consumeDone, consumeOf}
 use Rattle.pdo_handler.proofs.EventLaws.{relabelled, received-numbered}
 use Rattle.pdo_cycle.specs.declared.Cycle.the-variants.{Refused}
 use Rattle.pdo_cycle.specs.Payloads.{senderOf, versionOf, readyOf, payloadOf, payloadsIn, areShaped, arePlaced, areShort}
-use Rattle.pdo_cycle.specs.Cycle.{Delivery, delivery, receivedAt, cycled, further, cycleFrom, ended, afterCycle, done, cycleOf}
+use Rattle.pdo_cycle.specs.Cycle.{Delivery, delivery, receivedAt, cycled, further, cycleFrom, ended, afterCycle, cycleDone, cycleOf}
 use Rattle.pdo_cycle.proofs.CycleLaws.{turn-sane}
 
 -- R11.13: "each payload in turn is consumed as by a call of its own", on the contents that the ones before left; its events have its number
 pub record OwnCall (v : Delivery) (c : Contents) (i room : ℕ) (log : List ℕ) (r : Ran) : Type 0 where
-  pub call : consumeOf (dict (v .objects) (v .slots) (c .words) (c .bytes)) (payloadOf (v .delivered) (v .payloads) i) (senderOf (v .payloads) i) (versionOf (v .payloads) i) (readyOf (v .payloads) i) room log ≡ consumed (finished r log 0)
+  pub call : consumeOf (dict (v .objects) (v .slots) (c .words) (c .bytes)) (payloadOf (v .delivered) (v .payloads) i) (senderOf (v .payloads) i) (versionOf (v .payloads) i) (readyOf (v .payloads) i) room log ≡ consumeDone (finished r log 0)
   pub turn : receivedAt v c i ≡ relabelled i r
 
 pub own-call : (v : Delivery) (c : Contents) (i room : ℕ) (log : List ℕ) → wellFormed (dict (v .objects) (v .slots) (c .words) (c .bytes)) ≡ true → 254 ≤ room → length (payloadOf (v .delivered) (v .payloads) i) ≤ 1490
@@ -64,7 +64,7 @@ cycle-keeps d delivered ps log e b bd = rw e (go (areShaped ps && arePlaced (len
     c : Contents
     c = contents (d .words) (d .bytes)
 
-    go : (x y : Bool) → wellFormed (filled d (cond x (cond y (done (ended (cycleFrom v (payloadsIn ps) 0 c (length log)) log 0 0)) (afterCycle (Refused PayloadTooLong) c log)) (afterCycle (Refused BadValue) c log) .contents)) ≡ true
+    go : (x y : Bool) → wellFormed (filled d (cond x (cond y (cycleDone (ended (cycleFrom v (payloadsIn ps) 0 c (length log)) log 0 0)) (afterCycle (Refused PayloadTooLong) c log)) (afterCycle (Refused BadValue) c log) .contents)) ≡ true
     go true true = cycle-sane v bd (payloadsIn ps) 0 c (length log) (record { well = e; bytes = b }) .well
     go true false = e
     go false y = e

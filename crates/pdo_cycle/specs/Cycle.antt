@@ -73,8 +73,8 @@ pub record AfterCycle : Type 0 where
 abbrev pub afterCycle : Cycle → Contents → List ℕ → AfterCycle
 afterCycle a c l = record { answer = a; contents = c; log = l }
 
-abbrev pub done : Ended → AfterCycle
-done e = afterCycle (Done (e .consumed) (e .count)) (e .contents) (e .log)
+abbrev pub cycleDone : Ended → AfterCycle
+cycleDone e = afterCycle (Done (e .consumed) (e .count)) (e .contents) (e .log)
 
 -- R11.12: "Malformed (1); .. BadValue (2); .. PayloadTooLong (14). All are judged before the first is consumed."
 unfoldable pub cycleOf : Dict → List ℕ → List ℕ → List ℕ → AfterCycle
@@ -83,7 +83,7 @@ cycleOf d delivered ps log =
     cond (wellFormed d)
     (cond (areShaped ps && arePlaced (length delivered) ps)
     (cond (areShort ps)
-    (done (ended (cycleFrom (delivery (d .objects) (d .slots) delivered ps) (payloadsIn ps) 0 c (length log)) log 0 0))
+    (cycleDone (ended (cycleFrom (delivery (d .objects) (d .slots) delivered ps) (payloadsIn ps) 0 c (length log)) log 0 0))
     (afterCycle (Refused PayloadTooLong) c log))
     (afterCycle (Refused BadValue) c log))
     (afterCycle (Refused Malformed) c log)

@@ -8,7 +8,7 @@ ghost use Rattle.entry.specs.Judge.{wellFormed};
 ghost use Rattle.entry.specs.Put.{contents};
 ghost use Rattle.pdo_run.specs.Run.{logged, finished};
 ghost use Rattle.pdo_cycle.specs.Payloads.{Lies, payloadsIn, areShaped, arePlaced, areShort};
-ghost use Rattle.pdo_cycle.specs.Cycle.{delivery, receivedAt, cycleFrom, ended, afterCycle, done, cycleOf};
+ghost use Rattle.pdo_cycle.specs.Cycle.{delivery, receivedAt, cycleFrom, ended, afterCycle, cycleDone, cycleOf};
 use crate::Cycle;
 use crate::payloads::judge;
 use crate::payloads::number_at;
@@ -60,7 +60,7 @@ fn receive_all(
 ) -> Cycle
     requires { ⌜ wellFormed (dict (now objects) (now slots) (now words) (now bytes)) ≡ true ⌝ }
     requires { ⌜ (areShaped (now payloads) ≡ true) × (arePlaced (length (now delivered)) (now payloads) ≡ true) × (areShort (now payloads) ≡ true) ⌝ }
-    ensures { λ r. ⌜ afterCycle r (contents (now (words .exit)) (now (bytes .exit))) (now (log .exit)) ≡ done (ended (cycleFrom (delivery (now (objects .entry)) (now (slots .entry)) (now (delivered .entry)) (now (payloads .entry))) (payloadsIn (now (payloads .entry))) 0 (contents (now (words .entry)) (now (bytes .entry))) (length (now (log .entry)))) (now (log .entry)) 0 0) ⌝ }
+    ensures { λ r. ⌜ afterCycle r (contents (now (words .exit)) (now (bytes .exit))) (now (log .exit)) ≡ cycleDone (ended (cycleFrom (delivery (now (objects .entry)) (now (slots .entry)) (now (delivered .entry)) (now (payloads .entry))) (payloadsIn (now (payloads .entry))) 0 (contents (now (words .entry)) (now (bytes .entry))) (length (now (log .entry)))) (now (log .entry)) 0 0) ⌝ }
 {
     let mut n = 0;
     let mut i = 0;

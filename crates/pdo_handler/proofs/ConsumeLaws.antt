@@ -19,7 +19,7 @@ use Rattle.pdo_step.proofs.MarkLaws.{mark-keeps, mark-bytes}
 use Rattle.pdo_handler.specs.declared.Consumed.the-variants.{Refused}
 use Rattle.pdo_channel.specs.Channel.{firstMatch, expectedOf, rightVersion}
 use Rattle.pdo_run.specs.Run.{Frame, frame, held, marked, decided, isShort, stopsOf, outcomeEvent, actOf, ran, one, behind, runFrom, listIn, runOn, finished}
-use Rattle.pdo_handler.specs.Consume.{mapVersion, onChannel, consumedBy, receivedBy, afterConsume, done, consumeOf}
+use Rattle.pdo_handler.specs.Consume.{mapVersion, onChannel, consumedBy, receivedBy, afterConsume, consumeDone, consumeOf}
 
 -- a well-formed dictionary of bytes
 pub record Sane (f : Frame) (c : Contents) : Type 0 where
@@ -84,7 +84,7 @@ consume-keeps d payload sender version ready room log e b bp = rw e (go (ltb roo
     c : Contents
     c = contents (d .words) (d .bytes)
 
-    go : (x y : Bool) → wellFormed (filled d (cond x (afterConsume (Refused NoEventRoom) c log) (cond y (afterConsume (Refused PayloadTooLong) c log) (done (finished (receivedBy f c version ready) log 0))) .contents)) ≡ true
+    go : (x y : Bool) → wellFormed (filled d (cond x (afterConsume (Refused NoEventRoom) c log) (cond y (afterConsume (Refused PayloadTooLong) c log) (consumeDone (finished (receivedBy f c version ready) log 0))) .contents)) ≡ true
     go true y = e
     go false true = e
     go false false = received-sane f bp c version ready (record { well = e; bytes = b }) .well

@@ -45,8 +45,8 @@ pub record AfterConsume : Type 0 where
 abbrev pub afterConsume : Consumed → Contents → List ℕ → AfterConsume
 afterConsume a c l = record { answer = a; contents = c; log = l }
 
-abbrev pub done : Logged → AfterConsume
-done l = afterConsume (Done (l .count)) (l .contents) (l .log)
+abbrev pub consumeDone : Logged → AfterConsume
+consumeDone l = afterConsume (Done (l .count)) (l .contents) (l .log)
 
 -- R11.1: "Malformed (1); an event list under 254 records: NoEventRoom (15); payload over 1,490 bytes: PayloadTooLong (14)." `room` is
 -- how many records the event list has, and the events go into `log`, from its first number on.
@@ -58,5 +58,5 @@ consumeOf d payload sender version ready room log =
     (afterConsume (Refused NoEventRoom) c log)
     (cond (ltb 1490 (length payload))
     (afterConsume (Refused PayloadTooLong) c log)
-    (done (finished (receivedBy (frame (d .objects) (d .slots) payload sender 0) c version ready) log 0))))
+    (consumeDone (finished (receivedBy (frame (d .objects) (d .slots) payload sender 0) c version ready) log 0))))
     (afterConsume (Refused Malformed) c log)

@@ -14,7 +14,7 @@ use Rattle.entry.specs.Table.{typeAt}
 use Rattle.entry.specs.Find.{placeOf}
 use Rattle.entry.specs.declared.Place.{Place}
 use Rattle.entry.specs.declared.Place.the-variants.{NoObject, NoSub, Count, Value}
-use Rattle.aim.specs.Aims.{aimOf, between, ofPlace, ofField, classOf}
+use Rattle.aim.specs.Aims.{aimOf, between, classAt, classIn, classOf}
 use Rattle.aim.specs.declared.Class.the-variants as class
 use Rattle.pdo_step.specs.declared.Outcome.{Outcome}
 use Rattle.pdo_step.specs.declared.Outcome.the-variants as outcome
@@ -48,19 +48,19 @@ outcome-form objects slots payload w = fielded (fieldOf (entryOf w))
     sub : ℕ
     sub = entryOf w .«sub_index»
 
-    placed : (start n : ℕ) (q : Place) → onClass slots payload x (ofPlace start n q) ≡ onPlace slots payload x start n q
+    placed : (start n : ℕ) (q : Place) → onClass slots payload x (classAt start n q) ≡ onPlace slots payload x start n q
     placed start n NoObject = refl
     placed start n NoSub = refl
     placed start n (Count k) = refl
     placed start n (Value p) = refl
 
     ranged : (start n : ℕ) (server client : Bool)
-        → onClass slots payload x (cond server (class.Server start n) (cond client (class.Client start n) (ofPlace start n (placeOf objects x sub))))
+        → onClass slots payload x (cond server (class.Server start n) (cond client (class.Client start n) (classAt start n (placeOf objects x sub))))
         ≡ cond server (outcome.Server x start n) (cond client (outcome.Client x start n) (onPlace slots payload x start n (placeOf objects x sub)))
     ranged start n true client = refl
     ranged start n false true = refl
     ranged start n false false = placed start n (placeOf objects x sub)
 
-    fielded : (f : Field) → inside payload f (onClass slots payload x (ofField x (placeOf objects x sub) f)) ≡ onField objects slots payload (entryOf w) f
+    fielded : (f : Field) → inside payload f (onClass slots payload x (classIn x (placeOf objects x sub) f)) ≡ onField objects slots payload (entryOf w) f
     fielded field.Misaligned = refl
     fielded (field.Whole start n) = rw (ranged start n (between 0x1200 0x127F x) (between 0x1280 0x12FF x))

@@ -15,7 +15,7 @@ use Rattle.lists.specs.Tests.{and-left, and-right}
 use Rattle.text.specs.declared.Text.{Text}
 use Rattle.text.specs.declared.Text.the-variants.{Good, Bad}
 use Rattle.text.specs.Utf8.{Range, _to_, table, Allows, end, byte, WellFormed, empty, char, Means}
-use Rattle.text.specs.Machine.{inRange, rest, step, onward, judgeAt, judge}
+use Rattle.text.specs.Machine.{isIn, rest, step, onward, judgeAt, judge}
 
 -- ---- two tests of the table, which antt computes
 -- no range is empty, so that each character begun can be completed
@@ -35,16 +35,16 @@ ordered n ([] ∷ rows) = false
 ordered n (((lo to hi) ∷ rs) ∷ rows) = leb n lo && (leb lo hi && ordered (suc hi) rows)
 
 -- ---- a byte within a range, or above it
-within-true : (lo hi b : ℕ) → lo ≤ b → b ≤ hi → inRange (lo to hi) b ≡ true
+within-true : (lo hi b : ℕ) → lo ≤ b → b ≤ hi → isIn (lo to hi) b ≡ true
 within-true lo hi b l h = simp (le-leb lo b l, le-leb b hi h)
 
-within-false : (lo hi b : ℕ) → lo ≤ b → hi < b → inRange (lo to hi) b ≡ false
+within-false : (lo hi b : ℕ) → lo ≤ b → hi < b → isIn (lo to hi) b ≡ false
 within-false lo hi b l h = simp (le-leb lo b l, lt-leb b hi h)
 
-within-byte : {lo hi b : ℕ} {rs rs′ : List Range} {bs : List ℕ} → inRange (lo to hi) b ≡ true → rs ≡ rs′ → Allows rs′ bs
+within-byte : {lo hi b : ℕ} {rs rs′ : List Range} {bs : List ℕ} → isIn (lo to hi) b ≡ true → rs ≡ rs′ → Allows rs′ bs
     → Allows (lo to hi ∷ rs) (b ∷ bs)
 within-byte {lo} {hi} {b} {rs} {rs′} {bs} e d a =
-    let t : T (inRange (lo to hi) b) = subst T (sym e) tt in
+    let t : T (isIn (lo to hi) b) = subst T (sym e) tt in
     byte {rs = rs} {bs = bs} (leb→le lo b (and-left (leb lo b) (leb b hi) t)) (leb→le b hi (and-right (leb lo b) (leb b hi) t)) (rw d a)
 
 -- anything follows where two constructors would be equal: there `cc` proves 0 ≡ 1
@@ -75,7 +75,7 @@ found n (((lo₁ to hi₁) ∷ rs₁) ∷ rows) t lo hi b rs m l h =
   where
     go : n ≤ lo₁ → lo₁ ≤ hi₁ → (List·Memᴰ (lo to hi ∷ rs) rows → lo ≤ b → b ≤ hi → (suc hi₁ ≤ b) × (rest rows b ≡ some rs))
         → (_≡_ {A = List Range} (lo to hi ∷ rs) (lo₁ to hi₁ ∷ rs₁)) ⊎ List·Memᴰ (lo to hi ∷ rs) rows
-        → (n ≤ b) × (cond (inRange (lo₁ to hi₁) b) (some rs₁) (rest rows b) ≡ some rs)
+        → (n ≤ b) × (cond (isIn (lo₁ to hi₁) b) (some rs₁) (rest rows b) ≡ some rs)
     go p q later (inl e) =
         let a : lo ≡ lo₁ = cc in
         let c : hi ≡ hi₁ = cc in
@@ -119,9 +119,9 @@ opens ([] ∷ rows) t b rs e = wider (opens rows t b rs e)
 opens (((lo to hi) ∷ ts) ∷ rows) t b rs e =
     go (opens rows (and-right (leb lo hi && full ts) (filled rows) t) b rs)
     (and-right (leb lo hi) (full ts) (and-left (leb lo hi && full ts) (filled rows) t))
-    (inRange (lo to hi) b) refl e
+    (isIn (lo to hi) b) refl e
   where
-    go : (rest rows b ≡ some rs → Opens rows b rs) → T (full ts) → (w : Bool) → inRange (lo to hi) b ≡ w → cond w (some ts) (rest rows b) ≡ some rs
+    go : (rest rows b ≡ some rs → Opens rows b rs) → T (full ts) → (w : Bool) → isIn (lo to hi) b ≡ w → cond w (some ts) (rest rows b) ≡ some rs
         → Opens ((lo to hi ∷ ts) ∷ rows) b rs
     go later f true p q =
         let d : ts ≡ rs = cc in
@@ -137,13 +137,13 @@ back : (rs : List Range) (b : ℕ) {rs′ : List Range} → step rs b ≡ some r
 unfolding full filled
 back [] b {rs′} e (after {bs} a w) = let o = opens table tt b rs′ e in after end (char (o .listed) (o .allows bs a) w)
 back ((lo to hi) ∷ rs) b e (after a w) =
-    let c = chosen (inRange (lo to hi) b) e in
+    let c = chosen (isIn (lo to hi) b) e in
     after (within-byte (c .0) (c .1) a) w
 
 step-full : (rs : List Range) (b : ℕ) {rs′ : List Range} → T (full rs) → step rs b ≡ some rs′ → T (full rs′)
 unfolding full filled
 step-full [] b {rs′} f e = opens table tt b rs′ e .filling
-step-full ((lo to hi) ∷ rs) b f e = rw (chosen (inRange (lo to hi) b) e .1) at (and-right (leb lo hi) (full rs) f)
+step-full ((lo to hi) ∷ rs) b f e = rw (chosen (isIn (lo to hi) b) e .1) at (and-right (leb lo hi) (full rs) f)
 
 -- ---- what each answer says, from the place k on in the state rs
 -- the least bytes that the ranges allow

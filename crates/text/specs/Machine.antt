@@ -12,19 +12,19 @@ use Rattle.text.specs.declared.Text.{Text}
 use Rattle.text.specs.declared.Text.the-variants.{Good, Bad}
 use Rattle.text.specs.Utf8.{Range, _to_, table}
 
-abbrev pub inRange : Range → ℕ → Bool
-inRange (lo to hi) b = leb lo b && leb b hi
+abbrev pub isIn : Range → ℕ → Bool
+isIn (lo to hi) b = leb lo b && leb b hi
 
 -- what a first byte b asks for: the rest of the row whose first range has b
 abbrev pub rest : List (List Range) → ℕ → Option (List Range)
 rest [] b = none
 rest ([] ∷ rows) b = rest rows b
-rest ((r ∷ rs) ∷ rows) b = cond (inRange r b) (some rs) (rest rows b)
+rest ((r ∷ rs) ∷ rows) b = cond (isIn r b) (some rs) (rest rows b)
 
 -- the state after the byte b, where a text goes on with b
 abbrev pub step : List Range → ℕ → Option (List Range)
 step [] b = rest table b
-step (r ∷ rs) b = cond (inRange r b) (some rs) none
+step (r ∷ rs) b = cond (isIn r b) (some rs) none
 
 abbrev pub onward : Text → (List Range → Text) → Option (List Range) → Text
 onward stop go none = stop

@@ -6,7 +6,7 @@ use Prim.Native.Nat.{ℕ, _≤_}
 use native.Mathlib.Omega.{arith}
 use Rattle.mapping.specs.declared.Field.the-variants.{Whole}
 use Rattle.aim.specs.declared.Aim.{Aim}
-use Rattle.aim.specs.Aims.{between, ofField, classOf}
+use Rattle.aim.specs.Aims.{between, classIn, classOf}
 use Rattle.aim.proofs.RangeLaws.{between-in, between-low, between-high}
 use borrow.Author.Needs.{needs}
 use Rattle.aim.proofs.classify.Statement.{statement}
@@ -19,9 +19,9 @@ abbrev x : tie.After-field → ℕ
 x f = A f .entry .index
 
 -- with the field that was found
-fielded : (f : tie.After-field) → ofField (x f) (A f .place) (Whole (f .field .given .0 .0) (f .field .given .0 .1 .0)) ≡ classOf (A f)
+fielded : (f : tie.After-field) → classIn (x f) (A f .place) (Whole (f .field .given .0 .0) (f .field .given .0 .1 .0)) ≡ classOf (A f)
 unfolding classOf
-fielded f = sym (ap (ofField (x f) (A f .place)) (f .field .given .1))
+fielded f = sym (ap (classIn (x f) (A f .place)) (f .field .given .1))
 
 -- outside of both ranges
 away : (j : tie.Joined1) (low high : ℕ) → 0x1200 ≤ low → high ≤ 0x12FF → between low high (x (j .before .before .before)) ≡ false

@@ -4,7 +4,7 @@ use Prim.Native.Nat.{ℕ}
 use denote.Ref.{now}
 use lib.ListN.{length}
 use borrow.Author.Tests.{lt-ltb, le-ltb}
-use Rattle.channel.specs.All.{done, checkAllOf}
+use Rattle.channel.specs.All.{checkAllDone, checkAllOf}
 use borrow.Author.Needs.{needs}
 use Rattle.channel.proofs.every.check_all_judged.Statement.{statement}
 use Rattle.channel.proofs.every.check_all_judged.Tie as tie
@@ -28,7 +28,7 @@ returns-2 c =
     let u = c .before .before in
     let e = u .before .before in
     let b = e .before in
-    ap done (u .check-each .ensures) ∙ sym (simp (start b .pre, le-ltb (outs b) 768 (e .if1 .left)))
+    ap checkAllDone (u .check-each .ensures) ∙ sym (simp (start b .pre, le-ltb (outs b) 768 (e .if1 .left)))
 
 pub check-all-judged-spec : {M : Type 1} → statement M
 check-all-judged-spec =

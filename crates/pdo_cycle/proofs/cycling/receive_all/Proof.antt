@@ -10,7 +10,7 @@ use Rattle.entry.specs.Judge.{wellFormed}
 use Rattle.entry.specs.Put.{Contents, contents}
 use Rattle.pdo_run.specs.Run.{Logged}
 use Rattle.pdo_cycle.specs.Payloads.{payloadsIn}
-use Rattle.pdo_cycle.specs.Cycle.{Delivery, delivery, receivedAt, cycleFrom, ended, done}
+use Rattle.pdo_cycle.specs.Cycle.{Delivery, delivery, receivedAt, cycleFrom, ended, cycleDone}
 use Rattle.pdo_cycle.proofs.PayloadLaws.{lies}
 use Rattle.pdo_cycle.proofs.CycleLaws.{cycle-end, cycle-full, ended-none, turn-few, turn-sane, cycle-start, turned}
 use native.Mathlib.Omega.{arith}
@@ -95,7 +95,7 @@ returns : tie.Need-returns Inv-loop μ-loop
 returns c =
     let l = c .before in
     let s = begin l in
-    ap done (sym (ended-none (l .loop .log) (l .loop .n) (l .loop .i) (C l))
+    ap cycleDone (sym (ended-none (l .loop .log) (l .loop .n) (l .loop .i) (C l))
     ∙ ap (λ x. ended x (l .loop .log) (l .loop .n) (l .loop .i)) (sym (cycle-end (P s) (payloadsIn (now (s .args .payloads))) (l .loop .i) (C l) (length (l .loop .log) - l .loop .n) (omega (arith, c .loop-test .left))))
     ∙ l .loop .inv .7)
 
@@ -104,7 +104,7 @@ returns-2 c =
     let i = c .before in
     let l = i .before in
     let s = begin l in
-    ap done (sym (ended-none (l .loop .log) (l .loop .n) (l .loop .i) (C l))
+    ap cycleDone (sym (ended-none (l .loop .log) (l .loop .n) (l .loop .i) (C l))
     ∙ ap (λ x. ended x (l .loop .log) (l .loop .n) (l .loop .i)) (sym (cycle-full (P s) (payloadsIn (now (s .args .payloads))) (l .loop .i) (C l) (length (l .loop .log) - l .loop .n) (i .loop-test .taken) (c .if1 .taken)))
     ∙ l .loop .inv .7)
 

@@ -4,7 +4,7 @@ use Prim.Native.Nat.{ℕ}
 use denote.Ref.{now}
 use lib.ListN.{length}
 use borrow.Author.Tests.{lt-ltb, le-ltb}
-use Rattle.pdo_handler.specs.Consume.{done, consumeOf}
+use Rattle.pdo_handler.specs.Consume.{consumeDone, consumeOf}
 use native.Mathlib.Omega.{arith}
 use borrow.Author.Needs.{needs}
 use Rattle.pdo_handler.proofs.consuming.consume_logged_judged.Statement.{statement}
@@ -41,7 +41,7 @@ returns-3 c =
     let d = u .before .before .before .before in
     let b = d .before in
     let s = start (b .before) in
-    ap done (u .receive .ensures) ∙ sym (simp (s .pre .0, le-ltb (s .args .room) 254 (b .if1 .left), le-ltb 1490 (pays s) (d .if2 .left)))
+    ap consumeDone (u .receive .ensures) ∙ sym (simp (s .pre .0, le-ltb (s .args .room) 254 (b .if1 .left), le-ltb 1490 (pays s) (d .if2 .left)))
 
 pub consume-logged-judged-spec : {M : Type 1} → statement M
 consume-logged-judged-spec =
