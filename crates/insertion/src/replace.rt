@@ -31,19 +31,6 @@ pub fn replace_at(
 {
     if k == 1 {
         remove::remove_at(objects, slots, words, bytes, i);
-        placing::insert_at(
-            objects,
-            slots,
-            words,
-            bytes,
-            i,
-            head,
-            name,
-            vals,
-            encodings,
-            g,
-        );
-        return;
     }
     placing::insert_at(
         objects,
