@@ -7,7 +7,7 @@ use mathlib.Core.Option.{none, some}
 use Rattle.answers.specs.declared.Refusal.the-variants.{StoreFull}
 use Rattle.lists.specs.Lists.{over}
 use Rattle.lists.specs.Numbers.{number, bytesOf}
-use Rattle.value.specs.Codec.{sizeOf, encoding, sizedExactly, exactlyOf, exact}
+use Rattle.value.specs.Codec.{sizeOf, encoding, wordAt, exactlyOf, exact}
 use Rattle.entry.specs.Table.{Dict, dict}
 use Rattle.image.specs.Image.{toStore, offers, subIn, recsIn, offeredFrom, heads, bodies, imageOf, offered}
 use Rattle.image.specs.Ranges.{rangeOf, covers}
@@ -43,9 +43,9 @@ nothing = refl
 
 -- it is read back; a start that is no sum of lengths makes it unreadable
 pub table : tableOf image ≡ some (offered d 1)
-unfolding tableOf readable headsOk recsAt placed exact exactlyOf sizedExactly number sizeOf offeredFrom recsIn rangeOf covers toStore offers subIn bytesOf encoding
+unfolding tableOf readable headsOk recsAt placed exact exactlyOf wordAt number sizeOf offeredFrom recsIn rangeOf covers toStore offers subIn bytesOf encoding
 table = refl
 
 pub no-table : tableOf (1 ∷ 0 ∷ 0x00 ∷ 0x60 ∷ 0 ∷ 6 ∷ 1 ∷ 0 ∷ 2 ∷ 0 ∷ 0x34 ∷ 0x12 ∷ []) ≡ none
-unfolding tableOf readable headsOk recsAt placed exact exactlyOf sizedExactly number sizeOf
+unfolding tableOf readable headsOk recsAt placed exact exactlyOf wordAt number sizeOf
 no-table = refl

@@ -1,11 +1,11 @@
 -- Putting an encoded value that its type takes, and that its room holds, keeps a dictionary well-formed.
 -- Assumes nothing.
 use mathlib.Core.Path.{_≡_, refl, sym, ap, _∙_, subst}
-use mathlib.Core.Bool.{Bool, true, false, cond}
+use mathlib.Core.Bool.{Bool, true, false}
 use mathlib.Core.List.{List, _++_}
 use Prim.Native.Nat.{ℕ, _+_, _-_, _*_, _^_, _<_, _≤_}
 use native.Mathlib.Omega.{arith}
-use borrow.Author.Tests.{le-leb, lt-ltb, ltb-false}
+use borrow.Author.Tests.{le-leb, lt-ltb}
 use lib.Dec.{leb, ltb}
 use lib.ListN.{length, take, drop, length-append, length-drop}
 use lib.Seq.{length-take-le, take-append-seam, getD-set-same, getD-set-other, set-getD}
@@ -14,9 +14,8 @@ use Rattle.lists.specs.Numbers.{number, Bytes}
 use Rattle.lists.proofs.ListLaws.{length-over, over-over, over-same, over-behind}
 use Rattle.lists.proofs.NumberLaws.{number-lt, bytes-take}
 use Rattle.value.specs.Codec.{isText, sizeOf, takes, textWord, wordAt}
-use Rattle.value.specs.declared.Word.the-variants.{Takes, Fails}
-use Rattle.value.specs.declared.CodecFault.the-variants.{Value}
-use Rattle.value.proofs.CodecLaws.{text-taken}
+use Rattle.value.specs.declared.Word.the-variants.{Takes}
+use Rattle.value.proofs.CodecLaws.{text-taken, word-fixed}
 use Rattle.entry.specs.Table.{Dict, dict, numberOf, countAt, firstAt, typeAt, startAt, roomAt}
 use Rattle.entry.specs.Rules.{wordOk, valOk}
 use Rattle.entry.specs.Judge.{wellFormed}
@@ -36,12 +35,7 @@ takes-text t s w e h =
 
 -- else the number of its first bytes, of which there are as many as the type has
 pub takes-fixed : (t : ℕ) (s : List ℕ) (w : ℕ) → isText t ≡ false → wordAt t s ≡ Takes w → (sizeOf t ≤ length s) × (w ≡ number (take (sizeOf t) s))
-unfolding wordAt
-takes-fixed t s w e h = go (ltb (length s) (sizeOf t)) refl (rw e at h)
-  where
-    go : (b : Bool) → ltb (length s) (sizeOf t) ≡ b → cond b (Fails Value) (Takes (number (take (sizeOf t) s))) ≡ Takes w → (sizeOf t ≤ length s) × (w ≡ number (take (sizeOf t) s))
-    go true q k = let z : _≡_ {A = ℕ} 0 1 = cc in absurd (omega arith)
-    go false q k = (ltb-false (length s) (sizeOf t) q, (cc))
+takes-fixed t s w e h = word-fixed t w s h e
 
 -- ---- what a value's type and room hold
 pub record Fits (d : Dict) (p : ℕ) (s : List ℕ) (w : ℕ) : Type 0 where

@@ -290,7 +290,7 @@ pub decodes : (e : Bool) (t r : ℕ) (s : List ℕ) → valueOk e t r s ≡ true
 unfolding wordAt
 decodes e t r s q = go (isText t) refl
   where
-    go : (x : Bool) → isText t ≡ x → cond (isText t) (textWord t s) (cond (ltb (length s) (sizeOf t)) (Fails Value) (Takes (number (take (sizeOf t) s)))) ≡ Takes (wordIn t s)
+    go : (x : Bool) → isText t ≡ x → cond (isText t) (textWord t s) (cond (ltb (length s) (sizeOf t)) (Fails (Value (sizeOf t) (length s))) (Takes (number (take (sizeOf t) s)))) ≡ Takes (wordIn t s)
     go true x =
         let a = and-true (leb (length s) r && takes (textWord t s)) _ (sym (value-text e t r s x (value-room e t r s q)) ∙ q) in
         rw x (text-taken t s (and-true (leb (length s) r) _ (a .0) .1))

@@ -28,11 +28,10 @@ use Rattle.value.specs.declared.CodecFault.{CodecFault}
 use Rattle.value.specs.declared.CodecFault.the-variants.{Odd}
 use Rattle.value.specs.declared.Decoded.the-variants.{Value, NoType}
 use Rattle.value.specs.declared.ObjectValue.{ObjectValue}
-use Rattle.value.specs.declared.Exactness.the-variants as exactly
 use Rattle.value.specs.declared.Word.{Word}
 use Rattle.value.specs.declared.Word.the-variants.{Takes, Fails}
 use Rattle.value.specs.Meaning.{reading}
-use Rattle.value.specs.Codec.{sizes, sizeOf, isText, fitsType, takes, textIs, textWord, wordAt, meant, decodeOf, sayable, onText, textExactly, sizedExactly, exactlyOf, isExact, exact, encoding, afterEncode, encodeOf}
+use Rattle.value.specs.Codec.{sizes, sizeOf, isText, fitsType, takes, textIs, textWord, wordAt, meant, decodeOf, sayable, exactWord, exactlyOf, isExact, exact, encoding, afterEncode, encodeOf}
 
 -- ---- a match on t whose arms 0, 1, .. up to k - 1 did not fit
 abbrev Rest : ℕ → ℕ → Type 0
@@ -175,7 +174,7 @@ module _ (t w : ℕ) (s : List ℕ) (h : wordAt t s ≡ Takes w) where
   unfolding wordAt
   word-fixed e = go (ltb (length s) (sizeOf t)) refl (rw e at h)
     where
-      go : (b : Bool) → ltb (length s) (sizeOf t) ≡ b → cond b (Fails CodecFault.Value) (Takes (number (take (sizeOf t) s))) ≡ Takes w
+      go : (b : Bool) → ltb (length s) (sizeOf t) ≡ b → cond b (Fails (CodecFault.Value (sizeOf t) (length s))) (Takes (number (take (sizeOf t) s))) ≡ Takes w
           → (sizeOf t ≤ length s) × (w ≡ number (take (sizeOf t) s))
       go true f g = let z : _≡_ {A = ℕ} 0 1 = cc in absurd (omega arith)
       go false f g = (ltb-false (length s) (sizeOf t) f, cc)
@@ -254,24 +253,22 @@ unfolding exact exactlyOf
 exact-none t s h = rw (lt-ltb 20 t h)
 
 pub exact-text : (t : ℕ) (s : List ℕ) → t ≤ 20 → isText t ≡ true → exact t s ≡ takes (textWord t s)
-unfolding exact exactlyOf textExactly textWord
-exact-text t s h e = rw (le-ltb 20 t h, e) (go (eqb t 11) (eqb t 13 && eqb (length s % 2) 1) (judge s))
+unfolding exact exactlyOf wordAt
+exact-text t s h e = rw (le-ltb 20 t h, e) (go (textWord t s))
   where
-    go : (a b : Bool) (j : Judged) → isExact (cond a (onText j) (cond b exactly.Odd exactly.Value)) ≡ takes (cond a (textIs (length s) j) (cond b (Fails Odd) (Takes (length s))))
-    go true b Good = refl
-    go true b (Bad k) = refl
-    go false true j = refl
-    go false false j = refl
+    go : (w : Word) → isExact (exactWord t s w) ≡ takes w
+    go (Takes w) = rw e
+    go (Fails f) = refl
 
 pub exact-fixed : (t : ℕ) (s : List ℕ) → t ≤ 20 → isText t ≡ false → exact t s ≡ eqb (length s) (sizeOf t)
-unfolding exact exactlyOf sizedExactly
+unfolding exact exactlyOf wordAt
 exact-fixed t s h e = rw (le-ltb 20 t h, e) (go (decLt (length s) (sizeOf t)) (decLt (sizeOf t) (length s)))
   where
     go : Dec (length s < sizeOf t) → Dec (sizeOf t < length s)
-        → isExact (cond (ltb (length s) (sizeOf t)) (exactly.Few (sizeOf t) (length s)) (cond (ltb (sizeOf t) (length s)) exactly.Many exactly.Value)) ≡ eqb (length s) (sizeOf t)
+        → isExact (exactWord t s (cond (ltb (length s) (sizeOf t)) (Fails (CodecFault.Value (sizeOf t) (length s))) (Takes (number (take (sizeOf t) s))))) ≡ eqb (length s) (sizeOf t)
     go (yes a) b = rw (lt-ltb (length s) (sizeOf t) a, ne-eqb (length s) (sizeOf t) (λ z. omega arith))
-    go (no a) (yes b) = rw (le-ltb (length s) (sizeOf t) (omega arith), lt-ltb (sizeOf t) (length s) b, ne-eqb (length s) (sizeOf t) (λ z. omega arith))
-    go (no a) (no b) = rw (le-ltb (length s) (sizeOf t) (omega arith), le-ltb (sizeOf t) (length s) (omega arith), eq-eqb (length s) (sizeOf t) (omega arith))
+    go (no a) (yes b) = rw (le-ltb (length s) (sizeOf t) (omega arith), e, lt-leb (length s) (sizeOf t) b, ne-eqb (length s) (sizeOf t) (λ z. omega arith))
+    go (no a) (no b) = rw (le-ltb (length s) (sizeOf t) (omega arith), e, le-leb (length s) (sizeOf t) (omega arith), eq-eqb (length s) (sizeOf t) (omega arith))
 
 -- the word that it is, and what is so of it
 abbrev pub wordIn : ℕ → List ℕ → ℕ

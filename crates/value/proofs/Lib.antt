@@ -1,5 +1,6 @@
 pub mod IntegerLaws
 pub mod CodecLaws
+pub mod FaultLaws
 pub mod ByteLaws
 pub mod StandardLaws
 pub mod WordLaws

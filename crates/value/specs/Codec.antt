@@ -1,7 +1,7 @@
 -- Decoding and encoding: RULES.md R3.1 and R3.4 to R3.7.
 -- Assumes nothing.
 use Prim.Native.Nat.{ℕ, _*_, _%_, _^_}
-use mathlib.Core.Bool.{Bool, true, false, cond, _&&_}
+use mathlib.Core.Bool.{Bool, true, false, cond, _&&_, _||_}
 use mathlib.Core.List.{List, [], _∷_}
 use lib.Dec.{eqb, leb, ltb}
 use lib.ListN.{getD, length, take}
@@ -42,7 +42,7 @@ fitsType t w = ltb w (2 ^ (8 * sizeOf t))
 -- ---- decoding
 abbrev pub textIs : ℕ → Judged → Word
 textIs n Good = Takes n
-textIs n (Bad k) = Fails Text
+textIs n (Bad k) = Fails (Text k)
 
 -- R3.6: a VisibleString must be UTF-8, a UnicodeString has an even byte count
 unfoldable pub textWord : ℕ → List ℕ → Word
@@ -53,20 +53,20 @@ textWord t s =
     (Fails Odd)
     (Takes (length s)))
 
--- R3.6: of a fixed type, fewer bytes than its size are too few, and bytes behind it are ignored
+-- R3.6: of a fixed type, fewer bytes than its size are too few, and bytes behind it are ignored; R3.9: what is said of them
 unfoldable pub wordAt : ℕ → List ℕ → Word
 wordAt t s =
     cond (isText t)
     (textWord t s)
     (cond (ltb (length s) (sizeOf t))
-    (Fails Value)
+    (Fails (Value (sizeOf t) (length s)))
     (Takes (number (take (sizeOf t) s))))
 
 -- ---- values
 -- the numbers of a fault: 12 for too few bytes, 5 for bad text
 abbrev pub refusalOf : CodecFault → Refusal
-refusalOf Value = BufferTooShort
-refusalOf Text = TypeMismatch
+refusalOf (Value needed had) = BufferTooShort
+refusalOf (Text at) = TypeMismatch
 refusalOf Odd = TypeMismatch
 
 abbrev pub meant : ℕ → Word → Decoded
@@ -91,27 +91,19 @@ sayable t w part =
     (fitsType t w)
 
 -- ---- R3.4: whether data that is handed in, or stored, is a value of type t and nothing else, or why it is none
-abbrev pub onText : Judged → Exactness
-onText Good = exactly.Value
-onText (Bad k) = exactly.Text k
-
-unfoldable pub textExactly : ℕ → List ℕ → Exactness
-textExactly t s = cond (eqb t 11) (onText (judge s)) (cond (eqb t 13 && eqb (length s % 2) 1) exactly.Odd exactly.Value)
-
--- bytes needed, and had
-unfoldable pub sizedExactly : ℕ → ℕ → Exactness
-sizedExactly n m = cond (ltb m n) (exactly.Few n m) (cond (ltb n m) exactly.Many exactly.Value)
+-- it decodes, and of a fixed type nothing is left behind it
+abbrev pub exactWord : ℕ → List ℕ → Word → Exactness
+exactWord t s (Fails f) = exactly.Fails f
+exactWord t s (Takes w) = cond (isText t || leb (length s) (sizeOf t)) exactly.Value exactly.Many
 
 unfoldable pub exactlyOf : ℕ → List ℕ → Exactness
-exactlyOf t s = cond (ltb 20 t) exactly.NoType (cond (isText t) (textExactly t s) (sizedExactly (sizeOf t) (length s)))
+exactlyOf t s = cond (ltb 20 t) exactly.NoType (exactWord t s (wordAt t s))
 
 abbrev pub isExact : Exactness → Bool
 isExact exactly.Value = true
 isExact exactly.NoType = false
-isExact (exactly.Few n m) = false
+isExact (exactly.Fails f) = false
 isExact exactly.Many = false
-isExact (exactly.Text k) = false
-isExact exactly.Odd = false
 
 unfoldable pub exact : ℕ → List ℕ → Bool
 exact t s = isExact (exactlyOf t s)

@@ -1,4 +1,5 @@
 pub mod Meaning
 pub mod Standard
 pub mod Codec
+pub mod Fault
 pub mod Range

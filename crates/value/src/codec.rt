@@ -3,7 +3,7 @@ ghost use mathlib.Core.Path.{_≡_};
 ghost use mathlib.Core.Bool.{true, false};
 ghost use mathlib.Core.List.{[]};
 ghost use Prim.Native.Nat.{_-_, _*_, _^_, _≤_};
-ghost use Rattle.value.specs.Codec.{sizeOf, isText, fitsType, textWord, wordAt, textExactly, sizedExactly, exactlyOf, isExact, encodeOf, afterEncode};
+ghost use Rattle.value.specs.Codec.{sizeOf, isText, fitsType, textWord, wordAt, exactlyOf, isExact, encodeOf, afterEncode};
 use crate::CodecFault;
 use crate::Encoded;
 use crate::Exactness;
@@ -72,7 +72,7 @@ fn decode_text(t: u64, data: &[u8]) -> Word
     if t == 11 {
         return match text::text_ok(data) {
             Text::Good => Word::Takes(data.len() as u64),
-            Text::Bad(_) => Word::Fails(CodecFault::Text),
+            Text::Bad(k) => Word::Fails(CodecFault::Text { at: k }),
         };
     }
     let odd = data.len() % 2 == 1;
@@ -91,37 +91,12 @@ pub fn decode_word(t: u64, data: &[u8]) -> Word
     }
     let n = size_of(t);
     if data.len() < n {
-        return Word::Fails(CodecFault::Value);
+        return Word::Fails(CodecFault::Value {
+            needed: n,
+            had: data.len(),
+        });
     }
     Word::Takes(lists::number(data, 0, n))
-}
-
-fn text_exactly(t: u64, data: &[u8]) -> Exactness
-    ensures { λ r. ⌜ r ≡ textExactly t (now («data» .entry)) ⌝ }
-{
-    if t == 11 {
-        return match text::text_ok(data) {
-            Text::Good => Exactness::Value,
-            Text::Bad(k) => Exactness::Text(k),
-        };
-    }
-    let odd = data.len() % 2 == 1;
-    if (t == 13) & odd {
-        return Exactness::Odd;
-    }
-    Exactness::Value
-}
-
-fn sized_exactly(needed: usize, had: usize) -> Exactness
-    ensures { λ r. ⌜ r ≡ sizedExactly needed had ⌝ }
-{
-    if had < needed {
-        return Exactness::Few { needed, had };
-    }
-    if needed < had {
-        return Exactness::Many;
-    }
-    Exactness::Value
 }
 
 // Whether the data is a value of type t and nothing else, or why it is none.
@@ -131,10 +106,13 @@ pub fn exactly(t: u64, data: &[u8]) -> Exactness
     if 20 < t {
         return Exactness::NoType;
     }
-    if is_text(t) {
-        return text_exactly(t, data);
+    if let Word::Fails(f) = decode_word(t, data) {
+        return Exactness::Fails(f);
     }
-    sized_exactly(size_of(t), data.len())
+    if is_text(t) | (data.len() <= size_of(t)) {
+        return Exactness::Value;
+    }
+    Exactness::Many
 }
 
 pub fn is_exact(e: Exactness) -> bool
@@ -143,10 +121,8 @@ pub fn is_exact(e: Exactness) -> bool
     match e {
         Exactness::Value => true,
         Exactness::NoType => false,
-        Exactness::Few { needed: _, had: _ } => false,
+        Exactness::Fails(_) => false,
         Exactness::Many => false,
-        Exactness::Text(_) => false,
-        Exactness::Odd => false,
     }
 }
 

@@ -58,10 +58,10 @@ pub enum ObjectValue {
     IpAddress(IpAddress),
 }
 
-// Why bytes are no value of a type: fewer than it has, no UTF-8 text, an odd count.
+// Why bytes are no value of a type: fewer than it needs, no UTF-8 text from this byte on, an odd count.
 pub enum CodecFault {
-    Value,
-    Text,
+    Value { needed: usize, had: usize },
+    Text { at: usize },
     Odd,
 }
 
@@ -78,15 +78,13 @@ pub enum Decoded {
     NoType,
 }
 
-// Whether data is a value of a type and nothing else, or why it is none: a number that names no type, fewer bytes than the type has, more,
-// no UTF-8 text from this byte on, an odd count.
+// Whether data is a value of a type and nothing else, or why it is none: a number that names no type, bytes that do not decode, bytes behind
+// the value.
 pub enum Exactness {
     Value,
     NoType,
-    Few { needed: usize, had: usize },
+    Fails(CodecFault),
     Many,
-    Text(usize),
-    Odd,
 }
 
 // How many bytes were written.
@@ -99,8 +97,8 @@ pub fn refusal(f: CodecFault) -> Refusal
     ensures { λ r. ⌜ r ≡ refusalOf f ⌝ }
 {
     match f {
-        CodecFault::Value => Refusal::BufferTooShort,
-        CodecFault::Text => Refusal::TypeMismatch,
+        CodecFault::Value { needed: _, had: _ } => Refusal::BufferTooShort,
+        CodecFault::Text { at: _ } => Refusal::TypeMismatch,
         CodecFault::Odd => Refusal::TypeMismatch,
     }
 }

@@ -15,8 +15,9 @@ returns c =
 returns-2 : tie.Need-returns-2
 unfolding textWord
 returns-2 c =
-    let k = c .before .before in
-    simp (eq-eqb _ _ (k .before .if1 .taken), sym (k .text-ok .ensures) ∙ c .enum-told2 .given .1)
+    let a = c .before in
+    let k = a .before .before in
+    simp (eq-eqb _ _ (k .before .if1 .taken), sym (k .text-ok .ensures) ∙ a .k .given .1)
 
 returns-3 : tie.Need-returns-3
 unfolding textWord

@@ -4,9 +4,10 @@ use borrow.Author.Needs.{needs}
 use borrow.Author.Tests.{lt-ltb, le-ltb}
 use mathlib.Core.Path.{sym, ap, _∙_}
 use denote.Ref.{now}
-use lib.ListN.{take}
+use lib.ListN.{take, length}
 use Rattle.lists.specs.Numbers.{number}
-use Rattle.value.specs.declared.Word.the-variants.{Takes}
+use Rattle.value.specs.declared.CodecFault.the-variants.{Value}
+use Rattle.value.specs.declared.Word.the-variants.{Takes, Fails}
 use Rattle.value.specs.Codec.{wordAt}
 use Rattle.value.proofs.CodecLaws.{size-le}
 use Rattle.value.proofs.codec.decode_word.Statement.{statement}
@@ -21,6 +22,7 @@ unfolding wordAt
 returns-2 c =
     let k = c .before .before in
     simp (sym (k .before .is-text .ensures) ∙ k .if1 .left, lt-ltb _ _ (rw (c .before .size-of .ensures) at (c .if2 .taken)))
+    (ap (λ n. Fails (Value n (length (now (k .before .before .before .args .«data»))))) (c .before .size-of .ensures))
 
 number-requires : tie.Need-number-requires
 number-requires c κs = (omega (arith, c .before .size-of .ensures, size-le (c .before .before .before .before .before .args .t)), omega arith)
