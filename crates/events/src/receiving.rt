@@ -3,9 +3,9 @@ ghost use mathlib.Core.Path.{_≡_};
 ghost use Rattle.entry.specs.Table.{dict};
 ghost use Rattle.entry.specs.Put.{contents};
 ghost use Rattle.events.specs.Receive.{eventCount, received, receivedOf};
-use crate::EventRecord;
 use crate::Heard;
 use crate::records::fill;
+use event::EventRecord;
 use pdo_handler::Consumed;
 
 // How many events there are.

@@ -51,11 +51,12 @@ use denote.Triple.Walked.{says, needs, Stays, stay-slice, stay-dropped, walkOf, 
 use denote.Exit.{yes}
 use denote.Signature.{plain, shrSliceOf}
 use borrow.Author.Tests.{lt-ltb, le-ltb}
-use Rattle.events.specs.Record.{recordOf, recordsOf}
-use Rattle.events.specs.declared.EventRecord.{EventRecord}
+use Rattle.event.specs.Record.{recordOf}
+use Rattle.events.specs.Receive.{recordsOf}
+use Rattle.event.specs.declared.EventRecord.{EventRecord}
 use Rattle.events.proofs.RecordLaws.{stored, length-stored, stored-is}
-use Rattle.events.proofs.EventRecord as T
-use Rattle.events.proofs.EventRecord.Laws as T′
+use Rattle.event.proofs.EventRecord as T
+use Rattle.event.proofs.EventRecord.Laws as T′
 use Rattle.events.proofs.records.record_at as record-at
 use Rattle.events.proofs.records.record_at.Symbol as record-at-def
 use Rattle.events.proofs.records.record_at.Symbol.{name as #record-at}

@@ -1,7 +1,7 @@
--- `events::records::cause_of` meets its contract: each branch's test says which case of `causeOf` holds. Assumes nothing.
+-- `event::records::cause_of` meets its contract: each branch's test says which case of `causeOf` holds. Assumes nothing.
 use borrow.Author.Tests.{eq-eqb, ne-eqb}
-use Rattle.events.proofs.records.cause_of.Statement.{statement}
-use Rattle.events.proofs.records.cause_of.Tie as tie
+use Rattle.event.proofs.records.cause_of.Statement.{statement}
+use Rattle.event.proofs.records.cause_of.Tie as tie
 
 returns : tie.Need-returns
 returns c = simp (eq-eqb _ _ (c .if1 .taken))

@@ -1,8 +1,8 @@
--- `events::records::record_of` meets its contract: each field is that of `recordOf`. Assumes nothing.
+-- `event::records::record_of` meets its contract: each field is that of `recordOf`. Assumes nothing.
 use borrow.Author.Needs.{needs}
-use Rattle.events.specs.Record.{recordOf}
-use Rattle.events.proofs.records.record_of.Statement.{statement}
-use Rattle.events.proofs.records.record_of.Tie as tie
+use Rattle.event.specs.Record.{recordOf}
+use Rattle.event.proofs.records.record_of.Statement.{statement}
+use Rattle.event.proofs.records.record_of.Tie as tie
 
 returns : tie.Need-returns
 unfolding recordOf

@@ -1,12 +1,12 @@
--- `events::records::event_of` meets its contract: each branch's test says which case of `eventOf` holds. Assumes nothing.
+-- `event::records::event_of` meets its contract: each branch's test says which case of `eventOf` holds. Assumes nothing.
 use mathlib.Core.Path.{ap, _∙_}
 use borrow.Author.Needs.{needs}
 use borrow.Author.Tests.{eq-eqb, ne-eqb}
-use Rattle.events.specs.declared.Event.the-variants.{PayloadShort}
-use Rattle.events.specs.Record.{eventOf}
-use Rattle.events.proofs.RecordLaws.{event-short}
-use Rattle.events.proofs.records.event_of.Statement.{statement}
-use Rattle.events.proofs.records.event_of.Tie as tie
+use Rattle.event.specs.declared.Event.the-variants.{PayloadShort}
+use Rattle.event.specs.Record.{eventOf}
+use Rattle.event.proofs.RecordLaws.{event-short}
+use Rattle.event.proofs.records.event_of.Statement.{statement}
+use Rattle.event.proofs.records.event_of.Tie as tie
 
 returns : tie.Need-returns
 unfolding eventOf

@@ -1,10 +1,10 @@
--- `events::records::event_record` meets its contract: the test by the parts is that the number is its record's. Assumes nothing.
+-- `event::records::event_record` meets its contract: the test by the parts is that the number is its record's. Assumes nothing.
 use mathlib.Core.Path.{sym, ap, _∙_}
 use borrow.Author.Needs.{needs}
-use Rattle.events.specs.declared.Recorded.the-variants.{Is}
-use Rattle.events.proofs.NumberLaws.{recorded-is, recorded-none}
-use Rattle.events.proofs.records.event_record.Statement.{statement}
-use Rattle.events.proofs.records.event_record.Tie as tie
+use Rattle.event.specs.declared.Recorded.the-variants.{Is}
+use Rattle.event.proofs.NumberLaws.{recorded-is, recorded-none}
+use Rattle.event.proofs.records.event_record.Statement.{statement}
+use Rattle.event.proofs.records.event_record.Tie as tie
 
 returns : tie.Need-returns
 returns c = ap Is (c .record-of .ensures) ∙ recorded-is _ (sym (c .before .before .is-record .ensures) ∙ c .before .if1 .taken)
