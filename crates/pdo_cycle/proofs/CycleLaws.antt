@@ -1,21 +1,23 @@
 -- One payload's turn in a cycle. Assumes nothing.
 use mathlib.Core.Path.{_≡_, refl, sym, ap, _∙_}
 use mathlib.Core.Bool.{true}
-use mathlib.Core.List.{List, []}
+use mathlib.Core.List.{List, [], map}
 use Prim.Native.Nat.{ℕ, suc, _+_, _-_, _<_, _≤_}
 use native.Mathlib.Omega.{arith}
 use borrow.Author.Tests.{lt-ltb, le-ltb}
-use lib.ListN.{length, length-append}
+use lib.ListN.{length, length-append, length-map}
 use Rattle.lists.specs.Numbers.{Bytes}
 use Rattle.lists.specs.Lists.{over}
 use Rattle.lists.proofs.ListLaws.{over-none, over-over}
 use Rattle.lists.proofs.NumberLaws.{bytes-take, bytes-drop}
+use Rattle.event.specs.declared.EventRecord.{EventRecord}
+use Rattle.event.specs.Record.{eventNumber}
 use Rattle.entry.specs.Table.{dict}
 use Rattle.entry.specs.Judge.{wellFormed}
 use Rattle.entry.specs.Put.{Contents}
 use Rattle.pdo_run.specs.Run.{frame, Ran, Logged, finished}
 use Rattle.pdo_handler.proofs.ConsumeLaws.{Sane, received-sane}
-use Rattle.pdo_handler.proofs.EventLaws.{received-few}
+use Rattle.pdo_handler.proofs.EventLaws.{map-append, received-few}
 use Rattle.pdo_cycle.specs.Payloads.{startOf, lengthOf, senderOf, versionOf, readyOf, payloadOf}
 use Rattle.pdo_cycle.specs.Cycle.{Delivery, receivedAt, Cycled, cycled, further, cycleFrom, stateOf, ended}
 
@@ -41,11 +43,12 @@ module _ (l : List ℕ) (n i : ℕ) where
   pub ended-none : (c : Contents) → ended (cycled c [] 0) l n i ≡ stateOf c l n i
   ended-none c = let y : n + 0 ≡ n = omega arith in let z : i + 0 ≡ i = omega arith in rw (over-none l n, y, z)
 
-  pub ended-further : (es : List ℕ) (x : Cycled) → n + length es ≤ length l → ended (further es x) l n i ≡ ended x (over l n es) (n + length es) (i + 1)
+  pub ended-further : (es : List EventRecord) (x : Cycled) → n + length es ≤ length l → ended (further es x) l n i ≡ ended x (over l n (map eventNumber es)) (n + length es) (i + 1)
   ended-further es x h =
+      let m = length-map es eventNumber in
       let y : n + (length es + length (x .events)) ≡ n + length es + length (x .events) = omega arith in
       let z : i + (1 + x .consumed) ≡ i + 1 + x .consumed = omega arith in
-      rw (over-over l n es (n + length es) (x .events) refl h, length-append es (x .events), y, z)
+      rw (map-append eventNumber es (x .events), over-over l n (map eventNumber es) (n + length es) (map eventNumber (x .events)) (omega (arith, m)) (omega (arith, m, h)), length-append es (x .events), y, z)
 
 -- ---- a payload leaves a well-formed dictionary of bytes, and has at most 254 events
 module _ (v : Delivery) (c : Contents) (i : ℕ) (w : wellFormed (dict (v .objects) (v .slots) (c .words) (c .bytes)) ≡ true) where
@@ -71,6 +74,6 @@ module _ (v : Delivery) (k i : ℕ) (c : Contents) (l : List ℕ) (n : ℕ) (h :
       let onward = cycleFrom v (k - (i + 1)) (i + 1) (r .contents) (length l - n - length (r .events)) in
       ap (λ m. ended (cycleFrom v (k - (i + 1)) (i + 1) (x .contents) (m - x .count)) (x .log) (x .count) (i + 1)) same
       ∙ ap (λ (y : Logged). ended (cycleFrom v (k - (i + 1)) (i + 1) (y .contents) (length l - y .count)) (y .log) (y .count) (i + 1)) q
-      ∙ ap (λ m. ended (cycleFrom v (k - (i + 1)) (i + 1) (r .contents) m) (over l n (r .events)) (n + length (r .events)) (i + 1)) z
+      ∙ ap (λ m. ended (cycleFrom v (k - (i + 1)) (i + 1) (r .contents) m) (over l n (map eventNumber (r .events))) (n + length (r .events)) (i + 1)) z
       ∙ sym (ended-further l n i (r .events) onward (omega (arith, few, room)))
       ∙ ap (λ y. ended y l n i) (sym (cycle-turn v k i c (length l - n) h room))

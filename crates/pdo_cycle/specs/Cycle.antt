@@ -1,11 +1,13 @@
 -- Consuming the payloads of a cycle: RULES.md R11.12 and R11.13. Assumes nothing.
 use Prim.Native.Nat.{ℕ, zero, suc, _+_, _-_}
 use mathlib.Core.Bool.{cond, _&&_}
-use mathlib.Core.List.{List, [], _++_}
+use mathlib.Core.List.{List, [], _++_, map}
 use lib.Dec.{ltb}
 use lib.ListN.{length}
 use Rattle.lists.specs.Lists.{over}
 use Rattle.answers.specs.declared.Refusal.the-variants.{Malformed, BadValue, PayloadTooLong}
+use Rattle.event.specs.declared.EventRecord.{EventRecord}
+use Rattle.event.specs.Record.{eventNumber}
 use Rattle.entry.specs.Table.{Dict}
 use Rattle.entry.specs.Judge.{wellFormed}
 use Rattle.entry.specs.Put.{Contents, contents}
@@ -33,13 +35,13 @@ receivedAt v c i =
 -- what is left of a cycle: the contents, the events, and how many payloads were consumed
 pub record Cycled : Type 0 where
   pub contents : Contents
-  pub events : List ℕ
+  pub events : List EventRecord
   pub consumed : ℕ
 
-abbrev pub cycled : Contents → List ℕ → ℕ → Cycled
+abbrev pub cycled : Contents → List EventRecord → ℕ → Cycled
 cycled c es n = record { contents = c; events = es; consumed = n }
 
-abbrev pub further : List ℕ → Cycled → Cycled
+abbrev pub further : List EventRecord → Cycled → Cycled
 further es x = cycled (x .contents) (es ++ x .events) (1 + x .consumed)
 
 -- R11.13: "Before each, ready or not, 254 free records are needed; the call ends before the first payload that lacks them." n payloads
@@ -62,7 +64,7 @@ abbrev pub stateOf : Contents → List ℕ → ℕ → ℕ → Ended
 stateOf c l n i = record { contents = c; log = l; count = n; consumed = i }
 
 abbrev pub ended : Cycled → List ℕ → ℕ → ℕ → Ended
-ended x l n i = stateOf (x .contents) (over l n (x .events)) (n + length (x .events)) (i + x .consumed)
+ended x l n i = stateOf (x .contents) (over l n (map eventNumber (x .events))) (n + length (x .events)) (i + x .consumed)
 
 -- an answer, and what was lent after it
 pub record AfterCycle : Type 0 where

@@ -13,12 +13,13 @@ use Rattle.entry.specs.Judge.{wellFormed}
 use Rattle.entry.specs.Put.{Contents, contents, filled}
 use Rattle.entry.specs.declared.Found.{Found}
 use Rattle.entry.specs.declared.Found.the-variants.{At, Nothing}
+use Rattle.pdo_step.specs.Effects.{effectOf}
 use Rattle.pdo_step.specs.Steps.{applied}
 use Rattle.pdo_step.proofs.OutcomeLaws.{step-keeps, step-bytes}
 use Rattle.pdo_step.proofs.MarkLaws.{mark-keeps, mark-bytes}
 use Rattle.pdo_handler.specs.declared.Consumed.the-variants.{Refused}
 use Rattle.pdo_channel.specs.Channel.{firstMatch, expectedOf, rightVersion}
-use Rattle.pdo_run.specs.Run.{Frame, frame, held, marked, decided, isShort, stopsOf, outcomeEvent, actOf, ran, one, behind, runFrom, listIn, runOn, finished}
+use Rattle.pdo_run.specs.Run.{Frame, frame, held, marked, decided, recorded, actOf, ran, behind, runFrom, listIn, runOn, finished}
 use Rattle.pdo_handler.specs.Consume.{mapVersion, onChannel, consumedBy, receivedBy, afterConsume, consumeDone, consumeOf}
 
 -- a well-formed dictionary of bytes
@@ -32,7 +33,7 @@ marked-sane f c x s = record { well = mark-keeps (held f c) (s .well) (s .bytes)
 module _ (f : Frame) (b : Bytes (f .payload)) where
   pub act-sane : (c : Contents) (w : ℕ) → Sane f c → Sane f (actOf f c (decided f w))
   unfolding actOf
-  act-sane c w s = go (isShort (decided f w))
+  act-sane c w s = go (effectOf (decided f w) .bit)
     where
       go : (x : Bool) → Sane f (cond x (marked f c 0x1C81) (applied (f .slots) (f .payload) c (decided f w)))
       go true = marked-sane f c 0x1C81 s
@@ -41,10 +42,10 @@ module _ (f : Frame) (b : Bytes (f .payload)) where
   run-sane : (p : ℕ) (ws : List ℕ) (j : ℕ) (c : Contents) → Sane f c → Sane f (runFrom f p ws j c .contents)
   unfolding runFrom
   run-sane p [] j c s = s
-  run-sane p (w ∷ ws) j c s = go (eqb (typeAt (f .slots) (p + j)) 8) (stopsOf (decided f w)) (run-sane p ws (j + 1) c s) (run-sane p ws (j + 1) (actOf f c (decided f w)) (act-sane c w s))
+  run-sane p (w ∷ ws) j c s = go (eqb (typeAt (f .slots) (p + j)) 8) (effectOf (decided f w) .stops) (run-sane p ws (j + 1) c s) (run-sane p ws (j + 1) (actOf f c (decided f w)) (act-sane c w s))
     where
       go : (x y : Bool) → Sane f (runFrom f p ws (j + 1) c .contents) → Sane f (runFrom f p ws (j + 1) (actOf f c (decided f w)) .contents)
-          → Sane f (cond x (cond y (ran (actOf f c (decided f w)) (one (outcomeEvent (f .number) (j + 1) (decided f w)))) (behind (one (outcomeEvent (f .number) (j + 1) (decided f w))) (runFrom f p ws (j + 1) (actOf f c (decided f w))))) (runFrom f p ws (j + 1) c) .contents)
+          → Sane f (cond x (cond y (ran (actOf f c (decided f w)) (recorded (f .number) (j + 1) (effectOf (decided f w) .event))) (behind (recorded (f .number) (j + 1) (effectOf (decided f w) .event)) (runFrom f p ws (j + 1) (actOf f c (decided f w))))) (runFrom f p ws (j + 1) c) .contents)
       go true true u v = act-sane c w s
       go true false u v = v
       go false y u v = u

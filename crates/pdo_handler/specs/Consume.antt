@@ -5,6 +5,9 @@ use mathlib.Core.List.{List, [], _∷_}
 use lib.Dec.{ltb}
 use lib.ListN.{length}
 use Rattle.answers.specs.declared.Refusal.the-variants.{Malformed, NoEventRoom, PayloadTooLong}
+use Rattle.event.specs.declared.Event.the-variants.{MapVersion}
+use Rattle.event.specs.declared.EventRecord.{EventRecord}
+use Rattle.event.specs.Record.{recordAt}
 use Rattle.entry.specs.Table.{Dict}
 use Rattle.entry.specs.Find.{findRow}
 use Rattle.entry.specs.Judge.{wellFormed}
@@ -14,11 +17,11 @@ use Rattle.entry.specs.declared.Found.the-variants.{At, Nothing}
 use Rattle.pdo_handler.specs.declared.Consumed.{Consumed}
 use Rattle.pdo_handler.specs.declared.Consumed.the-variants.{Done, Refused}
 use Rattle.pdo_channel.specs.Channel.{firstMatch, expectedOf, rightVersion}
-use Rattle.pdo_run.specs.Run.{Frame, frame, held, marked, Ran, ran, packed, runOn, Logged, finished}
+use Rattle.pdo_run.specs.Run.{Frame, frame, held, marked, Ran, ran, runOn, Logged, finished}
 
 -- R11.9: element 0
-abbrev pub mapVersion : ℕ → ℕ
-mapVersion i = packed i 1 0 0 0 0
+abbrev pub mapVersion : ℕ → EventRecord
+mapVersion i = recordAt i 0 MapVersion
 
 -- R11.3: "Wrong: event MapVersion, the sender's bit in 1C80h, end."
 abbrev pub onChannel : Frame → Contents → ℕ → Found → Ran

@@ -12,11 +12,11 @@ ghost use Rattle.pdo_handler.specs.Consume.{onChannel, consumedBy, recei
 use crate::Consumed;
 use answers::Refusal;
 use entry::Found;
+use event::packed;
 use pdo_channel::first_match;
 use pdo_channel::right_version;
 use pdo_channel::version_of;
 use pdo_run::note;
-use pdo_run::packed;
 use pdo_run::run_list;
 
 // A payload that is ready, of a sender whose channel is known, or that has none; the number of events in the log, where so many had

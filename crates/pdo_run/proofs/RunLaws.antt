@@ -1,8 +1,9 @@
 -- One word's turn. Assumes nothing.
 use mathlib.Core.Path.{_≡_, refl, sym, subst}
 use mathlib.Core.Bool.{Bool, true, false, cond}
-use mathlib.Core.List.{List, [], _∷_}
-use mathlib.Core.Logic.{⊎-elim, _≢_}
+use mathlib.Core.List.{List, [], _∷_, map}
+use mathlib.Core.Logic.{_≢_}
+use mathlib.Core.Option.{Option, none, some}
 use Prim.Native.Nat.{ℕ, suc, _+_, _<_, _≤_}
 use native.Mathlib.Omega.{arith}
 use native.Mathlib.Numerals.{add-one}
@@ -10,47 +11,47 @@ use borrow.Author.Tests.{eq-eqb, ne-eqb}
 use lib.Dec.{eqb}
 use lib.ListN.{length, take, drop, getD, set, length-drop, drop-of-length-le}
 use lib.Seq.{drop-cons, take-suc, take-suc-set, getD-drop}
-use types.Run.{OneOf}
-use denote.Enum.Declared.{tagOf}
-use Rattle.value.specs.declared.CodecFault.{CodecFault}
-use Rattle.value.specs.declared.CodecFault.the-variants as fault
 use Rattle.lists.specs.Numbers.{Bytes}
 use Rattle.lists.proofs.ListLaws.{over-none, over-first}
+use Rattle.event.specs.declared.Event.{Event}
+use Rattle.event.specs.Record.{eventNumber, recordAt}
+use Rattle.event.proofs.RecordLaws.{number-some}
 use Rattle.entry.specs.Table.{Dict, typeAt}
 use Rattle.entry.specs.Judge.{wellFormed}
 use Rattle.entry.specs.Put.{Contents, contents, filled}
 use Rattle.pdo_step.specs.declared.Outcome.{Outcome}
 use Rattle.pdo_step.specs.declared.Outcome.the-variants as outcome
 use Rattle.pdo_step.specs.Outcomes.{outcomeOf}
+use Rattle.pdo_step.specs.Effects.{effectOf}
 use Rattle.pdo_step.specs.Steps.{applied}
 use Rattle.pdo_step.proofs.OutcomeLaws.{step-keeps}
-use Rattle.pdo_step.proofs.Outcome.{the-type as outcome-type}
-use Rattle.pdo_run.specs.Run.{packed, causeNumber, outcomeEvent, stopsOf, isShort, Frame, frame, decided, marked, actOf, Ran, ran, one, behind, runFrom, logged, finished, notedLog, notedCount}
+use Rattle.pdo_run.specs.Run.{recorded, codeOf, Frame, frame, decided, marked, actOf, Ran, ran, behind, runFrom, logged, finished, notedLog, notedCount}
 
-pub cause-small : (f : CodecFault) → causeNumber f < 16
-cause-small fault.Value = omega arith
-cause-small fault.Text = omega arith
-cause-small fault.Odd = omega arith
-
--- ---- the act: the bit of a short payload, else the put
-pub act-short : (f : Frame) (c : Contents) (o : Outcome) → o ≡ outcome.Short → actOf f c o ≡ marked f c 0x1C81
+-- ---- the act: the bit, or the put
+pub act-marked : (f : Frame) (c : Contents) (o : Outcome) → effectOf o .bit ≡ true → actOf f c o ≡ marked f c 0x1C81
 unfolding actOf
-act-short f c o e = rw e
+act-marked f c o e = rw e
 
-long : (o : Outcome) → OneOf (0 ∷ 2 ∷ 3 ∷ 4 ∷ 5 ∷ 6 ∷ 7 ∷ 8 ∷ 9 ∷ []) (tagOf outcome-type o) → isShort o ≡ false
-long outcome.Misaligned k = refl
-long outcome.Short k =
-    absurd (⊎-elim (λ e. omega arith) (⊎-elim (λ e. omega arith) (⊎-elim (λ e. omega arith) (⊎-elim (λ e. omega arith) (⊎-elim (λ e. omega arith) (⊎-elim (λ e. omega arith) (⊎-elim (λ e. omega arith) (⊎-elim (λ e. omega arith) (λ e. omega arith)))))))) k)
-long (outcome.Server x start n) k = refl
-long (outcome.Client x start n) k = refl
-long outcome.NoTarget k = refl
-long outcome.Count k = refl
-long outcome.CountRefused k = refl
-long (outcome.Undecodable f) k = refl
-long outcome.TooLong k = refl
-long (outcome.Stored p start n) k = refl
+pub act-put : (f : Frame) (c : Contents) (o : Outcome) → effectOf o .bit ≡ false → actOf f c o ≡ applied (f .slots) (f .payload) c o
+unfolding actOf
+act-put f c o e = rw e
 
-goes-on : (o : Outcome) → stopsOf o ≡ false → isShort o ≡ false
+-- an outcome with a bit puts nothing
+pub marked-idle : (slots payload : List ℕ) (c : Contents) (o : Outcome) → effectOf o .bit ≡ true → applied slots payload c o ≡ c
+unfolding applied
+marked-idle slots payload c outcome.Misaligned e = refl
+marked-idle slots payload c outcome.Short e = refl
+marked-idle slots payload c (outcome.Server x start n) e = refl
+marked-idle slots payload c (outcome.Client x start n) e = refl
+marked-idle slots payload c outcome.NoTarget e = refl
+marked-idle slots payload c outcome.Count e = refl
+marked-idle slots payload c outcome.CountRefused e = refl
+marked-idle slots payload c (outcome.Undecodable f) e = refl
+marked-idle slots payload c outcome.TooLong e = refl
+marked-idle slots payload c (outcome.Stored p start n) e = let z : _≡_ {A = ℕ} 0 1 = cc in absurd (omega arith)
+
+-- and it stops the run
+goes-on : (o : Outcome) → effectOf o .stops ≡ false → effectOf o .bit ≡ false
 goes-on outcome.Misaligned s = refl
 goes-on outcome.Short s = let z : _≡_ {A = ℕ} 0 1 = cc in absurd (omega arith)
 goes-on (outcome.Server x start n) s = refl
@@ -62,12 +63,8 @@ goes-on (outcome.Undecodable f) s = refl
 goes-on outcome.TooLong s = refl
 goes-on (outcome.Stored p start n) s = refl
 
-pub act-long : (f : Frame) (c : Contents) (o : Outcome) → OneOf (0 ∷ 2 ∷ 3 ∷ 4 ∷ 5 ∷ 6 ∷ 7 ∷ 8 ∷ 9 ∷ []) (tagOf outcome-type o) → applied (f .slots) (f .payload) c o ≡ actOf f c o
-unfolding actOf
-act-long f c o k = rw (long o k)
-
 -- a word that does not stop the run keeps the dictionary well-formed
-pub act-keeps : (d : Dict) (payload : List ℕ) (sender i w : ℕ) → wellFormed d ≡ true → Bytes payload → (o : Outcome) → o ≡ outcomeOf (d .objects) (d .slots) payload w → stopsOf o ≡ false
+pub act-keeps : (d : Dict) (payload : List ℕ) (sender i w : ℕ) → wellFormed d ≡ true → Bytes payload → (o : Outcome) → o ≡ outcomeOf (d .objects) (d .slots) payload w → effectOf o .stops ≡ false
     → wellFormed (filled d (actOf (frame (d .objects) (d .slots) payload sender i) (contents (d .words) (d .bytes)) o)) ≡ true
 unfolding actOf
 act-keeps d payload sender i w e b o q s =
@@ -86,40 +83,39 @@ module _ (f : Frame) (p : ℕ) (list : List ℕ) (j : ℕ) (c : Contents) where
   unfolding runFrom
   run-over h t = rw (drop-cons list j 0 h, ne-eqb _ 8 t, add-one)
 
-  module _ (h : j < length list) (t : typeAt (f .slots) (p + j) ≡ 8) (o : Outcome) (q : o ≡ decided f (getD list j 0)) where
-    pub run-stops : stopsOf o ≡ true → onward ≡ ran (actOf f c o) (one (outcomeEvent (f .number) (j + 1) o))
-    unfolding runFrom
-    run-stops s = rw (drop-cons list j 0 h, eq-eqb _ 8 t, ← q, s)
+  module _ (h : j < length list) (t : typeAt (f .slots) (p + j) ≡ 8) where
+    abbrev pub here : Outcome
+    here = decided f (getD list j 0)
 
-    pub run-on : stopsOf o ≡ false → onward ≡ behind (one (outcomeEvent (f .number) (j + 1) o)) (runFrom f p (drop (j + 1) list) (j + 1) (actOf f c o))
+    pub run-stops : effectOf here .stops ≡ true → onward ≡ ran (actOf f c here) (recorded (f .number) (j + 1) (effectOf here .event))
     unfolding runFrom
-    run-on s = rw (drop-cons list j 0 h, eq-eqb _ 8 t, ← q, s, add-one)
+    run-stops s = rw (drop-cons list j 0 h, eq-eqb _ 8 t, s)
+
+    pub run-on : effectOf here .stops ≡ false → onward ≡ behind (recorded (f .number) (j + 1) (effectOf here .event)) (runFrom f p (drop (j + 1) list) (j + 1) (actOf f c here))
+    unfolding runFrom
+    run-on s = rw (drop-cons list j 0 h, eq-eqb _ 8 t, s, add-one)
 
 -- ---- the log
 module _ (l : List ℕ) (n : ℕ) where
   pub finished-none : (c : Contents) → finished (ran c []) l n ≡ logged c l n
   finished-none c = let z : n + 0 ≡ n = omega arith in rw (over-none l n, z)
 
-  pub finished-one : (e : ℕ) (c : Contents) → n < length l → finished (ran c (one e)) l n ≡ logged c (notedLog l n e) (notedCount n e)
-  finished-one e c h = go (eqb e 0)
-    where
-      go : (b : Bool) → finished (ran c (cond b [] (e ∷ []))) l n ≡ logged c (cond b l (set l n e)) (cond b n (n + 1))
-      go true = finished-none c
-      go false = rw (over-first l n e [] h, over-none (set l n e) (suc n))
+  module _ (i k : ℕ) (h : n < length l) where
+    -- a number that is an event's is noted
+    noted : (v : Event) → eqb (eventNumber (recordAt i k v)) 0 ≡ false
+    noted v = ne-eqb (eventNumber (recordAt i k v)) 0 (λ e. omega (arith, e, number-some (recordAt i k v)))
 
-  pub finished-behind : (e : ℕ) (r : Ran) → n < length l → finished (behind (one e) r) l n ≡ finished r (notedLog l n e) (notedCount n e)
-  finished-behind e r h = go (eqb e 0)
-    where
-      go : (b : Bool) → finished (behind (cond b [] (e ∷ [])) r) l n ≡ finished r (cond b l (set l n e)) (cond b n (n + 1))
-      go true = refl
-      go false =
-          let z : n + suc (length (r .events)) ≡ n + 1 + length (r .events) = omega arith in
-          let y : suc n ≡ n + 1 = omega arith in
-          rw (over-first l n e (r .events) h, z, y)
+    pub finished-one : (v : Option Event) (c : Contents) → finished (ran c (recorded i k v)) l n ≡ logged c (notedLog l n (codeOf i k v)) (notedCount n (codeOf i k v))
+    finished-one none c = finished-none c
+    finished-one (some v) c = let e = eventNumber (recordAt i k v) in rw (noted v, over-first l n e [] h, over-none (set l n e) (suc n))
 
--- a number with a kind is an event
-pub one-packed : (i kind k x start n : ℕ) → 0 < kind → one (packed i kind k x start n) ≡ packed i kind k x start n ∷ []
-one-packed i kind k x start n h = rw (ne-eqb (packed i kind k x start n) 0 (λ e. absurd (omega (arith, e, h))))
+    pub finished-behind : (v : Option Event) (r : Ran) → finished (behind (recorded i k v) r) l n ≡ finished r (notedLog l n (codeOf i k v)) (notedCount n (codeOf i k v))
+    finished-behind none r = refl
+    finished-behind (some v) r =
+        let e = eventNumber (recordAt i k v) in
+        let z : n + suc (length (r .events)) ≡ n + 1 + length (r .events) = omega arith in
+        let y : suc n ≡ n + 1 = omega arith in
+        rw (noted v, over-first l n e (map eventNumber (r .events)) h, z, y)
 
 pub noted-few : (n e : ℕ) → notedCount n e ≤ n + 1
 noted-few n e = go (eqb e 0)

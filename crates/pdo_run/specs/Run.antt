@@ -1,70 +1,40 @@
 -- The mapped words of a channel, in turn: RULES.md 11. Assumes nothing.
-use Prim.Native.Nat.{ℕ, _+_, _*_}
-use mathlib.Core.Bool.{Bool, true, false, cond}
-use mathlib.Core.List.{List, [], _∷_, _++_}
+use Prim.Native.Nat.{ℕ, _+_}
+use mathlib.Core.Bool.{Bool, cond}
+use mathlib.Core.List.{List, [], _∷_, _++_, map}
+use mathlib.Core.Option.{Option, none, some}
 use lib.Dec.{eqb}
 use lib.ListN.{length, take, drop, set}
 use Rattle.lists.specs.Lists.{over}
-use Rattle.value.specs.declared.CodecFault.{CodecFault}
-use Rattle.value.specs.declared.CodecFault.the-variants as fault
+use Rattle.event.specs.declared.Event.{Event}
+use Rattle.event.specs.declared.EventRecord.{EventRecord}
+use Rattle.event.specs.Record.{eventNumber, recordAt}
 use Rattle.entry.specs.Table.{Dict, dict, kindAt, listCount, firstAt, typeAt}
 use Rattle.entry.specs.declared.Found.{Found}
 use Rattle.entry.specs.declared.Found.the-variants.{At, Nothing}
 use Rattle.entry.specs.Put.{Contents, contents}
 use Rattle.pdo_step.specs.declared.Outcome.{Outcome}
-use Rattle.pdo_step.specs.declared.Outcome.the-variants as outcome
 use Rattle.pdo_step.specs.Outcomes.{outcomeOf}
+use Rattle.pdo_step.specs.Effects.{effectOf}
 use Rattle.pdo_step.specs.Steps.{applied}
 use Rattle.pdo_step.specs.Bits.{markedIn}
+use Rattle.pdo_run.specs.declared.Turn.{Turn}
 
--- ---- R11.14: an event as one number: its payload's number, what it is, its element, and of a hand-off the index, and start and length in bytes
-abbrev pub packed : ℕ → ℕ → ℕ → ℕ → ℕ → ℕ → ℕ
-packed i kind k x start n = kind + 16 * (k + 256 * (x + 65536 * (start + 8192 * (n + 8192 * i))))
+-- ---- R11.9 and R11.13: the record of element k of payload i, where there is an event; and its number, 0 where there is none
+abbrev pub recorded : ℕ → ℕ → Option Event → List EventRecord
+recorded i k none = []
+recorded i k (some v) = recordAt i k v ∷ []
 
--- "PayloadShort, cause Value, Text or Odd"
-abbrev pub causeNumber : CodecFault → ℕ
-causeNumber fault.Value = 3
-causeNumber fault.Text = 4
-causeNumber fault.Odd = 5
+abbrev pub codeOf : ℕ → ℕ → Option Event → ℕ
+codeOf i k none = 0
+codeOf i k (some v) = eventNumber (recordAt i k v)
 
--- R11.5: the column "Event"; 0 where there is none
-abbrev pub outcomeEvent : ℕ → ℕ → Outcome → ℕ
-outcomeEvent i k outcome.Misaligned = 0
-outcomeEvent i k outcome.Short = packed i 2 k 0 0 0
-outcomeEvent i k (outcome.Server x start n) = packed i 6 k x start n
-outcomeEvent i k (outcome.Client x start n) = packed i 7 k x start n
-outcomeEvent i k outcome.NoTarget = 0
-outcomeEvent i k outcome.Count = 0
-outcomeEvent i k outcome.CountRefused = packed i 8 k 0 0 0
-outcomeEvent i k (outcome.Undecodable f) = packed i (causeNumber f) k 0 0 0
-outcomeEvent i k outcome.TooLong = packed i 9 k 0 0 0
-outcomeEvent i k (outcome.Stored p start n) = 0
+-- what an outcome leaves to do beside what it puts
+abbrev pub turn : ℕ → Bool → Bool → Turn
+turn e b s = record { event = e; bit = b; stops = s }
 
--- the column "Then"
-abbrev pub stopsOf : Outcome → Bool
-stopsOf outcome.Misaligned = false
-stopsOf outcome.Short = true
-stopsOf (outcome.Server x start n) = false
-stopsOf (outcome.Client x start n) = false
-stopsOf outcome.NoTarget = false
-stopsOf outcome.Count = false
-stopsOf outcome.CountRefused = false
-stopsOf (outcome.Undecodable f) = true
-stopsOf outcome.TooLong = false
-stopsOf (outcome.Stored p start n) = false
-
--- the column "Bit in 1C81h"
-abbrev pub isShort : Outcome → Bool
-isShort outcome.Misaligned = false
-isShort outcome.Short = true
-isShort (outcome.Server x start n) = false
-isShort (outcome.Client x start n) = false
-isShort outcome.NoTarget = false
-isShort outcome.Count = false
-isShort outcome.CountRefused = false
-isShort (outcome.Undecodable f) = false
-isShort outcome.TooLong = false
-isShort (outcome.Stored p start n) = false
+abbrev pub turnOf : ℕ → ℕ → Outcome → Turn
+turnOf i k o = let e = effectOf o in turn (codeOf i k (e .event)) (e .bit) (e .stops)
 
 -- ---- what the words are held against: the dictionary's shape, the payload, its sender and its number
 pub record Frame : Type 0 where
@@ -89,20 +59,17 @@ marked f c x = contents (c .words) (markedIn (f .objects) (f .slots) (c .words) 
 
 -- R11.5: the bit, or the act
 unfoldable pub actOf : Frame → Contents → Outcome → Contents
-actOf f c o = cond (isShort o) (marked f c 0x1C81) (applied (f .slots) (f .payload) c o)
+actOf f c o = cond (effectOf o .bit) (marked f c 0x1C81) (applied (f .slots) (f .payload) c o)
 
 -- what is left of a run: the contents, and its events
 pub record Ran : Type 0 where
   pub contents : Contents
-  pub events : List ℕ
+  pub events : List EventRecord
 
-abbrev pub ran : Contents → List ℕ → Ran
+abbrev pub ran : Contents → List EventRecord → Ran
 ran c es = record { contents = c; events = es }
 
-abbrev pub one : ℕ → List ℕ
-one e = cond (eqb e 0) [] (e ∷ [])
-
-abbrev pub behind : List ℕ → Ran → Ran
+abbrev pub behind : List EventRecord → Ran → Ran
 behind es r = ran (r .contents) (es ++ r .events)
 
 -- R11.4 and R11.5: each word of type U64 in list order, "on the dictionary as it then is", until one stops. The list's first slot is p,
@@ -111,9 +78,9 @@ unfoldable pub runFrom : Frame → ℕ → List ℕ → ℕ → Contents → Ran
 runFrom f p [] j c = ran c []
 runFrom f p (w ∷ ws) j c =
     cond (eqb (typeAt (f .slots) (p + j)) 8)
-    (cond (stopsOf (decided f w))
-    (ran (actOf f c (decided f w)) (one (outcomeEvent (f .number) (j + 1) (decided f w))))
-    (behind (one (outcomeEvent (f .number) (j + 1) (decided f w))) (runFrom f p ws (j + 1) (actOf f c (decided f w)))))
+    (cond (effectOf (decided f w) .stops)
+    (ran (actOf f c (decided f w)) (recorded (f .number) (j + 1) (effectOf (decided f w) .event)))
+    (behind (recorded (f .number) (j + 1) (effectOf (decided f w) .event)) (runFrom f p ws (j + 1) (actOf f c (decided f w)))))
     (runFrom f p ws (j + 1) c)
 
 -- R11.4: the words of the list in row r, "gathered before the first write"
@@ -128,7 +95,7 @@ abbrev pub runOn : Frame → Contents → Found → Ran
 runOn f c Nothing = ran c []
 runOn f c (At r) = cond (eqb (kindAt (f .objects) r) 0) (ran c []) (runIn f c r)
 
--- ---- the log: its first numbers are the events
+-- ---- R11.14: the log, of which the first numbers are the events'
 pub record Logged : Type 0 where
   pub contents : Contents
   pub log : List ℕ
@@ -138,7 +105,7 @@ abbrev pub logged : Contents → List ℕ → ℕ → Logged
 logged c l n = record { contents = c; log = l; count = n }
 
 abbrev pub finished : Ran → List ℕ → ℕ → Logged
-finished r l n = logged (r .contents) (over l n (r .events)) (n + length (r .events))
+finished r l n = logged (r .contents) (over l n (map eventNumber (r .events))) (n + length (r .events))
 
 -- one number noted, where it is an event
 abbrev pub notedLog : List ℕ → ℕ → ℕ → List ℕ

@@ -1,86 +1,82 @@
 // The gathered words of a channel, in turn.
 ghost use mathlib.Core.Path.{_≡_};
-ghost use mathlib.Core.Bool.{true};
+ghost use mathlib.Core.Bool.{true, false};
+ghost use mathlib.Core.Option.{some};
 ghost use Prim.Native.Nat.{ℕ, _+_, _<_, _≤_};
 ghost use lib.ListN.{length, take, drop};
 ghost use Rattle.entry.specs.Table.{dict, numberOf, valuesOf};
 ghost use Rattle.entry.specs.Find.{findRow};
 ghost use Rattle.entry.specs.Judge.{wellFormed};
 ghost use Rattle.entry.specs.Put.{contents};
-ghost use Rattle.pdo_run.specs.Run.{packed, causeNumber, outcomeEvent, stopsOf, frame, actOf, runFrom, runIn, runOn, logged, finished, notedLog, notedCount};
+ghost use Rattle.pdo_run.specs.Run.{codeOf, turn, turnOf, frame, actOf, runFrom, runIn, runOn, logged, finished, notedLog, notedCount};
 ghost use Rattle.pdo_step.specs.Outcomes.{reach, outcomeOf};
+ghost use Rattle.pdo_step.specs.Effects.{causedBy};
+ghost use Rattle.value.specs.Fault.{firstTold, secondTold};
+ghost use Rattle.event.specs.declared.Event.the-variants.{PayloadShort};
 use entry::Found;
+use event::packed;
 use pdo_step::Outcome;
 use value::CodecFault;
 
-// An event as one number.
-pub fn packed(number: u64, kind: u64, k: u64, index: u16, start: usize, len: usize) -> u64
-    requires { ⌜ (number < 1024) × (kind < 16) × (k < 256) × (start + len < 8192) ⌝ }
-    ensures { λ r. ⌜ r ≡ packed number kind k index start len ⌝ }
-{
-    let field = start as u64 + 8192 * (len as u64 + 8192 * number);
-    kind + 16 * (k + 256 * (index as u64 + 65536 * field))
+// What an outcome leaves to do: its event's number, or 0; the sender's bit in 1C81h; to stop the run.
+pub struct Turn {
+    pub event: u64,
+    pub bit: bool,
+    pub stops: bool,
 }
 
-fn cause(f: CodecFault) -> u64
-    ensures { λ r. ⌜ r ≡ causeNumber f ⌝ }
+fn goes_on(event: u64) -> Turn
+    ensures { λ r. ⌜ r ≡ turn event false false ⌝ }
+{
+    Turn {
+        event,
+        bit: false,
+        stops: false,
+    }
+}
+
+fn ends(event: u64, bit: bool) -> Turn
+    ensures { λ r. ⌜ r ≡ turn event bit true ⌝ }
+{
+    Turn {
+        event,
+        bit,
+        stops: true,
+    }
+}
+
+// The event of a field that does not decode.
+fn fault_event(number: u64, k: u64, f: CodecFault) -> u64
+    requires { ⌜ (number < 1024) × (k < 256) × (firstTold f + secondTold f < 8192) ⌝ }
+    ensures { λ r. ⌜ r ≡ codeOf number k (some (PayloadShort (causedBy f))) ⌝ }
 {
     match f {
-        CodecFault::Value => 3,
-        CodecFault::Text => 4,
-        CodecFault::Odd => 5,
+        CodecFault::Value { needed, had } => packed(number, 3, k, 0, needed, had),
+        CodecFault::Text { at } => packed(number, 4, k, 0, at, 0),
+        CodecFault::Odd => packed(number, 5, k, 0, 0, 0),
     }
 }
 
-fn stops(o: Outcome) -> bool
-    ensures { λ r. ⌜ r ≡ stopsOf o ⌝ }
-{
-    match o {
-        Outcome::Misaligned => false,
-        Outcome::Short => true,
-        Outcome::Server {
-            index: _,
-            start: _,
-            len: _,
-        } => false,
-        Outcome::Client {
-            index: _,
-            start: _,
-            len: _,
-        } => false,
-        Outcome::NoTarget => false,
-        Outcome::Count => false,
-        Outcome::CountRefused => false,
-        Outcome::Undecodable(_) => true,
-        Outcome::TooLong => false,
-        Outcome::Stored {
-            p: _,
-            start: _,
-            len: _,
-        } => false,
-    }
-}
-
-// The event of element k, or 0.
-fn event_of(number: u64, k: u64, o: Outcome) -> u64
+// The turn of element k.
+fn turn_of(number: u64, k: u64, o: Outcome) -> Turn
     requires { ⌜ (number < 1024) × (k < 256) × (reach o < 8192) ⌝ }
-    ensures { λ r. ⌜ r ≡ outcomeEvent number k o ⌝ }
+    ensures { λ r. ⌜ r ≡ turnOf number k o ⌝ }
 {
     match o {
-        Outcome::Misaligned => 0,
-        Outcome::Short => packed(number, 2, k, 0, 0, 0),
-        Outcome::Server { index, start, len } => packed(number, 6, k, index, start, len),
-        Outcome::Client { index, start, len } => packed(number, 7, k, index, start, len),
-        Outcome::NoTarget => 0,
-        Outcome::Count => 0,
-        Outcome::CountRefused => packed(number, 8, k, 0, 0, 0),
-        Outcome::Undecodable(f) => packed(number, cause(f), k, 0, 0, 0),
-        Outcome::TooLong => packed(number, 9, k, 0, 0, 0),
+        Outcome::Misaligned => goes_on(0),
+        Outcome::Short => ends(packed(number, 2, k, 0, 0, 0), true),
+        Outcome::Server { index, start, len } => goes_on(packed(number, 6, k, index, start, len)),
+        Outcome::Client { index, start, len } => goes_on(packed(number, 7, k, index, start, len)),
+        Outcome::NoTarget => goes_on(0),
+        Outcome::Count => goes_on(0),
+        Outcome::CountRefused => goes_on(packed(number, 8, k, 0, 0, 0)),
+        Outcome::Undecodable(f) => ends(fault_event(number, k, f), false),
+        Outcome::TooLong => goes_on(packed(number, 9, k, 0, 0, 0)),
         Outcome::Stored {
             p: _,
             start: _,
             len: _,
-        } => 0,
+        } => goes_on(0),
     }
 }
 
@@ -96,7 +92,7 @@ pub fn note(log: &mut [u64], n: usize, e: u64) -> usize
     n + 1
 }
 
-// One word: decided, and done.
+// One word, element k: decided, and done.
 fn act_on(
     objects: &[u64],
     slots: &[u64],
@@ -104,17 +100,21 @@ fn act_on(
     bytes: &mut [u8],
     payload: &[u8],
     sender: u8,
+    number: u64,
+    k: u64,
     word: u64,
-) -> Outcome
+) -> Turn
     requires { ⌜ wellFormed (dict (now objects) (now slots) (now words) (now bytes)) ≡ true ⌝ }
-    ensures outcome { λ r. ⌜ r ≡ outcomeOf (now (objects .entry)) (now (slots .entry)) (now (payload .entry)) word ⌝ }
-    ensures held { λ r. ⌜ ((number : ℕ) → contents (now (words .exit)) (now (bytes .exit)) ≡ actOf (frame (now (objects .entry)) (now (slots .entry)) (now (payload .entry)) sender number) (contents (now (words .entry)) (now (bytes .entry))) r) ⌝ }
+    requires { ⌜ (length (now payload) ≤ 1490) × (number < 1024) × (k < 256) ⌝ }
+    ensures turn { λ r. ⌜ r ≡ turnOf number k (outcomeOf (now (objects .entry)) (now (slots .entry)) (now (payload .entry)) word) ⌝ }
+    ensures held { λ _. ⌜ contents (now (words .exit)) (now (bytes .exit)) ≡ actOf (frame (now (objects .entry)) (now (slots .entry)) (now (payload .entry)) sender number) (contents (now (words .entry)) (now (bytes .entry))) (outcomeOf (now (objects .entry)) (now (slots .entry)) (now (payload .entry)) word) ⌝ }
 {
     let o = pdo_step::step(objects, slots, words, bytes, payload, word);
-    if let Outcome::Short = o {
+    let t = turn_of(number, k, o);
+    if t.bit {
         pdo_step::set_bit(objects, slots, words, bytes, 0x1C81, sender);
     }
-    o
+    t
 }
 
 // The words of a list in turn, until one stops; the number of events in the log, where so many had begun it.
@@ -142,9 +142,19 @@ fn run(
             j += 1;
             continue;
         }
-        let o = act_on(objects, slots, words, bytes, payload, sender, list[j]);
-        n = note(log, n, event_of(number, j as u64 + 1, o));
-        if stops(o) {
+        let t = act_on(
+            objects,
+            slots,
+            words,
+            bytes,
+            payload,
+            sender,
+            number,
+            j as u64 + 1,
+            list[j],
+        );
+        n = note(log, n, t.event);
+        if t.stops {
             return n;
         }
         j += 1;

@@ -13,6 +13,7 @@ use Rattle.value.specs.Codec.{isText, wordAt}
 use Rattle.value.specs.declared.Word.{Word}
 use Rattle.value.specs.declared.Word.the-variants.{Takes, Fails}
 use Rattle.value.specs.declared.CodecFault.the-variants as fault
+use Rattle.value.proofs.FaultLaws.{word-tells, told-small}
 use Rattle.mapping.specs.Word.{entryOf, fieldOf}
 use Rattle.mapping.specs.declared.PdoMappingEntry.{PdoMappingEntry}
 use Rattle.mapping.specs.declared.Field.{Field}
@@ -69,7 +70,7 @@ module _ (d : Dict) (payload : List ℕ) (p a n : ℕ) where
   unfolding onCount
   at-count x m e = none (eqb m 0) (isMapping x) e
     where
-      none : (b c : Bool) → cond b (outcome.Undecodable fault.Value) (cond c outcome.Count outcome.CountRefused) ≡ outcome.Stored p a n → StoredBy d payload p a n
+      none : (b c : Bool) → cond b (outcome.Undecodable (fault.Value 1 0)) (cond c outcome.Count outcome.CountRefused) ≡ outcome.Stored p a n → StoredBy d payload p a n
       none true c e = let z : _≡_ {A = ℕ} 0 1 = cc in absurd (omega arith)
       none false true e = let z : _≡_ {A = ℕ} 0 1 = cc in absurd (omega arith)
       none false false e = let z : _≡_ {A = ℕ} 0 1 = cc in absurd (omega arith)
@@ -108,29 +109,29 @@ module _ (d : Dict) (payload : List ℕ) (p a n : ℕ) where
       fielded field.Misaligned q e = let z : _≡_ {A = ℕ} 0 1 = cc in absurd (omega arith)
       fielded (field.Whole b m) q e = short b m q (ltb (length payload) (b + m)) refl e
 
--- ---- a field ends within the payload
+-- ---- a field ends within the payload, and what its fault tells is as small
 module _ (objects slots payload : List ℕ) (w : ℕ) where
-  reach-value : (q b m : ℕ) → b + m ≤ length payload → (v : Word) → reach (onValue slots q b m v) ≤ length payload
-  reach-value q b m h (Fails f) = omega arith
-  reach-value q b m h (Takes v) = go (isText (typeAt slots q) && ltb (roomAt slots q) m)
+  reach-value : (q b m : ℕ) → b + m ≤ length payload → (v : Word) → wordAt (typeAt slots q) (part payload b m) ≡ v → reach (onValue slots q b m v) ≤ length payload + 16
+  reach-value q b m h (Fails f) e = omega (arith, h, part-length payload b m h, told-small (typeAt slots q) (part payload b m) f (word-tells (typeAt slots q) (part payload b m) f e))
+  reach-value q b m h (Takes v) e = go (isText (typeAt slots q) && ltb (roomAt slots q) m)
     where
-      go : (c : Bool) → reach (cond c outcome.TooLong (outcome.Stored q b m)) ≤ length payload
+      go : (c : Bool) → reach (cond c outcome.TooLong (outcome.Stored q b m)) ≤ length payload + 16
       go true = omega arith
-      go false = h
+      go false = omega (arith, h)
 
-  reach-place : (x b m : ℕ) → b + m ≤ length payload → (q : Place) → reach (onPlace slots payload x b m q) ≤ length payload
+  reach-place : (x b m : ℕ) → b + m ≤ length payload → (q : Place) → reach (onPlace slots payload x b m q) ≤ length payload + 16
   unfolding onCount
   reach-place x b m h NoObject = omega arith
   reach-place x b m h NoSub = omega arith
   reach-place x b m h (Count n) = go (eqb m 0) (isMapping x)
     where
-      go : (c e : Bool) → reach (cond c (outcome.Undecodable fault.Value) (cond e outcome.Count outcome.CountRefused)) ≤ length payload
+      go : (c e : Bool) → reach (cond c (outcome.Undecodable (fault.Value 1 0)) (cond e outcome.Count outcome.CountRefused)) ≤ length payload + 16
       go true e = omega arith
       go false true = omega arith
       go false false = omega arith
-  reach-place x b m h (Value q) = reach-value q b m h (wordAt (typeAt slots q) (part payload b m))
+  reach-place x b m h (Value q) = reach-value q b m h (wordAt (typeAt slots q) (part payload b m)) refl
 
-  pub reach-within : reach (outcomeOf objects slots payload w) ≤ length payload
+  pub reach-within : reach (outcomeOf objects slots payload w) ≤ length payload + 16
   unfolding onIndex
   reach-within = rw outcome-form (fielded (fieldOf (entryOf w)))
     where
@@ -138,13 +139,13 @@ module _ (objects slots payload : List ℕ) (w : ℕ) where
       e = entryOf w
 
       go : (b m : ℕ) (short server client : Bool) → ltb (length payload) (b + m) ≡ short
-          → reach (cond short outcome.Short (cond server (outcome.Server (e .index) b m) (cond client (outcome.Client (e .index) b m) (onPlace slots payload (e .index) b m (placeOf objects (e .index) (e .«sub_index»)))))) ≤ length payload
+          → reach (cond short outcome.Short (cond server (outcome.Server (e .index) b m) (cond client (outcome.Client (e .index) b m) (onPlace slots payload (e .index) b m (placeOf objects (e .index) (e .«sub_index»)))))) ≤ length payload + 16
       go b m true s c h = omega arith
-      go b m false true c h = ltb-false (length payload) (b + m) h
-      go b m false false true h = ltb-false (length payload) (b + m) h
+      go b m false true c h = omega (arith, ltb-false (length payload) (b + m) h)
+      go b m false false true h = omega (arith, ltb-false (length payload) (b + m) h)
       go b m false false false h = reach-place (e .index) b m (ltb-false (length payload) (b + m) h) (placeOf objects (e .index) (e .«sub_index»))
 
-      fielded : (f : Field) → reach (onField objects slots payload (entryOf w) f) ≤ length payload
+      fielded : (f : Field) → reach (onField objects slots payload (entryOf w) f) ≤ length payload + 16
       fielded field.Misaligned = omega arith
       fielded (field.Whole b m) = go b m (ltb (length payload) (b + m)) (between 0x1200 0x127F (e .index)) (between 0x1280 0x12FF (e .index)) refl
 

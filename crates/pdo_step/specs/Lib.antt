@@ -1,3 +1,4 @@
 pub mod Outcomes
+pub mod Effects
 pub mod Steps
 pub mod Bits

@@ -6,6 +6,7 @@ use mathlib.Core.List.{List}
 use lib.Dec.{eqb, ltb}
 use lib.ListN.{length, take, drop}
 use Rattle.value.specs.Codec.{isText, wordAt}
+use Rattle.value.specs.Fault.{firstTold, secondTold}
 use Rattle.value.specs.declared.Word.{Word}
 use Rattle.value.specs.declared.Word.the-variants.{Takes, Fails}
 use Rattle.value.specs.declared.CodecFault.the-variants as fault
@@ -27,7 +28,7 @@ part payload start n = take n (drop start payload)
 
 -- steps 5 and 6 at a list's sub-index 0: "In step 5 a list's sub-index 0 has type U8"; "WriteRefused(CountNotWritable); none at a mapping index"
 unfoldable pub onCount : ℕ → ℕ → Outcome
-onCount x n = cond (eqb n 0) (outcome.Undecodable fault.Value) (cond (isMapping x) outcome.Count outcome.CountRefused)
+onCount x n = cond (eqb n 0) (outcome.Undecodable (fault.Value 1 0)) (cond (isMapping x) outcome.Count outcome.CountRefused)
 
 -- steps 5, 7 and 8 at a value
 abbrev pub onValue : List ℕ → ℕ → ℕ → ℕ → Word → Outcome
@@ -58,7 +59,7 @@ pub record Shape (objects slots : List ℕ) : Type 0 where
   pub rows : Rows objects
   pub value : (x sub p : ℕ) → placeOf objects x sub ≡ Value p → (p < 6144) × (slotEnd p ≤ length slots)
 
--- where the field of an outcome ends
+-- where the field of an outcome ends, or the numbers that its fault tells
 abbrev pub reach : Outcome → ℕ
 reach outcome.Misaligned = 0
 reach outcome.Short = 0
@@ -67,6 +68,6 @@ reach (outcome.Client x start n) = start + n
 reach outcome.NoTarget = 0
 reach outcome.Count = 0
 reach outcome.CountRefused = 0
-reach (outcome.Undecodable f) = 0
+reach (outcome.Undecodable f) = firstTold f + secondTold f
 reach outcome.TooLong = 0
 reach (outcome.Stored p start n) = start + n

@@ -17,7 +17,7 @@ fn at_count(index: u16, len: usize) -> Outcome
     ensures { λ r. ⌜ r ≡ onCount index len ⌝ }
 {
     if len == 0 {
-        return Outcome::Undecodable(CodecFault::Value);
+        return Outcome::Undecodable(CodecFault::Value { needed: 1, had: 0 });
     }
     if pdo_validator::is_mapping(index) {
         return Outcome::Count;

@@ -1,7 +1,9 @@
 -- `pdo_handler::consuming::consume_on_channel` meets its contract: each way out is a case of the definition. Assumes nothing.
 use mathlib.Core.Path.{_≡_, sym, ap, ap₂, _∙_}
 use mathlib.Core.Bool.{Bool, cond}
-use mathlib.Core.List.{List, [], _∷_}
+use mathlib.Core.List.{[], _∷_}
+use mathlib.Core.Option.{some}
+use Rattle.event.specs.declared.Event.the-variants.{MapVersion}
 use Prim.Native.Nat.{ℕ, _+_, _<_}
 use denote.Ref.{now}
 use Rattle.entry.specs.Find.{findRow}
@@ -11,7 +13,7 @@ use Rattle.entry.specs.declared.Found.the-variants.{At}
 use Rattle.pdo_channel.specs.Channel.{rightVersion}
 use Rattle.pdo_run.specs.Run.{Frame, frame, marked, ran, runOn, logged, finished, notedLog, notedCount}
 use Rattle.pdo_handler.specs.Consume.{mapVersion, onChannel}
-use Rattle.pdo_run.proofs.RunLaws.{finished-none, finished-one, one-packed}
+use Rattle.pdo_run.proofs.RunLaws.{finished-none, finished-one}
 use native.Mathlib.Omega.{arith}
 use borrow.Author.Needs.{needs}
 use Rattle.pdo_handler.proofs.consuming.consume_on_channel.Statement.{statement}
@@ -86,8 +88,7 @@ returns-3 c =
     let a = s .args in
     ap (λ x. logged (contents (now (a .words)) x) (n .note .last .0) (n .note .result)) (b .set-bit .ensures)
     ∙ ap₂ (λ x y. logged (marked (F s) (C s) 0x1C80) x y) (n .note .ensures .1 ∙ ap (notedLog (now (a .log)) (a .begun)) (p .packed .ensures)) (n .note .ensures .0 ∙ ap (notedCount (a .begun)) (p .packed .ensures))
-    ∙ sym (finished-one (now (a .log)) (a .begun) (mapVersion (a .number)) (marked (F s) (C s) 0x1C80) (omega (arith, s .pre .1 .0 .2)))
-    ∙ ap (λ (es : List ℕ). finished (ran (marked (F s) (C s) 0x1C80) es) (now (a .log)) (a .begun)) (one-packed (a .number) 1 0 0 0 0 (omega arith))
+    ∙ sym (finished-one (now (a .log)) (a .begun) (a .number) 0 (omega (arith, s .pre .1 .0 .2)) (some MapVersion) (marked (F s) (C s) 0x1C80))
     ∙ sym (chosen (e .before) _ (e .if1 .left)) ∙ channelled s _ (i .channel .given .1)
 
 pub consume-on-channel-spec : {M : Type 1} → statement M
