@@ -11,8 +11,10 @@ use lib.ListN.{length}
 use Rattle.answers.specs.declared.Answer.{Answer}
 use Rattle.answers.specs.declared.Answer.the-variants as answer
 use Rattle.lists.specs.Numbers.{Bytes}
-use Rattle.answers.specs.declared.Refusal.the-variants.{BadValue, ReadOnly, TypeMismatch, TooLong, NoStorage, BadSignature, CountNotWritable}
-use Rattle.value.specs.Codec.{isText, exact}
+use Rattle.answers.specs.declared.Refusal.the-variants.{ReadOnly, TypeMismatch, TooLong, NoStorage, BadSignature, CountNotWritable}
+use Rattle.value.specs.Codec.{isText, exactlyOf, isExact, exact}
+use Rattle.value.specs.declared.Exactness.{Exactness}
+use Rattle.value.specs.declared.Exactness.the-variants as exactly
 use Rattle.value.proofs.CodecLaws.{wordIn, exact-facts}
 use Rattle.entry.specs.Table.{Dict, accessAt, typeAt, roomAt}
 use Rattle.entry.specs.Find.{findRow, subAt, placeOf, onRow}
@@ -26,8 +28,8 @@ use Rattle.entry.proofs.ValueLaws.{ValueFacts, element-of, element-facts}
 use Rattle.entry.proofs.KeepLaws.{Fits, put-element}
 use Rattle.pdo_validator.specs.Counting.{isMapping}
 use Rattle.writing.specs.declared.Judged.{Judged}
-use Rattle.writing.specs.declared.Judged.the-variants.{Put, Accepted, Save, Restore, Refused}
-use Rattle.writing.specs.Judging.{save, load, signedBy, commandOf, atValue, inPlace, inObject, countFirst, afterCount, judgeOf}
+use Rattle.writing.specs.declared.Judged.the-variants.{Put, Accepted, Save, Restore, NoValue, Refused}
+use Rattle.writing.specs.Judging.{save, load, signedBy, commandOf, atValue, inPlace, inObject, countFirst, afterCount, judgeValueOf, onlyValue, judgeOf}
 use Rattle.writing.specs.Writing.{writeActOf, writeOf}
 
 -- ---- what a put comes from
@@ -84,8 +86,8 @@ no-command signature c n sub t s p e = signed (signedBy signature sub t s) e
     signed false e = let z : _≡_ {A = ℕ} 0 1 = cc in absurd (omega arith)
 
 pub judged-put : (d : Dict) (n x sub t : ℕ) (s : List ℕ) (p : ℕ) → judgeOf d n x sub t s ≡ Put p → (exact t s ≡ true) × Placed d x sub t s p
-unfolding judgeOf
-judged-put d n x sub t s p e = right (exact t s) refl e
+unfolding judgeOf judgeValueOf exact
+judged-put d n x sub t s p e = right (exactlyOf t s) refl e
   where
     counted : (a : Answer) → afterCount a (inObject d x sub t s (findRow (d .objects) x)) ≡ Put p → Placed d x sub t s p
     counted answer.Done e = object-placed d x sub t s p e
@@ -99,9 +101,11 @@ judged-put d n x sub t s p e = right (exact t s) refl e
     saves true e = let c = no-command save Save n sub t s p e in let z : _≡_ {A = ℕ} 0 1 = cc in absurd (omega arith)
     saves false e = loads (eqb x 0x1011) e
 
-    right : (b : Bool) → exact t s ≡ b → cond b (cond (eqb x 0x1010) (commandOf save Save n sub t s) (cond (eqb x 0x1011) (commandOf load Restore n sub t s) (afterCount (countFirst d x sub t s) (inObject d x sub t s (findRow (d .objects) x))))) (Refused BadValue) ≡ Put p → (exact t s ≡ true) × Placed d x sub t s p
-    right true h e = (h, saves (eqb x 0x1010) e)
-    right false h e = let z : _≡_ {A = ℕ} 0 1 = cc in absurd (omega arith)
+    right : (y : Exactness) → exactlyOf t s ≡ y → onlyValue y (judgeValueOf d n x sub t s) ≡ Put p → (exact t s ≡ true) × Placed d x sub t s p
+    right exactly.Value h e = (ap isExact h, saves (eqb x 0x1010) e)
+    right exactly.NoType h e = let z : _≡_ {A = ℕ} 0 1 = cc in absurd (omega arith)
+    right (exactly.Fails f) h e = let z : _≡_ {A = ℕ} 0 1 = cc in absurd (omega arith)
+    right exactly.Many h e = let z : _≡_ {A = ℕ} 0 1 = cc in absurd (omega arith)
 
 -- so it fits
 pub judged-fits : (d : Dict) (n x sub t : ℕ) (s : List ℕ) (p : ℕ) → judgeOf d n x sub t s ≡ Put p → Fits d p s (wordIn t s)
@@ -125,4 +129,5 @@ write-keeps d store x sub t s e b = rw e (go (judgeOf d (length store) x sub t s
     go Accepted q = e
     go Save q = e
     go Restore q = e
+    go (NoValue f) q = e
     go (Refused r) q = e

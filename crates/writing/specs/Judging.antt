@@ -9,7 +9,9 @@ use Rattle.answers.specs.declared.Answer.{Answer}
 use Rattle.answers.specs.declared.Answer.the-variants as answer
 use Rattle.lists.specs.Numbers.{number}
 use Rattle.answers.specs.declared.Refusal.the-variants.{BadValue, ObjectNotFound, SubObjectNotFound, TypeMismatch, ReadOnly, BadSignature, NoStorage, CountNotWritable, TooLong}
-use Rattle.value.specs.Codec.{isText, exact}
+use Rattle.value.specs.Codec.{isText, exactlyOf}
+use Rattle.value.specs.declared.Exactness.{Exactness}
+use Rattle.value.specs.declared.Exactness.the-variants as exactly
 use Rattle.entry.specs.Table.{Dict, accessAt, typeAt, roomAt}
 use Rattle.entry.specs.Find.{findRow, subAt}
 use Rattle.entry.specs.declared.Found.{Found}
@@ -18,7 +20,7 @@ use Rattle.entry.specs.declared.Place.{Place}
 use Rattle.entry.specs.declared.Place.the-variants.{NoObject, NoSub, Count, Value}
 use Rattle.pdo_validator.specs.Counting.{isMapping, countOf}
 use Rattle.writing.specs.declared.Judged.{Judged}
-use Rattle.writing.specs.declared.Judged.the-variants.{Put, Accepted, Save, Restore, Refused}
+use Rattle.writing.specs.declared.Judged.the-variants.{Put, Accepted, Save, Restore, NoValue, Refused}
 
 -- R8.2: "save" and "load", as the numbers of their bytes
 abbrev pub save : ℕ
@@ -66,13 +68,21 @@ abbrev pub afterCount : Answer → Judged → Judged
 afterCount answer.Done next = next
 afterCount (answer.Refused r) next = Refused r
 
--- 2 to 8, of a dictionary that was judged and a store of n bytes
-unfoldable pub judgeOf : Dict → ℕ → ℕ → ℕ → ℕ → List ℕ → Judged
-judgeOf d n x sub t s =
-    cond (exact t s)
-    (cond (eqb x 0x1010)
+-- 3 to 8, of a value, a dictionary that was judged and a store of n bytes
+unfoldable pub judgeValueOf : Dict → ℕ → ℕ → ℕ → ℕ → List ℕ → Judged
+judgeValueOf d n x sub t s =
+    cond (eqb x 0x1010)
     (commandOf save Save n sub t s)
     (cond (eqb x 0x1011)
     (commandOf load Restore n sub t s)
-    (afterCount (countFirst d x sub t s) (inObject d x sub t s (findRow (d .objects) x)))))
-    (Refused BadValue)
+    (afterCount (countFirst d x sub t s) (inObject d x sub t s (findRow (d .objects) x))))
+
+-- 2: where the data does not decode, R3.9 says why; of a type above 20, and of bytes behind a value, there is nothing to say
+abbrev pub onlyValue : Exactness → Judged → Judged
+onlyValue exactly.Value next = next
+onlyValue exactly.NoType next = Refused BadValue
+onlyValue (exactly.Fails f) next = NoValue f
+onlyValue exactly.Many next = Refused BadValue
+
+unfoldable pub judgeOf : Dict → ℕ → ℕ → ℕ → ℕ → List ℕ → Judged
+judgeOf d n x sub t s = onlyValue (exactlyOf t s) (judgeValueOf d n x sub t s)

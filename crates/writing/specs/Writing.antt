@@ -14,7 +14,7 @@ use Rattle.commands.specs.declared.Saved.the-variants as saved
 use Rattle.writing.specs.declared.Judged.{Judged}
 use Rattle.writing.specs.declared.Judged.the-variants as judged
 use Rattle.writing.specs.declared.Wrote.{Wrote}
-use Rattle.writing.specs.declared.Wrote.the-variants.{Done, RestoreRequested, Refused}
+use Rattle.writing.specs.declared.Wrote.the-variants.{Done, RestoreRequested, NoValue, Refused}
 use Rattle.writing.specs.Judging.{judgeOf}
 
 -- an answer, and what was lent after it
@@ -37,6 +37,7 @@ writeActOf d store sub s (judged.Put p) = let c = putIn (d .slots) (contents (d 
 writeActOf d store sub s judged.Accepted = afterWrite Done (d .words) (d .bytes) store
 writeActOf d store sub s judged.Save = let a = saveOf d store sub in afterWrite (savedAs (a .answer)) (d .words) (d .bytes) (a .store)
 writeActOf d store sub s judged.Restore = afterWrite RestoreRequested (d .words) (d .bytes) store
+writeActOf d store sub s (judged.NoValue f) = afterWrite (NoValue f) (d .words) (d .bytes) store
 writeActOf d store sub s (judged.Refused r) = afterWrite (Refused r) (d .words) (d .bytes) store
 
 unfoldable pub writeOf : Dict → List ℕ → ℕ → ℕ → ℕ → List ℕ → AfterWrite

@@ -8,12 +8,13 @@ ghost use Rattle.value.specs.Codec.{exact};
 ghost use Rattle.entry.specs.Find.{findRow};
 ghost use Rattle.entry.specs.Judge.{wellFormed};
 ghost use Rattle.entry.specs.declared.Found.the-variants.{At};
-ghost use Rattle.writing.specs.Judging.{signedBy, commandOf, atValue, inObject, countFirst, judgeOf};
+ghost use Rattle.writing.specs.Judging.{signedBy, commandOf, atValue, inObject, countFirst, judgeValueOf, judgeOf};
 use crate::Judged;
 use answers::Answer;
 use answers::Refusal;
 use entry::Found;
 use entry::Place;
+use value::Exactness;
 
 // The bytes of "save" and of "load".
 const SAVE: u64 = 0x6576_6173;
@@ -132,6 +133,34 @@ fn count_first(
     Answer::Done
 }
 
+// What a write of a value comes to.
+fn judge_value(
+    objects: &[u64],
+    slots: &[u64],
+    words: &[u64],
+    bytes: &[u8],
+    store: usize,
+    index: u16,
+    sub: u8,
+    t: u64,
+    data: &[u8],
+) -> Judged
+    requires { ⌜ wellFormed (dict (now objects) (now slots) (now words) (now bytes)) ≡ true ⌝ }
+    requires { ⌜ exact t (now «data») ≡ true ⌝ }
+    ensures { λ r. ⌜ r ≡ judgeValueOf (dict (now (objects .entry)) (now (slots .entry)) (now (words .entry)) (now (bytes .entry))) store index sub t (now («data» .entry)) ⌝ }
+{
+    if index == 0x1010 {
+        return command(SAVE, Judged::Save, store, sub, t, data);
+    }
+    if index == 0x1011 {
+        return command(LOAD, Judged::Restore, store, sub, t, data);
+    }
+    match count_first(objects, slots, words, bytes, index, sub, t, data) {
+        Answer::Done => in_object(objects, slots, words, bytes, index, sub, t, data),
+        Answer::Refused(r) => Judged::Refused(r),
+    }
+}
+
 // What a write comes to, on a dictionary that was judged and with a store of so many bytes.
 pub fn judge_write(
     objects: &[u64],
@@ -147,17 +176,10 @@ pub fn judge_write(
     requires { ⌜ wellFormed (dict (now objects) (now slots) (now words) (now bytes)) ≡ true ⌝ }
     ensures { λ r. ⌜ r ≡ judgeOf (dict (now (objects .entry)) (now (slots .entry)) (now (words .entry)) (now (bytes .entry))) store index sub t (now («data» .entry)) ⌝ }
 {
-    if !value::is_exact(value::exactly(t, data)) {
-        return Judged::Refused(Refusal::BadValue);
-    }
-    if index == 0x1010 {
-        return command(SAVE, Judged::Save, store, sub, t, data);
-    }
-    if index == 0x1011 {
-        return command(LOAD, Judged::Restore, store, sub, t, data);
-    }
-    match count_first(objects, slots, words, bytes, index, sub, t, data) {
-        Answer::Done => in_object(objects, slots, words, bytes, index, sub, t, data),
-        Answer::Refused(r) => Judged::Refused(r),
+    match value::exactly(t, data) {
+        Exactness::Value => judge_value(objects, slots, words, bytes, store, index, sub, t, data),
+        Exactness::NoType => Judged::Refused(Refusal::BadValue),
+        Exactness::Fails(f) => Judged::NoValue(f),
+        Exactness::Many => Judged::Refused(Refusal::BadValue),
     }
 }

@@ -42,6 +42,7 @@ pub fn write_judged(
         Judged::Accepted => Wrote::Done,
         Judged::Save => saved(commands::save(objects, slots, words, bytes, sub, store)),
         Judged::Restore => Wrote::RestoreRequested,
+        Judged::NoValue(f) => Wrote::NoValue(f),
         Judged::Refused(r) => Wrote::Refused(r),
     }
 }

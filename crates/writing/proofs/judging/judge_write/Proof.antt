@@ -1,13 +1,10 @@
--- `writing::judging::judge_write` meets its contract: each branch is a case of `judgeOf`. Assumes nothing.
+-- `writing::judging::judge_write` meets its contract: each answer of `exactly` is a case of `judgeOf`. Assumes nothing.
 use mathlib.Core.Path.{_≡_, sym, ap, _∙_}
-use mathlib.Core.Bool.{true}
 use denote.Ref.{now}
-use borrow.Author.Tests.{not-true, not-false, eq-eqb, ne-eqb}
 use Rattle.entry.specs.Table.{Dict, dict}
-use Rattle.lists.specs.Numbers.{number}
 use Rattle.value.specs.Codec.{isExact, exact}
-use Rattle.entry.specs.Find.{findRow}
-use Rattle.writing.specs.Judging.{judgeOf, inObject, afterCount}
+use Rattle.value.specs.declared.Exactness.{Exactness}
+use Rattle.writing.specs.Judging.{judgeValueOf, onlyValue, judgeOf}
 use borrow.Author.Needs.{needs}
 use Rattle.writing.proofs.judging.judge_write.Statement.{statement}
 use Rattle.writing.proofs.judging.judge_write.Tie as tie
@@ -15,72 +12,46 @@ use Rattle.writing.proofs.judging.judge_write.Tie as tie
 abbrev D : tie.Start → Dict
 D s = dict (now (s .args .objects)) (now (s .args .slots)) (now (s .args .words)) (now (s .args .bytes))
 
-abbrev start : tie.After-is-exact → tie.Start
-start c = c .before .before .before .before .before .before .before
+abbrev start : tie.After-exactly → tie.Start
+start c = c .before .before .before .before .before .before
 
-said : (c : tie.After-is-exact) → let a = start c .args in c .is-exact .result ≡ exact (a .t) (now (a .«data»))
+judged : (c : tie.After-exactly) (y : Exactness) → c .exactly .result ≡ y
+    → let s = start c in let a = s .args in
+    onlyValue y (judgeValueOf (D s) (a .store) (a .index) (a .sub) (a .t) (now (a .«data»))) ≡ judgeOf (D s) (a .store) (a .index) (a .sub) (a .t) (now (a .«data»))
+unfolding judgeOf
+judged c y e =
+    let s = start c in
+    let a = s .args in
+    ap (λ x. onlyValue x (judgeValueOf (D s) (a .store) (a .index) (a .sub) (a .t) (now (a .«data»)))) (sym e ∙ c .exactly .ensures)
+
+judge-value-requires : tie.Need-judge-value-requires
 unfolding exact
-said c = c .is-exact .ensures ∙ ap isExact (c .before .exactly .ensures)
-
-valued : (c : tie.Else1) → let a = start (c .before) .args in exact (a .t) (now (a .«data»)) ≡ true
-valued c = sym (said (c .before)) ∙ not-false _ (c .if1 .left)
+judge-value-requires c κs =
+    let x = c .before .before in (start x .pre, ap isExact (sym (x .exactly .ensures) ∙ c .enum-told .given .1))
 
 returns : tie.Need-returns
-unfolding judgeOf
-returns c =
-    simp (sym (said (c .before)) ∙ not-true _ (c .if1 .taken))
+returns c = let e = c .before in c .judge-value .ensures ∙ judged (e .before .before) _ (e .enum-told .given .1)
 
 returns-2 : tie.Need-returns-2
-unfolding judgeOf number
-returns-2 c =
-    let i = c .before in simp (valued (i .before), eq-eqb _ 0x1010 (i .if2 .taken)) (c .command .ensures)
+returns-2 c = judged (c .before .before) _ (c .enum-told2 .given .1)
 
 returns-3 : tie.Need-returns-3
-unfolding judgeOf number
-returns-3 c =
-    let i = c .before in simp (valued (i .before .before), ne-eqb _ 0x1010 (i .before .if2 .left), eq-eqb _ 0x1011 (i .if3 .taken)) (c .command2 .ensures)
-
-count-first-requires : tie.Need-count-first-requires
-count-first-requires c κs =
-    let v = c .before .before in (start (v .before) .pre, valued v)
+returns-3 c = let f = c .before in judged (f .before .before) _ (f .f .given .1)
 
 returns-4 : tie.Need-returns-4
-unfolding judgeOf
-returns-4 c =
-    let m = c .before .before .before in
-    let i = m .before in
-    let v = i .before .before in
-    let s = start (v .before) in
-    let a = s .args in
-    simp (valued v, ne-eqb _ 0x1010 (i .before .if2 .left), ne-eqb _ 0x1011 (i .if3 .left))
-    (c .in-object .ensures ∙ ap (λ x. afterCount x (inObject (D s) (a .index) (a .sub) (a .t) (now (a .«data»)) (findRow (D s .objects) (a .index)))) (sym (c .before .enum-told .given .1) ∙ m .count-first .ensures))
-
-returns-5 : tie.Need-returns-5
-unfolding judgeOf
-returns-5 c =
-    let r = c .before in
-    let m = r .before .before in
-    let i = m .before in
-    let v = i .before .before in
-    let s = start (v .before) in
-    let a = s .args in
-    simp (valued v, ne-eqb _ 0x1010 (i .before .if2 .left), ne-eqb _ 0x1011 (i .if3 .left))
-    (ap (λ x. afterCount x (inObject (D s) (a .index) (a .sub) (a .t) (now (a .«data»)) (findRow (D s .objects) (a .index)))) (sym (r .r .given .1) ∙ m .count-first .ensures))
+returns-4 c = judged (c .before .before) _ (c .enum-told3 .given .1)
 
 pub judge-write-spec : {M : Type 1} → statement M
 judge-write-spec =
     tie.close
     (tie.spec
     (λ c κs. search needs)
-    (λ c κs. search needs)
+    (λ c. search needs)
+    judge-value-requires
+    (λ c. search needs)
+    (λ c. search needs)
+    (λ c. search needs)
     returns
-    (λ c κs. search needs)
     returns-2
-    (λ c κs. search needs)
     returns-3
-    count-first-requires
-    (λ c. search needs)
-    (λ c κs. search needs)
-    (λ c. search needs)
-    returns-4
-    returns-5)
+    returns-4)

@@ -70,7 +70,11 @@ returns-4 c = acted (c .before .before) _ (c .enum-told3 .given .1)
 
 returns-5 : tie.Need-returns-5
 unfolding writeActOf
-returns-5 c = let r = c .before in acted (r .before .before) _ (r .r .given .1)
+returns-5 c = let f = c .before in acted (f .before .before) _ (f .f .given .1)
+
+returns-6 : tie.Need-returns-6
+unfolding writeActOf
+returns-6 c = let r = c .before in acted (r .before .before) _ (r .r .given .1)
 
 pub write-judged-spec : {M : Type 1} → statement M
 write-judged-spec =
@@ -83,6 +87,7 @@ write-judged-spec =
     (λ c. search needs)
     save-requires
     (λ c κs. search needs)
+    (λ c. search needs)
     (λ c. search needs)
     (λ c. search needs)
     (λ c. search needs)
@@ -100,4 +105,7 @@ write-judged-spec =
     returns-4
     (λ c. search needs)
     (λ c. search needs)
-    returns-5)
+    returns-5
+    (λ c. search needs)
+    (λ c. search needs)
+    returns-6)
