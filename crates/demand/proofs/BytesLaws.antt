@@ -136,6 +136,7 @@ write-bytes d store x sub t s w bs b = rw w (go (judgeOf d (length store) x sub 
     go judged.Accepted q = b
     go judged.Save q = b
     go judged.Restore q = b
+    go (judged.NoValue f) q = b
     go (judged.Refused r) q = b
 
 -- ---- payloads

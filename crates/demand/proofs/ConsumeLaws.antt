@@ -1,6 +1,6 @@
 -- Demand 3 of the call `consume_pdo_payload` (and `consume_by_value`, of the same contract): right after a pass, and after other calls.
 -- Assumes nothing.
-use mathlib.Core.Path.{_≡_, ap}
+use mathlib.Core.Path.{_≡_, ap₂}
 use mathlib.Core.Bool.{Bool, true}
 use mathlib.Core.List.{List}
 use Prim.Native.Nat.{ℕ, _+_, _≤_}
@@ -11,9 +11,9 @@ use Rattle.entry.specs.Find.{findRow}
 use Rattle.entry.specs.Judge.{wellFormed}
 use Rattle.entry.specs.Put.{contents}
 use Rattle.entry.specs.declared.Found.the-variants.{At}
-use Rattle.pdo_run.specs.Run.{frame, listIn}
+use Rattle.pdo_run.specs.Run.{frame, Ran, listIn}
 use Rattle.pdo_handler.specs.Consume.{AfterConsume}
-use Rattle.events.specs.declared.EventRecord.{EventRecord}
+use Rattle.event.specs.declared.EventRecord.{EventRecord}
 use Rattle.events.specs.Receive.{listed, receivedOf}
 use Rattle.channel.specs.declared.Checked.the-variants.{Pass}
 use Rattle.channel.specs.Check.{checkOf}
@@ -28,7 +28,7 @@ pub written-consumes : (d : Dict) (payload : List ℕ) (sender version : ℕ) (r
     → Written (frame (d .objects) (d .slots) payload sender 0) (contents (d .words) (d .bytes)) version ready p ws → Consumes d payload sender version ready es p ws
 unfolding receivedOf
 written-consumes d payload sender version ready es p ws w room short o =
-    record { is = ap (λ (a : AfterConsume). listed a es) (written-consumed d payload sender version ready (length es) (replicate 254 0) p ws w room short o); whole = o .whole }
+    record { is = ap₂ (λ (a : AfterConsume) (r : Ran). listed a (r .events) es) (written-consumed d payload sender version ready (length es) (replicate 254 0) p ws w room short o) (o .silent); whole = o .whole }
 
 -- ---- right after the check; the list is in row r
 pub pass-consumes : (d : Dict) (i : ℕ) → checkOf d i ≡ Pass → Bytes (d .bytes) → (payload : List ℕ) → Bytes payload → (sender version : ℕ) (ready : Bool) (es : List EventRecord) → 254 ≤ length es → (r : ℕ)

@@ -10,7 +10,8 @@ use lib.ListN.{length, take, drop, getD}
 use Rattle.lists.specs.Numbers.{Bytes}
 use Rattle.entry.specs.Table.{Dict, typeAt}
 use Rattle.entry.specs.Put.{Contents, contents}
-use Rattle.pdo_run.specs.Run.{outcomeEvent, stopsOf, Frame, frame, decided, actOf, Ran, one, runFrom}
+use Rattle.pdo_step.specs.Effects.{effectOf}
+use Rattle.pdo_run.specs.Run.{Frame, frame, decided, recorded, actOf, Ran, runFrom}
 use Rattle.pdo_run.proofs.RunLaws.{run-stops, run-on}
 use Rattle.pdo_handler.specs.Consume.{consumedBy, receivedBy}
 use Rattle.pdo_handler.proofs.ConsumeLaws.{Sane, act-sane}
@@ -50,7 +51,7 @@ run-front f b p (w ∷ ws) j (suc n) c s k l t h =
     let x = clean-step f b c w s (e .1) (l .0 (e .0)) (t .0 (e .0)) in
     let z : j + suc n ≡ j + 1 + n = omega arith in
     let r = run-front f b p ws (j + 1) n (putWord f c w) (subst (Sane f) (x .acts) (act-sane f b c w s)) (k .1) (l .1) (t .1) (omega (arith, h)) in
-    rw (eq-eqb _ 8 (e .0), x .stays, x .silent (f .number) (j + 1), x .acts, z) r
+    rw (eq-eqb _ 8 (e .0), x .stays, x .silent, x .acts, z) r
 
 -- ---- the theorem: of the element that a fault names (`named-never`), under an admitted payload
 module _ (d : Dict) (i k : ℕ) (v : Fault) (n : Never d i k v) (b : Bytes (d .bytes)) (payload : List ℕ) (bp : Bytes payload) (sender version : ℕ) (ready : Bool) (m : ℕ) (a : Admitted d i (n .listed .row) payload sender version ready) where
@@ -87,7 +88,7 @@ module _ (d : Dict) (i k : ℕ) (v : Fault) (n : Never d i k v) (b : Bytes (d .b
       record { whole = ran .whole; then = rw (a .is-ready, a .first, a .right, l .found, l .list) q }
 
   pub named-told : elementType d r place ≡ 8 → Told f (receivedBy f c version ready) k (elementWord d r place)
-  named-told t = go (stopsOf (decided f w)) refl
+  named-told t = go (effectOf (decided f w) .stops) refl
     where
       w : ℕ
       w = elementWord d r place
@@ -95,8 +96,8 @@ module _ (d : Dict) (i k : ℕ) (v : Fault) (n : Never d i k v) (b : Bytes (d .b
       c′ : Contents
       c′ = putAll f (take place ws) c
 
-      go : (x : Bool) → stopsOf (decided f (elementWord d r place)) ≡ x → Told f (receivedBy f c version ready) k (elementWord d r place)
-      go true s = record { rest = []; events = ap (λ (x : Ran). x .events) (named-first .then ∙ run-stops f p ws place c′ (n .fault .below) t (decided f w) refl s) ∙ ap (λ x. one (outcomeEvent m x (decided f w))) (sym (n .element)) ∙ sym (append-nil (one (outcomeEvent m k (decided f w)))) }
+      go : (x : Bool) → effectOf (decided f (elementWord d r place)) .stops ≡ x → Told f (receivedBy f c version ready) k (elementWord d r place)
+      go true s = record { rest = []; events = ap (λ (x : Ran). x .events) (named-first .then ∙ run-stops f p ws place c′ (n .fault .below) t s) ∙ ap (λ x. recorded m x (effectOf (decided f w) .event)) (sym (n .element)) ∙ sym (append-nil (recorded m k (effectOf (decided f w) .event))) }
       go false s =
           let rest = runFrom f p (drop (place + 1) ws) (place + 1) (actOf f c′ (decided f w)) .events in
-          record { rest = rest; events = ap (λ (x : Ran). x .events) (named-first .then ∙ run-on f p ws place c′ (n .fault .below) t (decided f w) refl s) ∙ ap (λ x. one (outcomeEvent m x (decided f w)) ++ rest) (sym (n .element)) }
+          record { rest = rest; events = ap (λ (x : Ran). x .events) (named-first .then ∙ run-on f p ws place c′ (n .fault .below) t s) ∙ ap (λ x. recorded m x (effectOf (decided f w) .event) ++ rest) (sym (n .element)) }

@@ -1,6 +1,7 @@
 -- What passes is written whole: each element of a clean list stores its field, in order, with no event. Assumes nothing.
 use mathlib.Core.Path.{_≡_, refl, ap, _∙_, subst}
 use mathlib.Core.Bool.{Bool, true, false, cond}
+use mathlib.Core.Option.{none}
 use mathlib.Core.List.{List, [], _∷_}
 use Prim.Native.Nat.{ℕ, _+_, _≤_}
 use native.Mathlib.Omega.{arith}
@@ -22,8 +23,9 @@ use Rattle.entry.proofs.ValueLaws.{ValueFacts, element-of, element-facts}
 use Rattle.entry.proofs.PutLaws.{put-text, put-fixed}
 use Rattle.pdo_step.specs.declared.Outcome.the-variants as outcome
 use Rattle.pdo_step.specs.Outcomes.{part}
+use Rattle.pdo_step.specs.Effects.{effectOf}
 use Rattle.pdo_step.specs.Steps.{applied}
-use Rattle.pdo_run.specs.Run.{Frame, held, decided, outcomeEvent, stopsOf, actOf, ran, runFrom}
+use Rattle.pdo_run.specs.Run.{Frame, held, decided, actOf, ran, runFrom}
 use Rattle.pdo_handler.proofs.ConsumeLaws.{Sane, act-sane}
 use Rattle.element.specs.declared.Fault.the-variants as fault
 use Rattle.element.specs.declared.Verdict.the-variants.{Clean, Faulty}
@@ -69,8 +71,8 @@ module _ (f : Frame) (b : Bytes (f .payload)) where
   pub record Steps (c : Contents) (w : ℕ) : Type 0 where
     pub whole : Whole f c w
     pub acts : actOf f c (decided f w) ≡ putWord f c w
-    pub stays : stopsOf (decided f w) ≡ false
-    pub silent : (i k : ℕ) → outcomeEvent i k (decided f w) ≡ 0
+    pub stays : effectOf (decided f w) .stops ≡ false
+    pub silent : effectOf (decided f w) .event ≡ none
 
   pub clean-step : (c : Contents) (w : ℕ) → Sane f c → wordVerdict (f .objects) (f .slots) w ≡ Clean → endOf (entryOf w) ≤ length (f .payload) → TextAt (f .objects) (f .slots) (f .payload) w → Steps c w
   unfolding actOf applied
@@ -87,7 +89,7 @@ module _ (f : Frame) (b : Bytes (f .payload)) where
         whole = record { target = k .target; start = k .start; len = k .len; field = k .field; stores = q; encodes = rw q e };
         acts = rw (q, clean-class (f .objects) (f .slots) w k);
         stays = rw q;
-        silent = λ i k. rw q;
+        silent = rw q;
       }
 
   -- no event, each element whole, and the contents are those of the puts in list order
@@ -102,4 +104,4 @@ module _ (f : Frame) (b : Bytes (f .payload)) where
       let e = clean-element (f .objects) (f .slots) (typeAt (f .slots) (p + j)) w (k .0) in
       let x = clean-step c w s (e .1) (l .0 (e .0)) (t .0 (e .0)) in
       let r = clean-run p ws (j + 1) (putWord f c w) (subst (Sane f) (x .acts) (act-sane f b c w s)) (k .1) (l .1) (t .1) in
-      record { ran = rw (eq-eqb _ 8 (e .0), x .stays, x .silent (f .number) (j + 1), x .acts) (r .ran); whole = (e .0, x .whole, r .whole) }
+      record { ran = rw (eq-eqb _ 8 (e .0), x .stays, x .silent, x .acts) (r .ran); whole = (e .0, x .whole, r .whole) }

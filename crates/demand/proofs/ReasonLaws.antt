@@ -1,24 +1,28 @@
 -- The true reason: what the step of a named element comes to is what its fault says, whatever the payload, if it reaches the element.
 -- Assumes nothing.
-use mathlib.Core.Path.{_≡_, refl, _∙_, subst}
+use mathlib.Core.Path.{_≡_, refl, sym, _∙_, subst}
 use mathlib.Core.Bool.{Bool, true, false, cond, _&&_}
 use mathlib.Core.List.{List, [], _∷_}
 use Prim.Native.Nat.{ℕ, zero, suc, _+_, _%_, _<_, _≤_}
 use native.Mathlib.Nat.{add-zero}
 use native.Mathlib.Omega.{arith}
+use native.Mathlib.Decide.{decLt}
 use borrow.Author.Tests.{eqb-true, eqb-false, ltb-true, ltb-false, le-ltb, le-leb}
 use lib.Dec.{eqb, ltb}
-use lib.ListN.{length, take, getD}
-use Rattle.lists.specs.Numbers.{number}
-use Rattle.lists.proofs.NumberLaws.{part-length}
-use Rattle.text.specs.declared.Text.{Text as Judged}
-use Rattle.text.specs.declared.Text.the-variants.{Good, Bad}
+use lib.ListN.{length, drop, getD, take-append-drop}
+use Rattle.text.specs.declared.Text.the-variants.{Good}
+use Rattle.text.specs.Utf8.{WellFormed, Stops, Means}
 use Rattle.text.specs.Machine.{judge}
-use Rattle.value.specs.Codec.{isText, sizeOf, textIs, textWord, wordAt}
-use Rattle.value.specs.declared.CodecFault.{CodecFault as Cause}
+use Rattle.text.proofs.Agree.{means}
+use Rattle.lists.proofs.NumberLaws.{part-length}
+use Rattle.value.specs.Codec.{isText, sizeOf, wordAt}
+use Rattle.value.specs.Fault.{Tells}
+use Rattle.value.specs.declared.CodecFault.{CodecFault}
 use Rattle.value.specs.declared.CodecFault.the-variants as cause
 use Rattle.value.specs.declared.Word.{Word}
 use Rattle.value.specs.declared.Word.the-variants.{Takes, Fails}
+use Rattle.value.proofs.CodecLaws.{word-fixed}
+use Rattle.value.proofs.FaultLaws.{word-tells}
 use Rattle.mapping.specs.Word.{entryOf, fieldOf, endOf}
 use Rattle.mapping.specs.declared.Field.{Field}
 use Rattle.mapping.specs.declared.Field.the-variants as field
@@ -45,35 +49,6 @@ use Rattle.demand.specs.Demand.{Long, TextAt, Admitted, Whole}
 use Rattle.demand.specs.Saying.{listStart, listWords, elementType, elementWord, Never}
 use Rattle.demand.specs.Reasons.{HandedOff, server, client, Counted, ignored, refused, empty, Misfit, too-short, cut, odd, no-text, over-room, Misfits, Reason}
 use Rattle.demand.proofs.WholeLaws.{not-odd, whole-clean}
-
--- what a fixed type takes is as long as the type
-enough : (t : ℕ) (s : List ℕ) (v : ℕ) → isText t ≡ false → wordAt t s ≡ Takes v → sizeOf t ≤ length s
-unfolding wordAt
-enough t s v x e = go (ltb (length s) (sizeOf t)) refl (rw x at e)
-  where
-    go : (b : Bool) → ltb (length s) (sizeOf t) ≡ b → cond b (Fails cause.Value) (Takes (number (take (sizeOf t) s))) ≡ Takes v → sizeOf t ≤ length s
-    go true q e = let z : _≡_ {A = ℕ} 0 1 = cc in absurd (omega arith)
-    go false q e = ltb-false _ _ q
-
--- why it fails to decode
-data FailsBy (t : ℕ) (s : List ℕ) (g : Cause) : Type 0 where
-  few : isText t ≡ false → length s < sizeOf t → g ≡ cause.Value → FailsBy t s g
-  uneven : t ≡ 13 → length s % 2 ≡ 1 → g ≡ cause.Odd → FailsBy t s g
-  bad : t ≡ 11 → (judge s ≡ Good → ⊥) → g ≡ cause.Text → FailsBy t s g
-
-fails : (t : ℕ) (s : List ℕ) (g : Cause) → wordAt t s ≡ Fails g → FailsBy t s g
-unfolding wordAt textWord
-fails t s g e = go (isText t) refl (eqb t 11) refl (eqb t 13) refl (eqb (length s % 2) 1) refl (judge s) refl (ltb (length s) (sizeOf t)) refl e
-  where
-    go : (x : Bool) → isText t ≡ x → (a : Bool) → eqb t 11 ≡ a → (b : Bool) → eqb t 13 ≡ b → (o : Bool) → eqb (length s % 2) 1 ≡ o → (j : Judged) → judge s ≡ j → (l : Bool) → ltb (length s) (sizeOf t) ≡ l
-        → cond x (cond a (textIs (length s) j) (cond (b && o) (Fails cause.Odd) (Takes (length s)))) (cond l (Fails cause.Value) (Takes (number (take (sizeOf t) s)))) ≡ Fails g → FailsBy t s g
-    go true x true a b p o q Good h l k e = let z : _≡_ {A = ℕ} 0 1 = cc in absurd (omega arith)
-    go true x true a b p o q (Bad n) h l k e = bad (eqb-true t 11 a) (λ y. let z : _≡_ {A = ℕ} 0 1 = cc in omega arith) (cc)
-    go true x false a true p true q j h l k e = uneven (eqb-true t 13 p) (eqb-true _ 1 q) (cc)
-    go true x false a true p false q j h l k e = let z : _≡_ {A = ℕ} 0 1 = cc in absurd (omega arith)
-    go true x false a false p o q j h l k e = let z : _≡_ {A = ℕ} 0 1 = cc in absurd (omega arith)
-    go false x a y b p o q j h true k e = few x (ltb-true _ _ k) (cc)
-    go false x a y b p o q j h false k e = let z : _≡_ {A = ℕ} 0 1 = cc in absurd (omega arith)
 
 module _ (f : Frame) (c : Contents) (w : ℕ) (reach : endOf (entryOf w) ≤ length (f .payload)) where
   -- ---- the field is within the payload
@@ -133,7 +108,7 @@ module _ (f : Frame) (c : Contents) (w : ℕ) (reach : endOf (entryOf w) ≤ len
       took v k false b r h =
           let d : decided f w ≡ outcome.Stored p s n = placed s n q a (Value p) e ∙ rw (k, b) in
           let u : n ≡ sizeOf (typeAt (f .slots) p) → ⊥ = eqb-false n _ (rw b at l) in
-          let long = enough (typeAt (f .slots) p) (part (f .payload) s n) v b k in
+          let long = word-fixed (typeAt (f .slots) p) v (part (f .payload) s n) k b .0 in
           cut b (omega (arith, u, long, size)) d (other d)
 
       -- a VisibleString of a length that fits is not named
@@ -143,13 +118,14 @@ module _ (f : Frame) (c : Contents) (w : ℕ) (reach : endOf (entryOf w) ≤ len
           let u : lengthFits (typeAt (f .slots) p) (roomAt (f .slots) p) n ≡ true = rw (y, le-leb n (roomAt (f .slots) p) (ltb-false _ _ r)) in
           let z : _≡_ {A = ℕ} 0 1 = cc in absurd (omega arith)
 
-      failed : (g : Cause) → wordAt (typeAt (f .slots) p) (part (f .payload) s n) ≡ Fails g → FailsBy (typeAt (f .slots) p) (part (f .payload) s n) g → Misfit f c w p s n
-      failed g k (few x l y) = too-short x (rw size at l) (placed s n q a (Value p) e ∙ rw (k, y))
-      failed g k (uneven x l y) = odd x (rw size at l) (placed s n q a (Value p) e ∙ rw (k, y))
-      failed g k (bad x l y) = no-text x (roomy x (ltb (roomAt (f .slots) p) n) refl) l (placed s n q a (Value p) e ∙ rw (k, y))
+      failed : (g : CodecFault) → wordAt (typeAt (f .slots) p) (part (f .payload) s n) ≡ Fails g → Tells (typeAt (f .slots) p) (part (f .payload) s n) g → Misfit f c w p s n
+      failed (cause.Value needed had) k y =
+          too-short (y .fixed) (omega (arith, y .fewer, y .needed-is, y .had-is, size)) (placed s n q a (Value p) e ∙ rw (k, y .needed-is, y .had-is, size))
+      failed (cause.Text at) k y = no-text (y .visible) (roomy (y .visible) (ltb (roomAt (f .slots) p) n) refl) at (y .stops) (placed s n q a (Value p) e ∙ rw k)
+      failed cause.Odd k y = odd (y .unicode) (rw size at (y .odd)) (placed s n q a (Value p) e ∙ rw k)
 
       go : (g : Word) → wordAt (typeAt (f .slots) p) (part (f .payload) s n) ≡ g → Misfit f c w p s n
-      go (Fails g) k = failed g k (fails (typeAt (f .slots) p) (part (f .payload) s n) g k)
+      go (Fails g) k = failed g k (word-tells (typeAt (f .slots) p) (part (f .payload) s n) g k)
       go (Takes v) k = took v k (isText (typeAt (f .slots) p)) refl (ltb (roomAt (f .slots) p) n) refl
 
   -- ---- and which of them it is
@@ -207,6 +183,17 @@ admitted-outcome d i k v n payload sender version ready m c a =
     let z : 0 + place ≡ place = omega arith in
     named-outcome d i k v n payload sender m c (λ t. long-reaches (d .slots) payload (listStart d r) (listWords d r) 0 (a .long) place (n .fault .below) (rw z t))
 
+-- what stops being text is none
+stopped : (s : List ℕ) (k : ℕ) → Stops s k → judge s ≡ Good → ⊥
+stopped s k h g = go (decLt k (length s))
+  where
+    text : WellFormed s
+    text = subst (Means s) g (means s)
+
+    go : Dec (k < length s) → ⊥
+    go (yes l) = h .here l (drop (k + 1) s, subst WellFormed (sym (take-append-drop (k + 1) s)) text)
+    go (no l) = h .early (omega (arith, h .inside, l)) text
+
 -- under an admitted payload a VisibleString is text: so what is wrong with it is that it is over the room, and nothing else
 pub text-over : (f : Frame) (c : Contents) (w : ℕ) (m : Misfits f c w) → TextAt (f .objects) (f .slots) (f .payload) w → typeAt (f .slots) (m .target) ≡ 11 → decided f w ≡ outcome.TooLong
 text-over f c w m t y = go (m .how)
@@ -218,5 +205,5 @@ text-over f c w m t y = go (m .how)
     go (too-short x l e) = let z : _≡_ {A = ℕ} 0 1 = cc in absurd (omega arith)
     go (cut x l e o) = let z : _≡_ {A = ℕ} 0 1 = cc in absurd (omega arith)
     go (odd x l e) = absurd (omega (arith, x, y))
-    go (no-text x l n e) = absurd (n (t .good (m .start) (m .len) (m .target) (m .class) y))
+    go (no-text x l at s e) = absurd (stopped (part (f .payload) (m .start) (m .len)) at s (t .good (m .start) (m .len) (m .target) (m .class) y))
     go (over-room x l e) = e

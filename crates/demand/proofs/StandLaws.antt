@@ -29,7 +29,7 @@ use Rattle.pdo_step.specs.Steps.{applied}
 use Rattle.pdo_step.proofs.OutcomeLaws.{stored-by}
 use Rattle.pdo_run.specs.Run.{Frame, frame, held, decided, actOf}
 use Rattle.pdo_handler.proofs.ConsumeLaws.{Sane, act-sane}
-use Rattle.events.specs.declared.EventRecord.{EventRecord}
+use Rattle.event.specs.declared.EventRecord.{EventRecord}
 use Rattle.events.specs.Receive.{Received, receivedOf}
 use Rattle.demand.specs.Demand.{Whole, putWord, putAll, AllWhole}
 use Rattle.demand.specs.Calls.{Consumes}

@@ -79,7 +79,7 @@ module _ (objects slots payload : List ℕ) (w p start n : ℕ) (f : fieldOf (en
   at-place NoSub l h a e = let z : _≡_ {A = ℕ} 0 1 = cc in absurd (omega arith)
   at-place (Count c) l h a e = go (eqb n 0) (isMapping x) e
     where
-      go : (u v : Bool) → cond u (outcome.Undecodable cause.Value) (cond v outcome.Count outcome.CountRefused) ≡ outcome.Stored p start n → StoredAt objects slots payload w p start n
+      go : (u v : Bool) → cond u (outcome.Undecodable (cause.Value 1 0)) (cond v outcome.Count outcome.CountRefused) ≡ outcome.Stored p start n → StoredAt objects slots payload w p start n
       go true v e = let z : _≡_ {A = ℕ} 0 1 = cc in absurd (omega arith)
       go false true e = let z : _≡_ {A = ℕ} 0 1 = cc in absurd (omega arith)
       go false false e = let z : _≡_ {A = ℕ} 0 1 = cc in absurd (omega arith)

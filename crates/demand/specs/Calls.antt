@@ -3,7 +3,7 @@
 use Prim.Native.Nat.{ℕ, zero, suc, _+_, _<_, _≤_}
 use mathlib.Core.Path.{_≡_}
 use mathlib.Core.Bool.{Bool}
-use mathlib.Core.List.{List, [], _++_}
+use mathlib.Core.List.{List, [], _++_, map}
 use lib.ListN.{length}
 use Rattle.lists.specs.Lists.{over}
 use Rattle.entry.specs.Table.{Dict, firstAt}
@@ -13,7 +13,8 @@ use Rattle.entry.specs.Put.{Contents, contents, filled}
 use Rattle.pdo_channel.specs.Channel.{firstMatch}
 use Rattle.pdo_run.specs.Run.{Frame, frame, listIn}
 use Rattle.pdo_handler.specs.declared.Consumed.the-variants.{Done}
-use Rattle.events.specs.declared.EventRecord.{EventRecord}
+use Rattle.event.specs.declared.EventRecord.{EventRecord}
+use Rattle.event.specs.Record.{eventNumber}
 use Rattle.events.specs.Receive.{received, receivedOf}
 use Rattle.pdo_cycle.specs.declared.Cycle.the-variants as cycles
 use Rattle.pdo_cycle.specs.Payloads.{senderOf, versionOf, readyOf, payloadOf, payloadsIn}
@@ -33,7 +34,7 @@ unfoldable pub contentsFrom : Delivery → ℕ → ℕ → Contents → Contents
 contentsFrom v i zero c = c
 contentsFrom v i (suc n) c = contentsFrom v (i + 1) n (receivedAt v c i .contents)
 
-unfoldable pub eventsFrom : Delivery → ℕ → ℕ → Contents → List ℕ
+unfoldable pub eventsFrom : Delivery → ℕ → ℕ → Contents → List EventRecord
 eventsFrom v i zero c = []
 eventsFrom v i (suc n) c = receivedAt v c i .events ++ eventsFrom v (i + 1) n (receivedAt v c i .contents)
 
@@ -48,7 +49,7 @@ metBy d delivered ps i = filled d (contentsFrom (deliveryOf d delivered ps) 0 i 
 pub record Turns (d : Dict) (delivered ps log : List ℕ) (n m : ℕ) : Type 0 where
   pub few : n ≤ payloadsIn ps
   pub leaves : cycleOf d delivered ps log .contents ≡ contentsFrom (deliveryOf d delivered ps) 0 n (contents (d .words) (d .bytes))
-  pub logged : cycleOf d delivered ps log .log ≡ over log 0 (eventsFrom (deliveryOf d delivered ps) 0 n (contents (d .words) (d .bytes)))
+  pub logged : cycleOf d delivered ps log .log ≡ over log 0 (map eventNumber (eventsFrom (deliveryOf d delivered ps) 0 n (contents (d .words) (d .bytes))))
   pub count : m ≡ length (eventsFrom (deliveryOf d delivered ps) 0 n (contents (d .words) (d .bytes)))
 
 -- payload i, in its turn: each element whole, no event, nothing else changed

@@ -6,7 +6,9 @@ use mathlib.Core.List.{List, _++_}
 use lib.ListN.{take, drop}
 use Rattle.entry.specs.Table.{Dict}
 use Rattle.entry.specs.Put.{contents}
-use Rattle.pdo_run.specs.Run.{Frame, decided, outcomeEvent, Ran, one, runFrom}
+use Rattle.event.specs.declared.EventRecord.{EventRecord}
+use Rattle.pdo_step.specs.Effects.{effectOf}
+use Rattle.pdo_run.specs.Run.{Frame, decided, recorded, Ran, runFrom}
 use Rattle.pdo_handler.specs.Consume.{receivedBy}
 use Rattle.demand.specs.Demand.{putAll, AllWhole}
 use Rattle.demand.specs.Saying.{listStart, listWords}
@@ -19,5 +21,5 @@ pub record First (d : Dict) (r place : ℕ) (f : Frame) (version : ℕ) (ready :
 
 -- what is told first is the event of element k, of word w, where its step has one: nothing is told of the elements before it
 pub record Told (f : Frame) (r : Ran) (k w : ℕ) : Type 0 where
-  pub rest : List ℕ
-  pub events : r .events ≡ one (outcomeEvent (f .number) k (decided f w)) ++ rest
+  pub rest : List EventRecord
+  pub events : r .events ≡ recorded (f .number) k (effectOf (decided f w) .event) ++ rest

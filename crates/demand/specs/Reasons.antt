@@ -2,8 +2,7 @@
 use Prim.Native.Nat.{ℕ, _%_, _<_}
 use mathlib.Core.Path.{_≡_}
 use mathlib.Core.Bool.{true, false}
-use Rattle.text.specs.declared.Text.the-variants.{Good}
-use Rattle.text.specs.Machine.{judge}
+use Rattle.text.specs.Utf8.{Stops}
 use Rattle.value.specs.Codec.{isText, sizeOf}
 use Rattle.value.specs.declared.CodecFault.the-variants as cause
 use Rattle.mapping.specs.Word.{entryOf, fieldOf}
@@ -28,18 +27,18 @@ pub data HandedOff (f : Frame) (w : ℕ) : Type 0 where
 pub data Counted (f : Frame) (w : ℕ) : Type 0 where
   ignored : decided f w ≡ outcome.Count → Counted f w
   refused : decided f w ≡ outcome.CountRefused → Counted f w
-  empty : decided f w ≡ outcome.Undecodable cause.Value → Counted f w
+  empty : decided f w ≡ outcome.Undecodable (cause.Value 1 0) → Counted f w
 
 -- WrongLength, of a field of n bytes from start on and the target p. A number: too few bytes do not decode; of too many the first are stored, and
--- what is stored is encoded as something other than the field. A string: an odd UnicodeString does not decode, nor does a VisibleString that is no
--- text; else it is over the room.
+-- what is stored is encoded as something other than the field. A string: an odd UnicodeString does not decode, nor does a VisibleString that stops
+-- being text; else it is over the room. What a fault tells is R3.9's.
 pub data Misfit (f : Frame) (c : Contents) (w p start n : ℕ) : Type 0 where
-  too-short : isText (typeAt (f .slots) p) ≡ false → n < sizeOf (typeAt (f .slots) p) → decided f w ≡ outcome.Undecodable cause.Value → Misfit f c w p start n
+  too-short : isText (typeAt (f .slots) p) ≡ false → n < sizeOf (typeAt (f .slots) p) → decided f w ≡ outcome.Undecodable (cause.Value (sizeOf (typeAt (f .slots) p)) n) → Misfit f c w p start n
   cut : isText (typeAt (f .slots) p) ≡ false → sizeOf (typeAt (f .slots) p) < n → decided f w ≡ outcome.Stored p start n
       → (encodingIn (f .slots) (actOf f c (decided f w) .words) (actOf f c (decided f w) .bytes) p ≡ part (f .payload) start n → ⊥)
       → Misfit f c w p start n
   odd : typeAt (f .slots) p ≡ 13 → n % 2 ≡ 1 → decided f w ≡ outcome.Undecodable cause.Odd → Misfit f c w p start n
-  no-text : typeAt (f .slots) p ≡ 11 → roomAt (f .slots) p < n → (judge (part (f .payload) start n) ≡ Good → ⊥) → decided f w ≡ outcome.Undecodable cause.Text → Misfit f c w p start n
+  no-text : typeAt (f .slots) p ≡ 11 → roomAt (f .slots) p < n → (at : ℕ) → Stops (part (f .payload) start n) at → decided f w ≡ outcome.Undecodable (cause.Text at) → Misfit f c w p start n
   over-room : isText (typeAt (f .slots) p) ≡ true → roomAt (f .slots) p < n → decided f w ≡ outcome.TooLong → Misfit f c w p start n
 
 pub record Misfits (f : Frame) (c : Contents) (w : ℕ) : Type 0 where

@@ -21,10 +21,13 @@ use Rattle.entry.specs.Find.{findFrom, subAt}
 use Rattle.entry.specs.Put.{contents, putIn}
 use Rattle.pdo_step.specs.Outcomes.{outcomeOf, onCount}
 use Rattle.aim.specs.Aims.{classOf}
+use Rattle.event.specs.declared.Cause.the-variants as cause
+use Rattle.event.specs.declared.Event.the-variants.{PayloadShort}
+use Rattle.event.specs.Record.{recordAt}
 use Rattle.pdo_step.specs.Steps.{applied}
 use Rattle.pdo_step.specs.Bits.{bitAt, markedIn}
 use Rattle.pdo_channel.specs.Channel.{rightVersion, channelFrom}
-use Rattle.pdo_run.specs.Run.{frame, Ran, ran, packed, actOf, runFrom}
+use Rattle.pdo_run.specs.Run.{frame, Ran, ran, actOf, runFrom}
 use Rattle.pdo_handler.specs.Consume.{consumedBy}
 use Rattle.pdo_validator.specs.Counting.{endsFrom}
 use Rattle.element.specs.declared.Fault.the-variants.{WrongLength}
@@ -109,8 +112,8 @@ table =
     ∷ (asks (versions 0x10 0x12) (right true) ∷ asks (versions 0x12 0x11) (right false) ∷ asks (versions 0x12 0x22) (right false) ∷ [])
     ∷ (asks (bit-set 239) (errors (set zeros 29 0x40)) ∷ asks (bit-set 240) (errors zeros) ∷ [])
     ∷ (asks (consumed 0x0010000000006000 (0xC4 ∷ 0x09 ∷ 0x10 ∷ 0x27 ∷ 0x00 ∷ 0x00 ∷ [])) (run (ran (contents (left 0x0010000000006000 2500 10000) zeros) [])) ∷ [])
-    ∷ (asks (consumed 0x0010000000006000 (0xC4 ∷ 0x09 ∷ 0x10 ∷ 0x27 ∷ 0x00 ∷ [])) (run (ran (contents (left 0x0010000000006000 2500 0) (set zeros 0 0x10)) (packed 0 2 2 0 0 0 ∷ []))) ∷ [])
-    ∷ (asks (consumed 0x0008000000006000 (0xC4 ∷ 0x09 ∷ 0x10 ∷ 0x27 ∷ 0x00 ∷ 0x00 ∷ [])) (run (ran (contents (left 0x0008000000006000 0 0) zeros) (packed 0 3 1 0 0 0 ∷ []))) ∷ [])
+    ∷ (asks (consumed 0x0010000000006000 (0xC4 ∷ 0x09 ∷ 0x10 ∷ 0x27 ∷ 0x00 ∷ [])) (run (ran (contents (left 0x0010000000006000 2500 0) (set zeros 0 0x10)) (recordAt 0 2 (PayloadShort cause.Frame) ∷ []))) ∷ [])
+    ∷ (asks (consumed 0x0008000000006000 (0xC4 ∷ 0x09 ∷ 0x10 ∷ 0x27 ∷ 0x00 ∷ 0x00 ∷ [])) (run (ran (contents (left 0x0008000000006000 0 0) zeros) (recordAt 0 1 (PayloadShort (cause.Value 2 1)) ∷ []))) ∷ [])
     ∷ (asks (consumed 0x0020000000006000 (0x90 ∷ 0x5F ∷ 0x01 ∷ 0x00 ∷ 0x00 ∷ 0x00 ∷ [])) (run (ran (contents (left 0x0020000000006000 24464 1) zeros) [])) ∷ [])
     ∷ (asks (checked 0x0020000000006000) (said (Element 1 WrongLength)) ∷ [])
     ∷ []

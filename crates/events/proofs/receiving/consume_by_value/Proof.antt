@@ -57,13 +57,13 @@ use Rattle.entry.specs.Put.{contents}
 use Rattle.pdo_handler.specs.declared.Consumed.{Consumed}
 use Rattle.pdo_handler.proofs.Consumed as O
 use Rattle.pdo_handler.proofs.Consumed.Laws as O′
-use Rattle.events.specs.declared.EventRecord.{EventRecord}
+use Rattle.event.specs.declared.EventRecord.{EventRecord}
 use Rattle.events.specs.declared.Heard.{Heard}
 use Rattle.events.specs.Receive.{Received, received, receivedOf}
 use Rattle.events.proofs.Locals.{word, byte, val, shares, lends, no, has}
 use Rattle.events.proofs.LocalArray.{whole-cells}
-use Rattle.events.proofs.EventRecord as T
-use Rattle.events.proofs.EventRecord.Laws as T′
+use Rattle.event.proofs.EventRecord as T
+use Rattle.event.proofs.EventRecord.Laws as T′
 use Rattle.events.proofs.Heard as E
 use Rattle.events.proofs.Heard.Laws as E′
 use Rattle.events.proofs.receiving.consume_pdo_payload as callee

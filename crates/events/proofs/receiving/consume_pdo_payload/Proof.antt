@@ -59,13 +59,12 @@ use Rattle.pdo_handler.proofs.consume_logged as logging
 use Rattle.pdo_handler.proofs.consume_logged.Symbol as logging-def
 use Rattle.pdo_handler.proofs.consume_logged.Symbol.{name as #consume-logged}
 use Rattle.pdo_handler.proofs.consume_logged.Met as logging-thm
-use Rattle.events.specs.declared.EventRecord.{EventRecord}
-use Rattle.events.specs.Record.{recordsOf}
-use Rattle.events.specs.Receive.{eventCount, received, listed, receivedOf}
+use Rattle.event.specs.declared.EventRecord.{EventRecord}
+use Rattle.events.specs.Receive.{eventCount, recordsOf, received, receivedOf}
 use Rattle.events.proofs.Locals.{word, byte, val, shares, lends, no, has}
 use Rattle.events.proofs.LocalArray.{whole-cells, cells-room}
-use Rattle.events.proofs.ReceiveLaws.{count-few}
-use Rattle.events.proofs.EventRecord as T
+use Rattle.events.proofs.ReceiveLaws.{count-few, listedBy, listed-received}
+use Rattle.event.proofs.EventRecord as T
 use Rattle.events.proofs.receiving.count as counting
 use Rattle.events.proofs.receiving.count.Symbol as counting-def
 use Rattle.events.proofs.receiving.count.Symbol.{name as #count}
@@ -134,7 +133,7 @@ module _ {M : Type 1} (𝓤 : URA M) (H : Heap 𝓤) (A : Atoms 𝓤) (W : Given
     finished lw lb zs e l =
         qed W (‵ (flft κ₅ q₅) ∷ ‵ (finally R (ev .name) zs) ∷ ‵ (flft κ₄ q₄) ∷ ‵ (flft κ₃ q₃) ∷ ‵ (flft κ₂ q₂) ∷ ‵ (flft κ₁ q₁) ∷ ‵ (flft κ₀ q₀) ∷ ‵ (finally u8 (by′ .name) bs) ∷ ‵ (finally u64 (wd .name) ws) ∷ []) ∵
         suffices ! _ (ends-at 𝓤 H A f.ended stayed (f.clauses 𝓤 H A at-mem run) W bound w r (tt, (tt, (ws, (bs, (tt, (tt, (tt, (tt, (zs, tt))))))))) (tt, (tt, (lw, (lb, (tt, (tt, (tt, (tt, (l, tt)))))))))) $
-        says ! (ap (λ (z : List EventRecord). received r (contents ws bs) z) e ∙ ap (λ (x : AfterConsume). listed x (ev .now)) said) $
+        says ! (ap (λ (z : List EventRecord). received r (contents ws bs) z) e ∙ ap (λ (x : AfterConsume). listedBy x (ev .now)) said ∙ listed-received D (pl .now) sender version ready (ev .now)) $
         nothing ! $ move ! (7 ∷ 6 ∷ 5 ∷ 4 ∷ 3 ∷ 1 ∷ 0 ∷ []) $ group ! 7 $ frame ! $
         -- [the events'; the bytes'; the words']
         nothing ! $ move ! (1 ∷ 0 ∷ []) $ fjoin ! $ nothing ! $ fjoin ! $ nothing ! $ fjoin ! $ nothing ! $ fjoin ! $ nothing ! $ fjoin ! $ move ! (1 ∷ 0 ∷ []) $ fjoin ! $ move ! (1 ∷ 0 ∷ []) $ fjoin ! $ nothing ! $ fjoin ! $ nothing ! $ fjoin ! $ frame ! $
