@@ -1,10 +1,11 @@
 /* Lays a rig with the calls of loomfinch_dictionary.h, checks its channel and consumes a payload: with a move time of two bytes mapped
- * onto two, with four bytes mapped onto two, and with a payload that ends early. examples/build builds it. */
+ * onto two, with four bytes and with one mapped onto two, and with a payload that ends early. Then it writes captions, of which one is
+ * no UTF-8. examples/build builds it. */
 #include "loomfinch_dictionary.h"
 
 #include <stdio.h>
 
-enum { OBJECTS = 8, VALUES = 16, BYTES = 64 };
+enum { OBJECTS = 8, VALUES = 16, BYTES = 64, CAPTION = 0x6100, CAPTION_ROOM = 20 };
 
 static uint64_t objects[LOOMFINCH_OBJECTS_WORDS(OBJECTS)];
 static uint64_t slots[LOOMFINCH_SLOTS_WORDS(VALUES)];
@@ -14,6 +15,9 @@ static uint8_t bytes[BYTES];
 static struct loomfinch_dictionary rig = LOOMFINCH_DICTIONARY_OF(objects, slots, words, bytes);
 
 #define LENGTH(slice) (sizeof(slice) / sizeof *(slice))
+
+/* No place and no count: what a number holds that no answer has set. */
+static const uint64_t NOT_SET = ~(uint64_t)0;
 
 /* Inserts an object of up to three numbers of one type; 0 where it is in. */
 static uint64_t insert(uint16_t index, uint64_t kind, uint64_t type, const uint64_t *numbers, size_t count) {
@@ -47,6 +51,24 @@ static int lay_rig(uint16_t time_bits) {
            insert(0x6200, LOOMFINCH_ARRAY, LOOMFINCH_UNSIGNED32, nothing, 3) == LOOMFINCH_DONE;
 }
 
+static void show_event(uint64_t event) {
+    int element = (int)LOOMFINCH_EVENT_ELEMENT(event);
+    switch (LOOMFINCH_EVENT_KIND(event)) {
+    case LOOMFINCH_SHORT_FRAME:
+        printf("  it ends before element %d\n", element);
+        break;
+    case LOOMFINCH_SHORT_VALUE:
+        printf("  element %d needs %d bytes, and its field has %d\n", element, (int)LOOMFINCH_EVENT_NEEDED(event),
+               (int)LOOMFINCH_EVENT_HAD(event));
+        break;
+    case LOOMFINCH_SHORT_TEXT:
+        printf("  element %d is no UTF-8 at byte %d of its field\n", element, (int)LOOMFINCH_EVENT_PLACE(event));
+        break;
+    default:
+        printf("  event at element %d\n", element);
+    }
+}
+
 static int show(uint16_t time_bits, const uint8_t *payload, size_t length) {
     uint64_t events[LOOMFINCH_MOST_EVENTS], element, count, time, position;
     if (!lay_rig(time_bits)) {
@@ -65,14 +87,40 @@ static int show(uint16_t time_bits, const uint8_t *payload, size_t length) {
     }
     printf("  the payload gives %d events, the time %d and the position %d\n", (int)count, (int)time, (int)position);
     for (uint64_t k = 0; k < count; k++) {
-        int stops = LOOMFINCH_EVENT_KIND(events[k]) == LOOMFINCH_SHORT_FRAME;
-        printf("  %s element %d\n", stops ? "it ends before" : "event at", (int)LOOMFINCH_EVENT_ELEMENT(events[k]));
+        show_event(events[k]);
     }
     return 1;
+}
+
+static int insert_caption(void) {
+    const uint64_t empty[] = {LOOMFINCH_VISIBLE_STRING, CAPTION_ROOM, 0};
+    return loomfinch_dictionary_insert(&rig, CAPTION, LOOMFINCH_VARIABLE, LOOMFINCH_ACCESS_NONE, 0, (const uint8_t *)"Caption", 7,
+                                       empty, LENGTH(empty), bytes, 0) == LOOMFINCH_DONE;
+}
+
+/* Writes a caption, which needs no store, and shows at which byte it is no UTF-8. */
+static void show_caption(const char *form, const uint8_t *caption, size_t length) {
+    uint8_t no_store[1];
+    uint64_t place = NOT_SET, had = NOT_SET;
+    uint64_t answer = loomfinch_dictionary_write(&rig, no_store, 0, CAPTION, 0, LOOMFINCH_VISIBLE_STRING, caption, length, &place,
+                                                 &had);
+    printf("a caption in %s\n  the write says: %s", form, loomfinch_answer_name(answer));
+    if (place != NOT_SET) {
+        printf(" at byte %d", (int)place);
+    }
+    printf("\n");
 }
 
 int main(void) {
     const uint8_t two_and_a_half_seconds[] = {0xC4, 0x09, 0x10, 0x27, 0x00, 0x00};
     const uint8_t ninety_seconds[] = {0x90, 0x5F, 0x01, 0x00, 0x00, 0x00};
-    return show(16, two_and_a_half_seconds, 6) && show(32, ninety_seconds, 6) && show(16, two_and_a_half_seconds, 5) ? 0 : 1;
+    const uint8_t utf_8[] = {'D', 0xC3, 0xA9, 'c', 'o', 'r'};
+    const uint8_t latin_1[] = {'D', 0xE9, 'c', 'o', 'r'};
+    if (!show(16, two_and_a_half_seconds, 6) || !show(32, ninety_seconds, 6) || !show(8, two_and_a_half_seconds, 6) ||
+        !show(16, two_and_a_half_seconds, 5) || !insert_caption()) {
+        return 1;
+    }
+    show_caption("UTF-8", utf_8, sizeof utf_8);
+    show_caption("Latin-1", latin_1, sizeof latin_1);
+    return 0;
 }

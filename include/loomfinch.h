@@ -1,9 +1,10 @@
 /* The calls of libloomfinch.a (./library), for x86-64.
  *
- * Answers    A call answers a number of docs/RULES.md, 0 for done; a refusal changes nothing that was lent.
+ * Answers    A call answers a number of docs/RULES.md, 0 for done; a refusal changes no slice that was lent.
+ * Numbers    A single number that is lent belongs to the answer: it is set where the answer has it, and else stays.
  * Null       A slice is a pointer and then a length in elements; the pointer is never null, also where the length is 0. Neither is
  *            a pointer to a single number.
- * Aliasing   What is lent to one call does not overlap: no two slices, and no slice with a single number.
+ * Aliasing   What is lent to one call does not overlap: no two slices, no slice and a single number, no two single numbers.
  * Alignment  That of the element's type: 8 bytes for uint64_t, none for uint8_t.
  * Threads    The library has no memory of its own. Calls may run side by side where what one of them writes is lent to no other;
  *            calls that write nothing of a dictionary may share it.
@@ -23,9 +24,9 @@ extern "C" {
 
 /* The version of this header and of the library that it belongs to. */
 #define LOOMFINCH_VERSION_MAJOR 0
-#define LOOMFINCH_VERSION_MINOR 1
+#define LOOMFINCH_VERSION_MINOR 2
 #define LOOMFINCH_VERSION_PATCH 0
-#define LOOMFINCH_VERSION "0.1.0"
+#define LOOMFINCH_VERSION "0.2.0"
 
 enum {
     LOOMFINCH_DONE = 0,
@@ -111,11 +112,16 @@ enum { LOOMFINCH_MOST_STORED = 32770 };
 /* Decodes the value of type 0..20 that the data begins with.
  * Answers 2 for no such type; 5 for a VisibleString that is not UTF-8 or a UnicodeString of an odd count; 12 for fewer bytes
  * than the type has, or fewer than 7 numbers; in this order.
+ * 5 for a VisibleString: *place is the place, from 0, of the first byte at which no UTF-8 goes on, or the data's length where it
+ * only ends too early. In E2 82 41 that is 2: a text may begin with E2 82, and none goes on with 41.
+ * 12 for fewer bytes than the type has: *place is how many it has, and *had how many are there.
+ * Else both stay: whoever puts UINT64_MAX there before the call knows which of them the answer has.
  * Done: numbers[0] is the value's word, numbers[1] to numbers[6] its parts, 0 where it has fewer; those behind stay.
  * The word is the little-endian number of a fixed type's bytes, or the length of a text or of bytes, which is the data itself.
  * Parts: an integer in 64 bits two's complement; a real's bits; TimeOfDay and TimeDifference ms, days; NetTime seconds,
  * nanoseconds; an address byte by byte; of any other type the word. */
-uint64_t loomfinch_decode(uint64_t type_number, const uint8_t *data, size_t data_len, uint64_t *numbers, size_t numbers_len);
+uint64_t loomfinch_decode(uint64_t type_number, const uint8_t *data, size_t data_len, uint64_t *numbers, size_t numbers_len,
+                          uint64_t *place, uint64_t *had);
 
 /* Encodes the value that a type and a word say; the part is the text or the bytes of types 11..14 and ignored for others.
  * Answers 2 for no such type, a word that is no number of the type's size, a word that is not the part's length, a
@@ -203,11 +209,14 @@ uint64_t loomfinch_increment_counter(const uint64_t *objects, size_t objects_len
  * 1600h..16FFh, 1A00h..1AFFh) that is no Unsigned8, and what loomfinch_validate_pdo_mapping answers for it; 3; 6 for access 0
  * and 5; 4; 9 for the count of a list that is no mapping; 5 for another type than the one there; 13 for a string longer than its
  * room.
+ * 2 for a VisibleString that is not UTF-8 sets *place, and 2 for fewer bytes than the type has *place and *had, as loomfinch_decode
+ * does. Else both stay: also where a fixed type's data is too long, and where a UnicodeString's count is odd.
  * Done: the value is put, and bytes in its room behind it stay; a mapping's count is accepted and not kept. A refusal and 19
  * change nothing. */
 uint64_t loomfinch_write(const uint64_t *objects, size_t objects_len, const uint64_t *slots, size_t slots_len, uint64_t *words,
                          size_t words_len, uint8_t *bytes, size_t bytes_len, uint8_t *store, size_t store_len, uint16_t index,
-                         uint8_t sub_index, uint64_t type_number, const uint8_t *data, size_t data_len);
+                         uint8_t sub_index, uint64_t type_number, const uint8_t *data, size_t data_len, uint64_t *place,
+                         uint64_t *had);
 
 /* May the first `count` elements of the mapping at an index be used? Answers 1; then 0 for a count of 0 or another index than a
  * mapping's; 3 where there is no Array; 10 where one of them is missing or no Unsigned64; 11 where one of them ends behind the
@@ -227,7 +236,9 @@ uint64_t loomfinch_restore_power_on_values(const uint64_t *objects, size_t objec
 
 /* An event is one number. Its kind says what happened, its element where: the place in the mapping list, from 1, or 0 with
  * LOOMFINCH_MAP_VERSION. Of what is handed to SDO it has the index, and where the field starts in the payload and its length, in
- * bytes; else these are 0. The payload's number is its place in a cycle, from 0, and 0 for a single payload. */
+ * bytes. Of a value that is too short it has the bytes needed and those that the field had, of a bad text the place of the first
+ * byte, from 0 within the field, at which no UTF-8 goes on, or the field's length where it only ends too early. What an event does
+ * not have is 0. The payload's number is its place in a cycle, from 0, and 0 for a single payload. */
 enum {
     LOOMFINCH_MAP_VERSION = 1,
     LOOMFINCH_SHORT_FRAME = 2, /* the field ends past the payload: the run stops */
@@ -245,6 +256,10 @@ enum {
 #define LOOMFINCH_EVENT_START(e) ((uint64_t)(e) >> 28 & 0x1FFF)
 #define LOOMFINCH_EVENT_LENGTH(e) ((uint64_t)(e) >> 41 & 0x1FFF)
 #define LOOMFINCH_EVENT_PAYLOAD(e) ((uint64_t)(e) >> 54)
+/* The same numbers by what they are: of LOOMFINCH_SHORT_VALUE the bytes needed and had, of LOOMFINCH_SHORT_TEXT the place. */
+#define LOOMFINCH_EVENT_NEEDED(e) LOOMFINCH_EVENT_START(e)
+#define LOOMFINCH_EVENT_HAD(e) LOOMFINCH_EVENT_LENGTH(e)
+#define LOOMFINCH_EVENT_PLACE(e) LOOMFINCH_EVENT_START(e)
 
 /* The most events of one payload, and the most payloads and bytes of one that a call takes. */
 enum { LOOMFINCH_MOST_EVENTS = 254, LOOMFINCH_MOST_PAYLOADS = 1024, LOOMFINCH_MOST_PAYLOAD_BYTES = 1490 };

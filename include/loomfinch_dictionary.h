@@ -82,9 +82,9 @@ static inline uint64_t loomfinch_dictionary_increment_counter(struct loomfinch_d
 }
 
 static inline uint64_t loomfinch_dictionary_write(struct loomfinch_dictionary *d, uint8_t *store, size_t store_len, uint16_t index,
-                                                  uint8_t sub_index, uint64_t type_number, const uint8_t *data,
-                                                  size_t data_len) {
-    return loomfinch_write(LOOMFINCH_LENT(d), store, store_len, index, sub_index, type_number, data, data_len);
+                                                  uint8_t sub_index, uint64_t type_number, const uint8_t *data, size_t data_len,
+                                                  uint64_t *place, uint64_t *had) {
+    return loomfinch_write(LOOMFINCH_LENT(d), store, store_len, index, sub_index, type_number, data, data_len, place, had);
 }
 
 static inline uint64_t loomfinch_dictionary_validate_pdo_mapping(const struct loomfinch_dictionary *d, uint16_t index,

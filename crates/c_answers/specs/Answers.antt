@@ -9,10 +9,23 @@ use Rattle.answers.specs.declared.Answer.the-variants as answer
 use Rattle.lists.specs.Lists.{over}
 use Rattle.answers.specs.Numbers.{refusalNumber}
 use Rattle.answers.specs.declared.Refusal.the-variants.{BufferTooShort}
+use Rattle.value.specs.declared.CodecFault.{CodecFault}
+use Rattle.value.specs.declared.CodecFault.the-variants.{Value, Text, Odd}
 
 abbrev pub answerNumber : Answer → ℕ
 answerNumber answer.Done = 0
 answerNumber (answer.Refused r) = refusalNumber r
+
+-- R13.5: the two numbers that are lent for a fault's, after it: the bytes needed or the place of the byte, and the bytes had
+abbrev pub placeAfter : CodecFault → ℕ → ℕ
+placeAfter (Value needed had) p = needed
+placeAfter (Text at) p = at
+placeAfter Odd p = p
+
+abbrev pub hadAfter : CodecFault → ℕ → ℕ
+hadAfter (Value needed had) h = had
+hadAfter (Text at) h = h
+hadAfter Odd h = h
 
 -- an answer's number, and the one lent number after it
 pub record Told : Type 0 where

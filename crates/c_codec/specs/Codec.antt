@@ -14,18 +14,28 @@ use Rattle.mapping.specs.declared.Aligned.{Aligned}
 use Rattle.mapping.specs.declared.Aligned.the-variants.{Bytes, Misaligned}
 use Rattle.mapping.specs.declared.PdoMappingEntry.{PdoMappingEntry}
 use Rattle.mapping.specs.Word.{entryOf, alignedOf, endOf}
-use Rattle.c_answers.specs.Answers.{Lent, lent, results, Written, wrote}
+use Rattle.c_answers.specs.Answers.{placeAfter, hadAfter, Lent, results, Written, wrote}
 
 unfoldable pub valueNumbers : ObjectValue → List ℕ → Lent
 valueNumbers v ns = results (wordOf v ∷ fieldsOf v) ns
 
-abbrev pub decodedNumbers : Decoded → List ℕ → Lent
-decodedNumbers (Value v) ns = valueNumbers v ns
-decodedNumbers (Fails f) ns = lent (refusalNumber (refusalOf f)) ns
-decodedNumbers NoType ns = lent (refusalNumber BadValue) ns
+-- an answer's number, the lent numbers after it, and the two that are lent for a fault's
+pub record AfterDecode : Type 0 where
+  pub answer : ℕ
+  pub numbers : List ℕ
+  pub place : ℕ
+  pub had : ℕ
 
-unfoldable pub decodeNumbers : ℕ → List ℕ → List ℕ → Lent
-decodeNumbers t s ns = decodedNumbers (decodeOf t s) ns
+abbrev pub afterDecode : ℕ → List ℕ → ℕ → ℕ → AfterDecode
+afterDecode a ns p h = record { answer = a; numbers = ns; place = p; had = h }
+
+abbrev pub decodedNumbers : Decoded → List ℕ → ℕ → ℕ → AfterDecode
+decodedNumbers (Value v) ns p h = let l = valueNumbers v ns in afterDecode (l .answer) (l .numbers) p h
+decodedNumbers (Fails f) ns p h = afterDecode (refusalNumber (refusalOf f)) ns (placeAfter f p) (hadAfter f h)
+decodedNumbers NoType ns p h = afterDecode (refusalNumber BadValue) ns p h
+
+unfoldable pub decodeNumbers : ℕ → List ℕ → List ℕ → ℕ → ℕ → AfterDecode
+decodeNumbers t s ns p h = decodedNumbers (decodeOf t s) ns p h
 
 abbrev pub encodedNumbers : Encoded → List ℕ → ℕ → Written
 encodedNumbers (Wrote n) out m = wrote 0 out n

@@ -3,7 +3,7 @@
 ghost use mathlib.Core.Path.{_≡_};
 ghost use Rattle.mapping.specs.Word.{wordOf};
 ghost use Rattle.c_answers.specs.Answers.{lent, wrote, results};
-ghost use Rattle.c_codec.specs.Codec.{valueNumbers, decodeNumbers, encodeNumbers, entryNumbers, wholeOf, bytesIn};
+ghost use Rattle.c_codec.specs.Codec.{valueNumbers, afterDecode, decodeNumbers, encodeNumbers, entryNumbers, wholeOf, bytesIn};
 use mapping::Aligned;
 use mapping::PdoMappingEntry;
 use value::Decoded;
@@ -24,12 +24,21 @@ fn give(v: ObjectValue, numbers: &mut [u64]) -> u64
 }
 
 #[no_mangle]
-pub extern "C" fn loomfinch_decode(type_number: u64, data: &[u8], numbers: &mut [u64]) -> u64
-    ensures { λ r. ⌜ lent r (now (numbers .exit)) ≡ decodeNumbers «type_number» (now («data» .entry)) (now (numbers .entry)) ⌝ }
+pub extern "C" fn loomfinch_decode(
+    type_number: u64,
+    data: &[u8],
+    numbers: &mut [u64],
+    place: &mut u64,
+    had: &mut u64,
+) -> u64
+    ensures { λ r. ⌜ afterDecode r (now (numbers .exit)) (now (place .exit)) (now (had .exit)) ≡ decodeNumbers «type_number» (now («data» .entry)) (now (numbers .entry)) (now (place .entry)) (now (had .entry)) ⌝ }
 {
     match object_value::decode(type_number, data) {
         Decoded::NoType => 2,
-        Decoded::Fails(f) => answers::number(value::refusal(f)),
+        Decoded::Fails(f) => {
+            c_answers::tell(f, place, had);
+            answers::number(value::refusal(f))
+        }
         Decoded::Value(v) => give(v, numbers),
     }
 }

@@ -5,17 +5,23 @@ ghost use Rattle.pdo_validator.specs.Counting.{validOf};
 ghost use Rattle.restoring.specs.Restore.{restoreOf};
 ghost use Rattle.writing.specs.Writing.{writeOf};
 ghost use Rattle.c_answers.specs.Answers.{answerNumber};
-ghost use Rattle.c_storing.specs.Storing.{wroteNumber, restoredNumber};
+ghost use Rattle.c_storing.specs.Storing.{wroteNumber, wrotePlace, wroteHad, restoredNumber};
 use c_answers::number_of;
 use restoring::Restored;
 use writing::Wrote;
 
-fn wrote(a: Wrote) -> u64
-    ensures { λ r. ⌜ r ≡ wroteNumber a ⌝ }
+fn wrote(a: Wrote, place: &mut u64, had: &mut u64) -> u64
+    ensures answer { λ r. ⌜ r ≡ wroteNumber a ⌝ }
+    ensures place { λ _. ⌜ now (place .exit) ≡ wrotePlace a (now (place .entry)) ⌝ }
+    ensures had { λ _. ⌜ now (had .exit) ≡ wroteHad a (now (had .entry)) ⌝ }
 {
     match a {
         Wrote::Done => 0,
         Wrote::RestoreRequested => 19,
+        Wrote::NoValue(f) => {
+            c_answers::tell(f, place, had);
+            2
+        }
         Wrote::Refused(r) => answers::number(r),
     }
 }
@@ -31,13 +37,17 @@ pub extern "C" fn loomfinch_write(
     sub_index: u8,
     type_number: u64,
     data: &[u8],
+    place: &mut u64,
+    had: &mut u64,
 ) -> u64
     ensures answer { λ r. ⌜ r ≡ wroteNumber (writeOf (dict (now (objects .entry)) (now (slots .entry)) (now (words .entry)) (now (bytes .entry))) (now (store .entry)) index «sub_index» «type_number» (now («data» .entry)) .answer) ⌝ }
     ensures words { λ _. ⌜ now (words .exit) ≡ writeOf (dict (now (objects .entry)) (now (slots .entry)) (now (words .entry)) (now (bytes .entry))) (now (store .entry)) index «sub_index» «type_number» (now («data» .entry)) .words ⌝ }
     ensures bytes { λ _. ⌜ now (bytes .exit) ≡ writeOf (dict (now (objects .entry)) (now (slots .entry)) (now (words .entry)) (now (bytes .entry))) (now (store .entry)) index «sub_index» «type_number» (now («data» .entry)) .bytes ⌝ }
     ensures store { λ _. ⌜ now (store .exit) ≡ writeOf (dict (now (objects .entry)) (now (slots .entry)) (now (words .entry)) (now (bytes .entry))) (now (store .entry)) index «sub_index» «type_number» (now («data» .entry)) .store ⌝ }
+    ensures place { λ _. ⌜ now (place .exit) ≡ wrotePlace (writeOf (dict (now (objects .entry)) (now (slots .entry)) (now (words .entry)) (now (bytes .entry))) (now (store .entry)) index «sub_index» «type_number» (now («data» .entry)) .answer) (now (place .entry)) ⌝ }
+    ensures had { λ _. ⌜ now (had .exit) ≡ wroteHad (writeOf (dict (now (objects .entry)) (now (slots .entry)) (now (words .entry)) (now (bytes .entry))) (now (store .entry)) index «sub_index» «type_number» (now («data» .entry)) .answer) (now (had .entry)) ⌝ }
 {
-    wrote(writing::write(
+    let a = writing::write(
         objects,
         slots,
         words,
@@ -47,7 +57,8 @@ pub extern "C" fn loomfinch_write(
         sub_index,
         type_number,
         data,
-    ))
+    );
+    wrote(a, place, had)
 }
 
 #[no_mangle]

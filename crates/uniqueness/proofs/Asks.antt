@@ -24,7 +24,7 @@ use Rattle.pdo_validator.proofs.validate_pdo_mapping as validate-pdo-mapping
 use Rattle.channel.proofs.check as check
 use Rattle.channel.proofs.check_all as check-all
 use Rattle.element.proofs.explain as explain
-use Rattle.events.proofs.event_record as event-record
+use Rattle.event.proofs.event_record as event-record
 use Rattle.pdo_cycle.proofs.consume_cycle as consume-cycle
 use Rattle.pdo_handler.proofs.update_pdo_error_object as update-pdo-error-object
 use Rattle.restoring.proofs.restore_power_on_values as restore

@@ -13,7 +13,7 @@ use Rattle.entry.specs.Put.{Contents, contents}
 use Rattle.pdo_run.specs.Run.{frame}
 use Rattle.pdo_handler.specs.declared.Consumed.{Consumed}
 use Rattle.pdo_handler.specs.declared.Consumed.the-variants.{Done}
-use Rattle.events.specs.declared.EventRecord.{EventRecord}
+use Rattle.event.specs.declared.EventRecord.{EventRecord}
 use Rattle.events.specs.Receive.{Received, received}
 use Rattle.events.proofs.consume_pdo_payload as consume
 use Rattle.events.proofs.consume_by_value as by-value

@@ -26,6 +26,7 @@ use Rattle.nodes.specs.declared.Listed.the-variants as listing
 use Rattle.nodes.specs.Nodes.{nodesOf, AfterListing, afterListing, cnsOf}
 use Rattle.counter.specs.Counter as counter
 use Rattle.counter.specs.Counter.{counterOf}
+use Rattle.commands.specs.declared.Saved.{Saved}
 use Rattle.commands.specs.declared.Saved.the-variants as saved
 use Rattle.commands.specs.Save as commands
 use Rattle.commands.specs.Save.{fits, saveOf}
@@ -48,10 +49,11 @@ use Rattle.pdo_handler.specs.Consume as consume
 use Rattle.pdo_handler.specs.Consume.{consumeOf}
 use Rattle.pdo_handler.specs.Errors as errors
 use Rattle.pdo_handler.specs.Errors.{updateOf}
-use Rattle.events.specs.declared.EventRecord.{EventRecord}
+use Rattle.event.specs.declared.EventRecord.{EventRecord}
 use Rattle.events.specs.Receive.{Received, received, listed, receivedOf}
 use Rattle.pdo_cycle.specs.declared.Cycle.{Cycle}
 use Rattle.pdo_cycle.specs.declared.Cycle.the-variants as cycles
+use Rattle.pdo_run.specs.Run.{frame}
 use Rattle.pdo_cycle.specs.Payloads.{areShaped, arePlaced, areShort}
 use Rattle.pdo_cycle.specs.Cycle as cycle
 use Rattle.pdo_cycle.specs.Cycle.{cycleOf}
@@ -61,7 +63,7 @@ use Rattle.channel.specs.All as checking
 use Rattle.channel.specs.All.{checkAllOf}
 use Rattle.uniqueness.specs.Refusing.{Refuses}
 
-either : {A B : Type 0} (answer : A → B) (said : Refusal → B) (same : B → A) (b : Bool) (x y : A) → Refuses A B answer said same x → Refuses A B answer said same y → Refuses A B answer said same (cond b x y)
+either : {R A B : Type 0} (answer : A → B) (said : R → B) (same : B → A) (b : Bool) (x y : A) → Refuses A B answer said same x → Refuses A B answer said same y → Refuses A B answer said same (cond b x y)
 either answer said same true x y p q = p
 either answer said same false x y p q = q
 
@@ -128,7 +130,30 @@ write-refused d store x sub t s = join (wellFormed d) _ _ (act (judgeOf d (lengt
     act judged.Accepted = (λ r (e : wrote.Done ≡ wrote.Refused r). let z : _≡_ {A = ℕ} 0 1 = cc in absurd (omega arith))
     act judged.Save = saving (fits (newTable d sub store) store) _
     act judged.Restore = (λ r (e : wrote.RestoreRequested ≡ wrote.Refused r). let z : _≡_ {A = ℕ} 0 1 = cc in absurd (omega arith))
+    act (judged.NoValue f) = (λ r (e : wrote.NoValue f ≡ wrote.Refused r). let z : _≡_ {A = ℕ} 0 1 = cc in absurd (omega arith))
     act (judged.Refused q) = λ r e. ap same e
+
+pub write-no-value-refused : (d : Dict) (store : List ℕ) (x sub t : ℕ) (s : List ℕ) → Refuses writing.AfterWrite Wrote (λ y. y .answer) wrote.NoValue (λ a. writing.afterWrite a (d .words) (d .bytes) store) (writeOf d store x sub t s)
+unfolding writeOf writing.writeActOf
+write-no-value-refused d store x sub t s = join (wellFormed d) _ _ (act (judgeOf d (length store) x sub t s)) (λ f (e : wrote.Refused refusal.Malformed ≡ wrote.NoValue f). let z : _≡_ {A = ℕ} 0 1 = cc in absurd (omega arith))
+  where
+    same : Wrote → writing.AfterWrite
+    same a = writing.afterWrite a (d .words) (d .bytes) store
+
+    join : (b : Bool) (x y : writing.AfterWrite) → Refuses writing.AfterWrite Wrote (λ y. y .answer) wrote.NoValue same x → Refuses writing.AfterWrite Wrote (λ y. y .answer) wrote.NoValue same y → Refuses writing.AfterWrite Wrote (λ y. y .answer) wrote.NoValue same (cond b x y)
+    join = either (λ (y : writing.AfterWrite). y .answer) wrote.NoValue same
+
+    saving : (a : Saved) (st : List ℕ) → Refuses writing.AfterWrite Wrote (λ y. y .answer) wrote.NoValue same (writing.afterWrite (writing.savedAs a) (d .words) (d .bytes) st)
+    saving saved.Done st = (λ f (e : wrote.Done ≡ wrote.NoValue f). let z : _≡_ {A = ℕ} 0 1 = cc in absurd (omega arith))
+    saving (saved.Refused r) st = (λ f (e : wrote.Refused r ≡ wrote.NoValue f). let z : _≡_ {A = ℕ} 0 1 = cc in absurd (omega arith))
+
+    act : (j : Judged) → Refuses writing.AfterWrite Wrote (λ y. y .answer) wrote.NoValue same (writing.writeActOf d store sub s j)
+    act (judged.Put p) = (λ f (e : wrote.Done ≡ wrote.NoValue f). let z : _≡_ {A = ℕ} 0 1 = cc in absurd (omega arith))
+    act judged.Accepted = (λ f (e : wrote.Done ≡ wrote.NoValue f). let z : _≡_ {A = ℕ} 0 1 = cc in absurd (omega arith))
+    act judged.Save = saving (saveOf d store sub .answer) (saveOf d store sub .store)
+    act judged.Restore = (λ f (e : wrote.RestoreRequested ≡ wrote.NoValue f). let z : _≡_ {A = ℕ} 0 1 = cc in absurd (omega arith))
+    act (judged.NoValue g) = λ f e. ap same e
+    act (judged.Refused q) = (λ f (e : wrote.Refused q ≡ wrote.NoValue f). let z : _≡_ {A = ℕ} 0 1 = cc in absurd (omega arith))
 
 pub restore-refused : (d : Dict) (s : List ℕ) (first last : ℕ) → Refuses restoring.AfterRestore Restored (λ y. y .answer) restored.Refused (λ a. restoring.afterRestore a d) (restoreOf d s first last)
 unfolding restoreOf
@@ -157,7 +182,7 @@ consume-refused d payload sender version ready room log = join (wellFormed d) _ 
 pub received-refused : (d : Dict) (payload : List ℕ) (sender version : ℕ) (ready : Bool) (es : List EventRecord)
     → Refuses Received Consumed (λ y. y .answer) consumed.Refused (λ a. received a (contents (d .words) (d .bytes)) es) (receivedOf d payload sender version ready es)
 unfolding receivedOf
-received-refused d payload sender version ready es r e = ap (λ (a : consume.AfterConsume). listed a es) (consume-refused d payload sender version ready (length es) (replicate 254 0) r e)
+received-refused d payload sender version ready es r e = ap (λ (a : consume.AfterConsume). listed a (consume.receivedBy (frame (d .objects) (d .slots) payload sender 0) (contents (d .words) (d .bytes)) version ready .events) es) (consume-refused d payload sender version ready (length es) (replicate 254 0) r e)
 
 pub cycle-refused : (d : Dict) (delivered ps log : List ℕ) → Refuses cycle.AfterCycle Cycle (λ y. y .answer) cycles.Refused (λ a. cycle.afterCycle a (contents (d .words) (d .bytes)) log) (cycleOf d delivered ps log)
 unfolding cycleOf

@@ -77,7 +77,7 @@ use Rattle.c_storing.specs.Storing.{wroteNumber, restoredNumber}
 use Rattle.c_receiving.specs.Receiving.{Heard, heard, consumeNumbers, cycleNumbers}
 use Rattle.c_checking.specs.Checking.{checkedTold, allNumbers, checkAllNumbers, explainNumbers}
 use Rattle.uniqueness.specs.Refusing.{Refuses}
-use Rattle.uniqueness.proofs.Refused.{new-refused, insert-refused, counter-refused, update-refused, cns-refused, write-refused, restore-refused, consume-refused, cycle-refused, check-all-refused, encode-refused}
+use Rattle.uniqueness.proofs.Refused.{new-refused, insert-refused, counter-refused, update-refused, cns-refused, write-refused, write-no-value-refused, restore-refused, consume-refused, cycle-refused, check-all-refused, encode-refused}
 
 -- ---- a refusal's number is no other answer's
 range : (r : Refusal) → (0 < refusalNumber r) × (refusalNumber r < 19)
@@ -121,14 +121,14 @@ results-refused rs ns = go (ltb (length ns) (length rs))
     go false r e = no-refusal r e
 
 -- ---- values and mapping words
-pub c-decode-refused : (t : ℕ) (s ns : List ℕ) → RefusedLent ns (decodeNumbers t s ns)
+pub c-decode-refused : (t : ℕ) (s ns : List ℕ) (p h : ℕ) (r : Refusal) → decodeNumbers t s ns p h .answer ≡ refusalNumber r → decodeNumbers t s ns p h .numbers ≡ ns
 unfolding decodeNumbers valueNumbers
-c-decode-refused t s ns = go (decodeOf t s)
+c-decode-refused t s ns p h r e = go (decodeOf t s) e
   where
-    go : (x : Decoded) → RefusedLent ns (decodedNumbers x ns)
-    go (decoded.Value v) r e = results-refused (wordOf v ∷ fieldsOf v) ns r e
-    go (decoded.Fails f) r e = ap (λ a. lent a ns) e
-    go decoded.NoType r e = ap (λ a. lent a ns) e
+    go : (x : Decoded) → decodedNumbers x ns p h .answer ≡ refusalNumber r → decodedNumbers x ns p h .numbers ≡ ns
+    go (decoded.Value v) q = ap (λ (y : Lent). y .numbers) (results-refused (wordOf v ∷ fieldsOf v) ns r q)
+    go (decoded.Fails f) q = refl
+    go decoded.NoType q = refl
 
 pub c-encode-refused : (t w : ℕ) (part out : List ℕ) (m : ℕ) → RefusedWritten out m (encodeNumbers t w part out m)
 unfolding encodeNumbers
@@ -199,6 +199,9 @@ c-write-refused d store x sub t s r e = go (writeOf d store x sub t s .answer) r
     go : (a : Wrote) → writeOf d store x sub t s .answer ≡ a → wroteNumber a ≡ refusalNumber r → (writeOf d store x sub t s .words ≡ d .words) × (writeOf d store x sub t s .bytes ≡ d .bytes) × (writeOf d store x sub t s .store ≡ store)
     go wrote.Done q e = no-refusal r e
     go wrote.RestoreRequested q e = absurd (omega (arith, e, range r .1))
+    go (wrote.NoValue f) q e =
+        let h = write-no-value-refused d store x sub t s f q in
+        (ap (λ (y : writing.AfterWrite). y .words) h, ap (λ (y : writing.AfterWrite). y .bytes) h, ap (λ (y : writing.AfterWrite). y .store) h)
     go (wrote.Refused k) q e =
         let h = write-refused d store x sub t s k q in
         (ap (λ (y : writing.AfterWrite). y .words) h, ap (λ (y : writing.AfterWrite). y .bytes) h, ap (λ (y : writing.AfterWrite). y .store) h)

@@ -50,7 +50,7 @@ use Rattle.events.proofs.consume_pdo_payload as consume
 use Rattle.events.proofs.consume_by_value as by-value
 use Rattle.uniqueness.specs.Refusing.{RefusedBy, Stays, ClaimStays}
 use Rattle.uniqueness.proofs.Walked.{consume-claim, by-value-claim}
-use Rattle.uniqueness.proofs.Refused.{encode-refused, new-refused, insert-refused, cns-refused, counter-refused, write-refused, restore-refused, received-refused, cycle-refused, update-refused, check-all-refused}
+use Rattle.uniqueness.proofs.Refused.{encode-refused, new-refused, insert-refused, cns-refused, counter-refused, write-refused, write-no-value-refused, restore-refused, received-refused, cycle-refused, update-refused, check-all-refused}
 
 pub encode-stays : Stays 2 encode-kinds.ps encode-kinds.r encode.Post (λ κs. RefusedBy encoded.Refused) (λ κs a. (tt, (tt, (now (a .1 .1 .0), tt))))
 encode-stays κs a z w p r = ap (λ (x : codec.AfterEncode). (tt, (tt, (x .out, tt)))) (p ∙ encode-refused _ _ _ _ (r .0) (sym (ap (λ (x : codec.AfterEncode). x .answer) p) ∙ r .1))
@@ -69,6 +69,9 @@ increment-counter-stays κs a z w p r = ap (λ (x : AfterIncrement). (tt, (tt, (
 
 pub write-stays : Stays 6 write-kinds.ps write-kinds.r write.Post (λ κs. RefusedBy wrote.Refused) (λ κs a. (tt, (tt, (now (a .1 .1 .0), (now (a .1 .1 .1 .0), (now (a .1 .1 .1 .1 .0), (tt, (tt, (tt, (tt, tt))))))))))
 write-stays κs a z w p r = ap (λ (x : writing.AfterWrite). (tt, (tt, (x .words, (x .bytes, (x .store, (tt, (tt, (tt, (tt, tt)))))))))) (p ∙ write-refused _ _ _ _ _ _ (r .0) (sym (ap (λ (x : writing.AfterWrite). x .answer) p) ∙ r .1))
+
+pub write-no-value-stays : Stays 6 write-kinds.ps write-kinds.r write.Post (λ κs. RefusedBy wrote.NoValue) (λ κs a. (tt, (tt, (now (a .1 .1 .0), (now (a .1 .1 .1 .0), (now (a .1 .1 .1 .1 .0), (tt, (tt, (tt, (tt, tt))))))))))
+write-no-value-stays κs a z w p r = ap (λ (x : writing.AfterWrite). (tt, (tt, (x .words, (x .bytes, (x .store, (tt, (tt, (tt, (tt, tt)))))))))) (p ∙ write-no-value-refused _ _ _ _ _ _ (r .0) (sym (ap (λ (x : writing.AfterWrite). x .answer) p) ∙ r .1))
 
 pub restore-stays : Stays 5 restore-kinds.ps restore-kinds.r restore.Post (λ κs. RefusedBy restored.Refused) (λ κs a. (tt, (now (a .1 .0), (now (a .1 .1 .0), (now (a .1 .1 .1 .0), (tt, (tt, (tt, tt))))))))
 restore-stays κs a z w p r = ap (λ (x : restoring.AfterRestore). (tt, (x .memory .slots, (x .memory .words, (x .memory .bytes, (tt, (tt, (tt, tt)))))))) (p ∙ restore-refused _ _ _ _ (r .0) (sym (ap (λ (x : restoring.AfterRestore). x .answer) p) ∙ r .1))

@@ -1,9 +1,12 @@
 -- The same of each call for C: where its answer is a refusal's number. Assumes nothing.
+use mathlib.Core.List.{List}
+use Prim.Native.Nat.{ℕ}
 use mathlib.Core.Path.{sym, ap, ap₂, _∙_}
 use denote.Ref.{now}
 use Rattle.answers.specs.Numbers.{refusalNumber}
 use Rattle.entry.specs.Table.{Dict}
 use Rattle.c_answers.specs.Answers.{Told, Lent, Written}
+use Rattle.c_codec.specs.Codec.{AfterDecode}
 use Rattle.c_receiving.specs.Receiving.{Heard}
 use Rattle.c_codec.proofs.loomfinch_decode.Reads as c-decode
 use Rattle.c_codec.proofs.loomfinch_decode.Kinds as c-decode-kinds
@@ -47,11 +50,11 @@ use Rattle.c_receiving.proofs.loomfinch_consume_cycle.Reads as c-consume-cycle
 use Rattle.c_receiving.proofs.loomfinch_consume_cycle.Kinds as c-consume-cycle-kinds
 use Rattle.c_receiving.proofs.loomfinch_update_pdo_error_object.Reads as c-update
 use Rattle.c_receiving.proofs.loomfinch_update_pdo_error_object.Kinds as c-update-kinds
-use Rattle.uniqueness.specs.Refusing.{RefusedBy, Stays}
+use Rattle.uniqueness.specs.Refusing.{SlicesStay, RefusedBy, Stays}
 use Rattle.uniqueness.proofs.RefusedC.{c-decode-refused, c-encode-refused, c-from-u64-refused, c-new-refused, c-insert-refused, c-read-refused, c-read-typed-refused, c-find-by-name-refused, c-get-configured-cns-refused, c-increment-counter-refused, c-write-refused, c-restore-refused, c-consume-refused, c-consume-cycle-refused, c-update-refused, c-check-refused, c-check-all-refused, c-explain-refused}
 
-pub c-decode-stays : Stays 2 c-decode-kinds.ps c-decode-kinds.r c-decode.Post (λ κs. RefusedBy refusalNumber) (λ κs a. (tt, (tt, (now (a .1 .1 .0), tt))))
-c-decode-stays κs a z w p r = ap (λ (x : Lent). (tt, (tt, (x .numbers, tt)))) (p ∙ c-decode-refused _ _ _ (r .0) (sym (ap (λ (x : Lent). x .answer) p) ∙ r .1))
+pub c-decode-stays : SlicesStay 4 c-decode-kinds.ps c-decode-kinds.r c-decode.Post (λ κs. RefusedBy refusalNumber) (List ℕ) (λ κs a w. w .1 .1 .0) (λ κs a. now (a .1 .1 .0))
+c-decode-stays κs a z w p r = ap (λ (x : AfterDecode). x .numbers) p ∙ c-decode-refused _ _ _ _ _ (r .0) (sym (ap (λ (x : AfterDecode). x .answer) p) ∙ r .1)
 
 pub c-encode-stays : Stays 3 c-encode-kinds.ps c-encode-kinds.r c-encode.Post (λ κs. RefusedBy refusalNumber) (λ κs a. (tt, (tt, (tt, (now (a .1 .1 .1 .0), (now (a .1 .1 .1 .1 .0), tt))))))
 c-encode-stays κs a z w p r = ap (λ (x : Written). (tt, (tt, (tt, (x .out, (x .written, tt)))))) (p ∙ c-encode-refused _ _ _ _ _ (r .0) (sym (ap (λ (x : Written). x .answer) p) ∙ r .1))
@@ -62,8 +65,8 @@ c-from-u64-stays κs a z w p r = ap (λ (x : Lent). (tt, (x .numbers, tt))) (p �
 pub c-new-stays : Stays 1 c-new-kinds.ps c-new-kinds.r c-new.Post (λ κs. RefusedBy refusalNumber) (λ κs a. (now (a .0), tt))
 c-new-stays κs a z w p r = ap (λ x. (x, tt)) (p .1 ∙ c-new-refused _ (r .0) (sym (p .0) ∙ r .1))
 
-pub c-insert-stays : Stays 7 c-insert-kinds.ps c-insert-kinds.r c-insert.Post (λ κs. RefusedBy refusalNumber) (λ κs a. (now (a .0), (now (a .1 .0), (now (a .1 .1 .0), (now (a .1 .1 .1 .0), (tt, (tt, (tt, (tt, (tt, (tt, (tt, tt))))))))))))
-c-insert-stays κs a z w p r = ap (λ (x : Dict). (x .objects, (x .slots, (x .words, (x .bytes, (tt, (tt, (tt, (tt, (tt, (tt, (tt, tt)))))))))))) (p .1 ∙ c-insert-refused _ _ _ _ _ (r .0) (sym (p .0) ∙ r .1))
+pub c-insert-stays : Stays 7 c-insert-kinds.ps c-insert-kinds.r c-insert.Post (λ κs. RefusedBy refusalNumber) (λ κs a. (now (a .0), (now (a .1 .0), (now (a .1 .1 .0), (now (a .1 .1 .1 .0), (tt, (tt, (tt, (tt, (tt, (tt, (tt, (tt, (tt, (tt, (tt, tt))))))))))))))))
+c-insert-stays κs a z w p r = ap (λ (x : Dict). (x .objects, (x .slots, (x .words, (x .bytes, (tt, (tt, (tt, (tt, (tt, (tt, (tt, (tt, (tt, (tt, (tt, tt)))))))))))))))) (p .1 ∙ c-insert-refused _ _ _ _ _ (r .0) (sym (p .0) ∙ r .1))
 
 pub c-read-stays : Stays 5 c-read-kinds.ps c-read-kinds.r c-read.Post (λ κs. RefusedBy refusalNumber) (λ κs a. (tt, (tt, (tt, (tt, (tt, (tt, (now (a .1 .1 .1 .1 .1 .1 .0), tt))))))))
 c-read-stays κs a z w p r = ap (λ (x : Lent). (tt, (tt, (tt, (tt, (tt, (tt, (x .numbers, tt)))))))) (p ∙ c-read-refused _ _ _ _ (r .0) (sym (ap (λ (x : Lent). x .answer) p) ∙ r .1))
@@ -89,10 +92,10 @@ c-get-configured-cns-stays κs a z w p r = ap (λ (x : Written). (tt, (tt, (tt, 
 pub c-increment-counter-stays : Stays 4 c-increment-counter-kinds.ps c-increment-counter-kinds.r c-increment-counter.Post (λ κs. RefusedBy refusalNumber) (λ κs a. (tt, (tt, (now (a .1 .1 .0), (tt, (tt, (tt, tt)))))))
 c-increment-counter-stays κs a z w p r = ap (λ x. (tt, (tt, (x, (tt, (tt, (tt, tt))))))) (p .1 ∙ c-increment-counter-refused _ _ _ (r .0) (sym (p .0) ∙ r .1))
 
-pub c-write-stays : Stays 6 c-write-kinds.ps c-write-kinds.r c-write.Post (λ κs. RefusedBy refusalNumber) (λ κs a. (tt, (tt, (now (a .1 .1 .0), (now (a .1 .1 .1 .0), (now (a .1 .1 .1 .1 .0), (tt, (tt, (tt, (tt, tt))))))))))
+pub c-write-stays : SlicesStay 8 c-write-kinds.ps c-write-kinds.r c-write.Post (λ κs. RefusedBy refusalNumber) (List ℕ × (List ℕ × List ℕ)) (λ κs a w. (w .1 .1 .0, (w .1 .1 .1 .0, w .1 .1 .1 .1 .0))) (λ κs a. (now (a .1 .1 .0), (now (a .1 .1 .1 .0), now (a .1 .1 .1 .1 .0))))
 c-write-stays κs a z w p r =
     let q = c-write-refused _ _ _ _ _ _ (r .0) (sym (p .0) ∙ r .1) in
-    ap₂ (λ x y. (tt, (tt, (x, y)))) (p .1 .0 ∙ q .0) (ap₂ (λ x y. (x, (y, (tt, (tt, (tt, (tt, tt))))))) (p .1 .1 .0 ∙ q .1) (p .1 .1 .1 ∙ q .2))
+    ap₂ (λ x y. (x, y)) (p .1 .0 ∙ q .0) (ap₂ (λ x y. (x, y)) (p .1 .1 .0 ∙ q .1) (p .1 .1 .1 .0 ∙ q .2))
 
 pub c-restore-stays : Stays 5 c-restore-kinds.ps c-restore-kinds.r c-restore.Post (λ κs. RefusedBy refusalNumber) (λ κs a. (tt, (now (a .1 .0), (now (a .1 .1 .0), (now (a .1 .1 .1 .0), (tt, (tt, (tt, tt))))))))
 c-restore-stays κs a z w p r = ap (λ (x : Dict). (tt, (x .slots, (x .words, (x .bytes, (tt, (tt, (tt, tt)))))))) (p .1 ∙ c-restore-refused _ _ _ _ (r .0) (sym (p .0) ∙ r .1))

@@ -57,8 +57,8 @@ use Rattle.channel.proofs.check_all.Reads as check-all
 use Rattle.channel.proofs.check_all.Kinds as check-all-kinds
 use Rattle.element.proofs.explain.Reads as explain
 use Rattle.element.proofs.explain.Kinds as explain-kinds
-use Rattle.events.proofs.event_record.Reads as event-record
-use Rattle.events.proofs.event_record.Kinds as event-record-kinds
+use Rattle.event.proofs.event_record.Reads as event-record
+use Rattle.event.proofs.event_record.Kinds as event-record-kinds
 use Rattle.pdo_cycle.proofs.consume_cycle.Reads as consume-cycle
 use Rattle.pdo_cycle.proofs.consume_cycle.Kinds as consume-cycle-kinds
 use Rattle.pdo_handler.proofs.update_pdo_error_object.Reads as update-pdo-error-object

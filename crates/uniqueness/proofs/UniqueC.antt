@@ -1,7 +1,10 @@
 -- The same of each call for C. Assumes nothing.
-use mathlib.Core.Path.{refl, ap, ap₂, _∙_, sym}
+use mathlib.Core.List.{List}
+use Prim.Native.Nat.{ℕ}
+use mathlib.Core.Path.{_≡_, refl, ap, ap₂, _∙_, sym}
 use Rattle.entry.specs.Table.{Dict}
 use Rattle.c_answers.specs.Answers.{Told, Lent, Written}
+use Rattle.c_codec.specs.Codec.{AfterDecode}
 use Rattle.c_receiving.specs.Receiving.{Heard}
 use Rattle.uniqueness.specs.Contracts.{Unique}
 use Rattle.uniqueness.proofs.Unique.{both}
@@ -52,8 +55,8 @@ use Rattle.c_receiving.proofs.loomfinch_consume_cycle.Kinds as c-consume-cycle-
 use Rattle.c_receiving.proofs.loomfinch_update_pdo_error_object.Reads as c-update
 use Rattle.c_receiving.proofs.loomfinch_update_pdo_error_object.Kinds as c-update-kinds
 
-pub c-decode-unique : Unique 2 c-decode-kinds.ps c-decode-kinds.r c-decode.Post
-c-decode-unique κs a z₁ z₂ w₁ w₂ p q = both (λ (x : Lent). x .answer) (λ x. (tt, (tt, (x .numbers, tt)))) p q
+pub c-decode-unique : Unique 4 c-decode-kinds.ps c-decode-kinds.r c-decode.Post
+c-decode-unique κs a z₁ z₂ w₁ w₂ p q = both (λ (x : AfterDecode). x .answer) (λ x. (tt, (tt, (x .numbers, (x .place, (x .had, tt)))))) p q
 
 pub c-encode-unique : Unique 3 c-encode-kinds.ps c-encode-kinds.r c-encode.Post
 c-encode-unique κs a z₁ z₂ w₁ w₂ p q = both (λ (x : Written). x .answer) (λ x. (tt, (tt, (tt, (x .out, (x .written, tt)))))) p q
@@ -68,7 +71,7 @@ pub c-new-unique : Unique 1 c-new-kinds.ps c-new-kinds.r c-new.Post
 c-new-unique κs a z₁ z₂ w₁ w₂ p q = (p .0 ∙ sym (q .0), ap (λ x. (x, tt)) (p .1 ∙ sym (q .1)))
 
 pub c-insert-unique : Unique 7 c-insert-kinds.ps c-insert-kinds.r c-insert.Post
-c-insert-unique κs a z₁ z₂ w₁ w₂ p q = (p .0 ∙ sym (q .0), ap (λ (x : Dict). (x .objects, (x .slots, (x .words, (x .bytes, (tt, (tt, (tt, (tt, (tt, (tt, (tt, tt)))))))))))) (p .1 ∙ sym (q .1)))
+c-insert-unique κs a z₁ z₂ w₁ w₂ p q = (p .0 ∙ sym (q .0), ap (λ (x : Dict). (x .objects, (x .slots, (x .words, (x .bytes, (tt, (tt, (tt, (tt, (tt, (tt, (tt, (tt, (tt, (tt, (tt, tt)))))))))))))))) (p .1 ∙ sym (q .1)))
 
 pub c-read-unique : Unique 5 c-read-kinds.ps c-read-kinds.r c-read.Post
 c-read-unique κs a z₁ z₂ w₁ w₂ p q = both (λ (x : Lent). x .answer) (λ x. (tt, (tt, (tt, (tt, (tt, (tt, (x .numbers, tt)))))))) p q
@@ -94,12 +97,19 @@ c-get-configured-cns-unique κs a z₁ z₂ w₁ w₂ p q = both (λ (x : Writte
 pub c-increment-counter-unique : Unique 4 c-increment-counter-kinds.ps c-increment-counter-kinds.r c-increment-counter.Post
 c-increment-counter-unique κs a z₁ z₂ w₁ w₂ p q = (p .0 ∙ sym (q .0), ap (λ x. (tt, (tt, (x, (tt, (tt, (tt, tt))))))) (p .1 ∙ sym (q .1)))
 
-pub c-write-unique : Unique 6 c-write-kinds.ps c-write-kinds.r c-write.Post
+five : {x₁ x₂ y₁ y₂ z₁ z₂ : List ℕ} {p₁ p₂ h₁ h₂ : ℕ} → x₁ ≡ x₂ → y₁ ≡ y₂ → z₁ ≡ z₂ → p₁ ≡ p₂ → h₁ ≡ h₂
+    → _≡_ {A = Unit {0} × (Unit {0} × (List ℕ × (List ℕ × (List ℕ × (Unit {0} × (Unit {0} × (Unit {0} × (Unit {0} × (ℕ × (ℕ × Unit {0}))))))))))}
+    (tt, (tt, (x₁, (y₁, (z₁, (tt, (tt, (tt, (tt, (p₁, (h₁, tt))))))))))) (tt, (tt, (x₂, (y₂, (z₂, (tt, (tt, (tt, (tt, (p₂, (h₂, tt)))))))))))
+five a b c d e = rw (a, b, c, d, e)
+
+pub c-write-unique : Unique 8 c-write-kinds.ps c-write-kinds.r c-write.Post
 c-write-unique κs a z₁ z₂ w₁ w₂ p q =
     let words = p .1 .0 ∙ sym (q .1 .0) in
     let bytes = p .1 .1 .0 ∙ sym (q .1 .1 .0) in
-    let store = p .1 .1 .1 ∙ sym (q .1 .1 .1) in
-    (p .0 ∙ sym (q .0), ap₂ (λ x y. (tt, (tt, (x, y)))) words (ap₂ (λ x y. (x, (y, (tt, (tt, (tt, (tt, tt))))))) bytes store))
+    let store = p .1 .1 .1 .0 ∙ sym (q .1 .1 .1 .0) in
+    let place = p .1 .1 .1 .1 .0 ∙ sym (q .1 .1 .1 .1 .0) in
+    let had = p .1 .1 .1 .1 .1 ∙ sym (q .1 .1 .1 .1 .1) in
+    (p .0 ∙ sym (q .0), five words bytes store place had)
 
 pub c-validate-pdo-mapping-unique : Unique 4 c-validate-pdo-mapping-kinds.ps c-validate-pdo-mapping-kinds.r c-validate-pdo-mapping.Post
 c-validate-pdo-mapping-unique κs a z₁ z₂ w₁ w₂ p q = (p ∙ sym q, refl)

@@ -9,7 +9,7 @@ use denote.Triple.Clauses.{Lasts, atExit}
 use Rattle.entry.specs.Table.{dict}
 use Rattle.entry.specs.Put.{contents}
 use Rattle.pdo_handler.specs.declared.Consumed.{Consumed}
-use Rattle.events.specs.declared.EventRecord.{EventRecord}
+use Rattle.event.specs.declared.EventRecord.{EventRecord}
 use Rattle.events.specs.declared.Heard.{Heard}
 use Rattle.events.specs.Receive.{Received, received, receivedOf}
 use Rattle.od.specs.Read.{readOf, partIn}

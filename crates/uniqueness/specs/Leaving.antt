@@ -5,7 +5,7 @@ use mathlib.Core.List.{List}
 use Rattle.entry.specs.Put.{Contents}
 use Rattle.pdo_handler.specs.declared.Consumed.{Consumed}
 use Rattle.pdo_handler.specs.declared.Consumed.the-variants.{Done}
-use Rattle.events.specs.declared.EventRecord.{EventRecord}
+use Rattle.event.specs.declared.EventRecord.{EventRecord}
 use Rattle.pdo_cycle.specs.declared.Cycle.{Cycle}
 use Rattle.pdo_cycle.specs.declared.Cycle.the-variants as cycles
 
