@@ -7,6 +7,13 @@ pub use damaging::Damaged;
 pub use damaging::damage;
 pub use inserting::counter_line;
 pub use inserting::insert_line;
+use memory::Memory;
 pub use storing::bit_line;
 pub use storing::restore_line;
 pub use storing::write_line;
+
+// The memory after a line, and whether the line's answer was given with all that it says.
+pub struct Told {
+    pub memory: Memory,
+    pub right: bool,
+}

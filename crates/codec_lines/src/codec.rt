@@ -1,12 +1,14 @@
 // Lines of the codec: a call and the answer that it must give. The first letter says which call:
 //   w WORD INDEX SUB OFFSET LENGTH ENCODED       the parts of a mapping word, and the word that they make
 //   f WORD START LENGTH END                      a mapping word's field in bytes; 10000 for a START or a LENGTH that is not whole bytes
-//   d TYPE DATA ANSWER [WORD F0 F1 F2 F3 F4 F5]  decoding: the answer's number, the word and the value's parts
+//   d TYPE DATA ANSWER [WORD F0 F1 F2 F3 F4 F5 | PLACE | NEEDED HAD]
+//                                                decoding: the answer's number, and the word and the value's parts or what its fault says
 //   e TYPE WORD PART BYTES                       encoding
 //   r TYPE WORD PART SIZE ANSWER                 encoding into SIZE bytes is refused
 //   v NUMBER EVENT                               1 for the number of an event, else 0
 //   t DATA PLACE                                 no text: the place of the first byte at which none goes on
 use crate::records::says;
+use loomfinch::CodecFault;
 use loomfinch::Decoded;
 use loomfinch::Encoded;
 use loomfinch::ObjectValue;
@@ -15,6 +17,7 @@ use mapping::Aligned;
 use mapping::Field;
 use text::Text;
 use tokens::bytes;
+use tokens::has_next;
 use tokens::next;
 use tokens::number;
 use tokens::room;
@@ -85,6 +88,24 @@ fn value_is(v: ObjectValue, s: &[u8], at: usize) -> bool {
     true
 }
 
+// Are the numbers behind the answer at `answer` what a fault says, and are there no more?
+pub fn tells(f: CodecFault, s: &[u8], answer: usize) -> bool {
+    let first = next(s, answer);
+    match f {
+        CodecFault::Value { needed, had } => {
+            let second = next(s, first);
+            has_next(s, first)
+                & (number(s, first) == needed as u64)
+                & (number(s, second) == had as u64)
+                & !has_next(s, second)
+        }
+        CodecFault::Text { at } => {
+            has_next(s, answer) & (number(s, first) == at as u64) & !has_next(s, first)
+        }
+        CodecFault::Odd => !has_next(s, answer),
+    }
+}
+
 fn decode_line(s: &[u8], at: usize) -> bool {
     let mut data = room();
     let from = next(s, at);
@@ -99,8 +120,10 @@ fn decode_line(s: &[u8], at: usize) -> bool {
                 false
             }
         }
-        Decoded::Fails(f) => expected == answers::number(value::refusal(f)),
-        Decoded::NoType => expected == 2,
+        Decoded::Fails(f) => {
+            (expected == answers::number(value::refusal(f))) & tells(f, s, answer)
+        }
+        Decoded::NoType => (expected == 2) & !has_next(s, answer),
     }
 }
 

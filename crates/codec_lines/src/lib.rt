@@ -3,5 +3,6 @@ mod codec;
 mod records;
 
 pub use codec::asked;
+pub use codec::tells;
 pub use records::blank;
 pub use records::say;

@@ -18,8 +18,8 @@ pub fn blank() -> EventRecord {
 fn cause_number(c: Cause) -> u64 {
     match c {
         Cause::Frame => 2,
-        Cause::Value => 3,
-        Cause::Text => 4,
+        Cause::Value { needed, had } => detailed(3, 0, needed, had),
+        Cause::Text { at } => detailed(4, 0, at, 0),
         Cause::Odd => 5,
     }
 }
@@ -31,8 +31,8 @@ fn unwritten_number(u: Unwritten) -> u64 {
     }
 }
 
-// What is handed off, in the places that its number has for it.
-fn handed(kind: u64, index: u16, start: u16, len: u16) -> u64 {
+// A kind with its index, start and length, in the places that a number has for them.
+fn detailed(kind: u64, index: u16, start: u16, len: u16) -> u64 {
     let place = wrapping_add_u64(
         268435456 * (start as u64 % 8192),
         2199023255552 * (len as u64 % 8192),
@@ -44,8 +44,8 @@ fn event_number(e: Event) -> u64 {
     match e {
         Event::MapVersion => 1,
         Event::PayloadShort(c) => cause_number(c),
-        Event::Server { index, start, len } => handed(6, index, start, len),
-        Event::Client { index, start, len } => handed(7, index, start, len),
+        Event::Server { index, start, len } => detailed(6, index, start, len),
+        Event::Client { index, start, len } => detailed(7, index, start, len),
         Event::WriteRefused(u) => unwritten_number(u),
     }
 }

@@ -4,11 +4,11 @@ ghost use Prim.Native.Nat.{_≤_};
 ghost use lib.ListN.{length};
 use crate::Called;
 use crate::Memory;
+use crate::Written;
 use loomfinch::Answer;
 use loomfinch::Head;
 use loomfinch::Inserted;
 use loomfinch::Restored;
-use loomfinch::Wrote;
 
 fn answer_number(a: Answer) -> u64 {
     match a {
@@ -21,14 +21,6 @@ fn inserted_number(a: Inserted) -> u64 {
     match a {
         Inserted::Done => 0,
         Inserted::Refused(r) => answers::number(r),
-    }
-}
-
-fn wrote_number(a: Wrote) -> u64 {
-    match a {
-        Wrote::Done => 0,
-        Wrote::RestoreRequested => 19,
-        Wrote::Refused(r) => answers::number(r),
     }
 }
 
@@ -102,7 +94,7 @@ impl Memory {
         Called { memory, answer }
     }
 
-    pub fn write(self, size: usize, index: u16, sub_index: u8, kind: u64, data: &[u8]) -> Called
+    pub fn write(self, size: usize, index: u16, sub_index: u8, kind: u64, data: &[u8]) -> Written
         requires { ⌜ size ≤ 1000 ⌝ }
     {
         let objects = self.objects;
@@ -111,7 +103,7 @@ impl Memory {
         let mut bytes = self.bytes;
         let held = self.store;
         let mut store = sized(held);
-        let a = loomfinch::write(
+        let answer = loomfinch::write(
             &objects,
             &slots,
             &mut words,
@@ -122,7 +114,6 @@ impl Memory {
             kind,
             data,
         );
-        let answer = wrote_number(a);
         let memory = Memory {
             objects,
             slots,
@@ -130,7 +121,7 @@ impl Memory {
             bytes,
             store,
         };
-        Called { memory, answer }
+        Written { memory, answer }
     }
 
     pub fn restore_power_on_values(self, size: usize, first: u16, last: u16) -> Called

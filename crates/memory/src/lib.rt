@@ -3,6 +3,8 @@
 mod asking;
 mod changing;
 
+use loomfinch::Wrote;
+
 pub struct Memory {
     pub objects: [u64; 108],
     pub slots: [u64; 900],
@@ -15,6 +17,12 @@ pub struct Memory {
 pub struct Called {
     pub memory: Memory,
     pub answer: u64,
+}
+
+// The memory after a write, and its answer.
+pub struct Written {
+    pub memory: Memory,
+    pub answer: Wrote,
 }
 
 // Nothing was called on it yet.

@@ -7,7 +7,9 @@
 //   F NAME ANSWER [INDEX]                                  finding by name
 //   C SIZE ANSWER [LIST]                                   the configured nodes, into SIZE bytes
 //   P INDEX SUB ANSWER                                     counting up
-//   W SIZE INDEX SUB TYPE DATA ANSWER                      writing, with the store's first SIZE bytes; DATA is the encoding
+//   W SIZE INDEX SUB TYPE DATA ANSWER [PLACE | NEEDED HAD]
+//                                                          writing, with the store's first SIZE bytes; DATA is the encoding, and
+//                                                          where it does not decode the line has what its fault says
 //   V INDEX COUNT ANSWER                                   the check of a mapping's count
 //   O SIZE FIRST LAST ANSWER                               restoring power-on values, from the store's first SIZE bytes
 //   A ROOM SENDER VERSION READY PAYLOAD ANSWER [COUNT EVENTS]
@@ -37,6 +39,7 @@ use asking_lines::read_line;
 use asking_lines::sum;
 use asking_lines::sum_with_store;
 use asking_lines::typed_line;
+use changing_lines::Told;
 use changing_lines::bit_line;
 use changing_lines::counter_line;
 use changing_lines::damage;
@@ -68,6 +71,12 @@ fn turned(s: &[u8], at: usize, called: Called) -> Turn {
     Turn { memory, right }
 }
 
+fn told(t: Told) -> Turn {
+    let memory = t.memory;
+    let right = t.right;
+    Turn { memory, right }
+}
+
 // A line that asks of the memory as it is, or of the codec.
 fn asked(kind: u8, s: &[u8], at: usize, m: Memory) -> bool {
     match kind {
@@ -94,7 +103,7 @@ pub fn take_turn(kind: u8, s: &[u8], at: usize, m: Memory) -> Turn {
         b'N' => turned(s, at, m.new()),
         b'I' => turned(s, at, insert_line(s, at, m)),
         b'P' => turned(s, at, counter_line(s, at, m)),
-        b'W' => turned(s, at, write_line(s, at, m)),
+        b'W' => told(write_line(s, at, m)),
         b'O' => turned(s, at, restore_line(s, at, m)),
         b'B' => turned(s, at, bit_line(s, at, m)),
         b'A' => consume_line(s, at, m),

@@ -44,6 +44,21 @@ pub fn next(s: &[u8], at: usize) -> usize
     s.len()
 }
 
+// Does the token that starts at `at` have another behind it in its line?
+pub fn has_next(s: &[u8], at: usize) -> bool {
+    let mut i = at;
+    while i < s.len() {
+        if s[i] == b' ' {
+            return true;
+        }
+        if s[i] == b'\n' {
+            return false;
+        }
+        i += 1;
+    }
+    false
+}
+
 // Puts the bytes that start at `at` into `out`, as many as it has room for, and answers how many.
 pub fn bytes(s: &[u8], at: usize, out: &mut [u8]) -> usize
     ensures { λ r. ⌜ Counts r (now (out .exit)) ⌝ }

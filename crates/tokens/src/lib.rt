@@ -11,6 +11,7 @@ pub use cells::same;
 pub use cells::sum_of;
 pub use cells::sum_of_bytes;
 pub use hex::bytes;
+pub use hex::has_next;
 pub use hex::index_at;
 pub use hex::last;
 pub use hex::next;

@@ -136,12 +136,12 @@ fn is_version(r: EventRecord) -> bool {
 fn is_cause(c: Cause, frame: bool) -> bool {
     match c {
         Cause::Frame => frame,
-        Cause::Value => !frame,
+        Cause::Value { needed, had } => !frame & (needed == 2) & (had == 1),
         _ => false,
     }
 }
 
-// PayloadShort, with cause Frame or Value.
+// PayloadShort, with cause Frame, or Value of a U16 that has one byte.
 fn is_short(r: EventRecord, element: u8, frame: bool) -> bool {
     let event = r.event;
     let told = match event {

@@ -24,5 +24,4 @@ write-spec =
     (λ c. search needs)
     slice-aggregate-write-5
     (λ c κs. search needs)
-    (λ c κs. search needs)
     returns)
