@@ -5,6 +5,7 @@ use std::fmt;
 
 /// Why an element of a mapping is written whole by no payload.
 #[derive(Debug, Clone, Copy, PartialEq, Eq, Hash)]
+#[non_exhaustive]
 #[repr(u8)]
 pub enum Fault {
     /// The element is no Unsigned64.
@@ -24,6 +25,7 @@ pub enum Fault {
 /// What the check says of a channel. A fault is an answer and no refusal. It displays as `Pass`, `NoSender` or
 /// `WrongLength at element 1`.
 #[derive(Debug, Clone, Copy, PartialEq, Eq, Hash)]
+#[non_exhaustive]
 #[must_use = "a channel with a fault is an answer and no error"]
 pub enum Checked {
     /// Every payload that the channel accepts is written whole.

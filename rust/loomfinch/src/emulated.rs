@@ -1,6 +1,7 @@
 //! The calls of the library for processors that it is not for: the functions of sys.rs, with each call made by a program
 //! of the library's processor (worker/worker.c) that runs on an emulator and is reached through a pipe.
 
+use crate::answer::Said;
 use crate::entry::Description;
 use crate::parts::Parts;
 use std::io::{self, Read, Write};
@@ -171,8 +172,15 @@ fn place<'a>(index: u16, sub_index: u8) -> [Given<'a>; 2] {
     [Number(index.into()), Number(sub_index.into())]
 }
 
-pub fn decode(type_number: u64, data: &[u8], numbers: &mut [u64]) -> u64 {
-    call(Function::Decode, &mut [Number(type_number), Bytes(data), ChangedWords(numbers)])
+/// The place and the count that an answer may have beside its number.
+fn lent(said: &mut Said) -> [Given<'_>; 2] {
+    [ChangedWords(from_mut(&mut said.place)), ChangedWords(from_mut(&mut said.had))]
+}
+
+pub fn decode(type_number: u64, data: &[u8], numbers: &mut [u64], said: &mut Said) -> u64 {
+    let [place, had] = lent(said);
+    let numbers = ChangedWords(numbers);
+    call(Function::Decode, &mut [Number(type_number), Bytes(data), numbers, place, had])
 }
 
 pub fn encode(type_number: u64, word: u64, part: &[u8], out: &mut [u8], written: &mut u64) -> u64 {
@@ -254,9 +262,11 @@ pub fn write(
     sub_index: u8,
     type_number: u64,
     data: &[u8],
+    said: &mut Said,
 ) -> u64 {
-    let [index, sub_index] = place(index, sub_index);
-    let given = [ChangedBytes(store), index, sub_index, Number(type_number), Bytes(data)];
+    let ([index, sub_index], [place, had]) = (place(index, sub_index), lent(said));
+    let (store, type_number) = (ChangedBytes(store), Number(type_number));
+    let given = [store, index, sub_index, type_number, Bytes(data), place, had];
     change(Function::Write, parts, given)
 }
 

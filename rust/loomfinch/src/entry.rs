@@ -35,6 +35,7 @@ impl Object {
 
 /// The kind of an object.
 #[derive(Debug, Clone, Copy, PartialEq, Eq, Hash)]
+#[non_exhaustive]
 #[repr(u8)]
 pub enum Kind {
     /// One value, at sub-index 0.
@@ -90,15 +91,17 @@ impl AccessType {
 /// ```
 /// use loomfinch::{AccessType, Object, ObjectEntry, ObjectValue};
 ///
-/// let cue = ObjectEntry {
-///     name: "Cue",
-///     access: Some(AccessType::ReadWriteStore),
-///     rooms: vec![40],
-///     ..ObjectEntry::new(Object::Variable(ObjectValue::VisibleString("Act I".into())))
-/// };
-/// assert_eq!(cue.default_value, None);
+/// let cue = ObjectEntry::new(Object::Variable("Act I".into()))
+///     .with_name("Cue")
+///     .with_access(AccessType::ReadWriteStore)
+///     .with_rooms([40]);
+/// assert_eq!((cue.name, cue.access), ("Cue", Some(AccessType::ReadWriteStore)));
+/// assert_eq!((&cue.default_value, &cue.rooms), (&None, &vec![40]));
+/// let default = ObjectValue::from("Act I");
+/// assert_eq!(cue.with_default_value(default.clone()).default_value, Some(default));
 /// ```
 #[derive(Debug, Clone, PartialEq)]
+#[non_exhaustive]
 pub struct ObjectEntry<'n> {
     /// The values.
     pub object: Object,
@@ -113,10 +116,30 @@ pub struct ObjectEntry<'n> {
     pub rooms: Vec<usize>,
 }
 
-impl ObjectEntry<'_> {
+impl<'n> ObjectEntry<'n> {
     /// An object without a name, access and default, each value with just the room that it takes.
     pub fn new(object: Object) -> Self {
         ObjectEntry { object, name: "", access: None, default_value: None, rooms: Vec::new() }
+    }
+
+    /// The object with a name.
+    pub fn with_name(self, name: &'n str) -> Self {
+        ObjectEntry { name, ..self }
+    }
+
+    /// The object with an access; `None` is none.
+    pub fn with_access(self, access: impl Into<Option<AccessType>>) -> Self {
+        ObjectEntry { access: access.into(), ..self }
+    }
+
+    /// The object with a default; `None` is none.
+    pub fn with_default_value(self, default_value: impl Into<Option<ObjectValue>>) -> Self {
+        ObjectEntry { default_value: default_value.into(), ..self }
+    }
+
+    /// The object with rooms, one for each value, in order.
+    pub fn with_rooms(self, rooms: impl Into<Vec<usize>>) -> Self {
+        ObjectEntry { rooms: rooms.into(), ..self }
     }
 }
 

@@ -1,23 +1,51 @@
 //! What happened while payloads were consumed.
 
 use crate::types::{NodeId, PDOVersion};
+use crate::words::bytes;
 use std::fmt;
 
-/// Why a field stopped the run of its payload.
+/// Why a field stopped the run of its payload. It displays as `Frame`, `Value, which needs 2 bytes and has 1`, `Text, in which
+/// no UTF-8 goes on at byte 8` or `Odd`.
+///
+/// ```
+/// use loomfinch::{Cause, Dictionary, Event, NodeId, Object, ObjectEntry, ObjectValue, PDOVersion, PdoMappingEntry};
+///
+/// let mut rig = Dictionary::new(Default::default());
+/// rig.insert(0x1400, ObjectEntry::new(Object::Record(vec![ObjectValue::Unsigned8(5)])))?;
+/// // Bytes 2 to 7 of the payload are the caption.
+/// let caption = PdoMappingEntry { index: 0x6100, sub_index: 0, offset_bits: 16, length_bits: 48 };
+/// rig.insert(0x1600, ObjectEntry::new(Object::Array(vec![caption.to_u64().into()])))?;
+/// rig.insert(0x6100, ObjectEntry::new(Object::Variable("Act II".into())))?;
+///
+/// // The field is no UTF-8: 63h, its byte 2, cannot follow E9h.
+/// let events = rig.consume_pdo_payload(NodeId(5), b"\x10\x27D\xE9cor ", PDOVersion(0), true)?;
+/// assert_eq!(events.as_slice()[0].event, Event::PayloadShort(Cause::Text { at: 2 }));
+/// # Ok::<(), loomfinch::Refusal>(())
+/// ```
 #[derive(Debug, Clone, Copy, PartialEq, Eq, Hash)]
+#[non_exhaustive]
 pub enum Cause {
     /// The field ends past the payload.
     Frame,
     /// The field has fewer bytes than the value's type.
-    Value,
+    Value {
+        /// How many bytes the value's type has.
+        needed: u16,
+        /// How many bytes the field has.
+        had: u16,
+    },
     /// The field is no UTF-8.
-    Text,
+    Text {
+        /// The first byte, from 0 within the field, at which no UTF-8 goes on; the field's length where it only ends too early.
+        at: u16,
+    },
     /// The field has an odd number of bytes for units of 16 bits.
     Odd,
 }
 
 /// Why a field was not written; the run of its payload went on.
 #[derive(Debug, Clone, Copy, PartialEq, Eq, Hash)]
+#[non_exhaustive]
 pub enum Unwritten {
     /// The target is a list's count.
     CountNotWritable,
@@ -27,6 +55,7 @@ pub enum Unwritten {
 
 /// What happened. It displays as `MapVersion`, `PayloadShort: Frame` or `Server: 1200h, 2 bytes from byte 6 on`.
 #[derive(Debug, Clone, Copy, PartialEq, Eq, Hash)]
+#[non_exhaustive]
 pub enum Event {
     /// The payload has the wrong mapping version, and nothing of it was written.
     MapVersion,
@@ -73,8 +102,8 @@ impl EventRecord {
         let event = match bits(0, 4) {
             1 => Event::MapVersion,
             2 => Event::PayloadShort(Cause::Frame),
-            3 => Event::PayloadShort(Cause::Value),
-            4 => Event::PayloadShort(Cause::Text),
+            3 => Event::PayloadShort(Cause::Value { needed: start, had: len }),
+            4 => Event::PayloadShort(Cause::Text { at: start }),
             5 => Event::PayloadShort(Cause::Odd),
             6 => Event::Server { index, start, len },
             7 => Event::Client { index, start, len },
@@ -89,7 +118,14 @@ impl EventRecord {
 
 impl fmt::Display for Cause {
     fn fmt(&self, f: &mut fmt::Formatter<'_>) -> fmt::Result {
-        write!(f, "{self:?}")
+        match *self {
+            Cause::Frame => f.write_str("Frame"),
+            Cause::Value { needed, had } => {
+                write!(f, "Value, which needs {} and has {had}", bytes(needed.into()))
+            }
+            Cause::Text { at } => write!(f, "Text, in which no UTF-8 goes on at byte {at}"),
+            Cause::Odd => f.write_str("Odd"),
+        }
     }
 }
 
@@ -118,8 +154,7 @@ fn handed_on(
     start: u16,
     len: u16,
 ) -> fmt::Result {
-    let plural = if len == 1 { "" } else { "s" };
-    write!(f, "{to}: {index:04X}h, {len} byte{plural} from byte {start} on")
+    write!(f, "{to}: {index:04X}h, {} from byte {start} on", bytes(len.into()))
 }
 
 impl fmt::Display for EventRecord {

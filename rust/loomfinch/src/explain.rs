@@ -7,6 +7,7 @@ use crate::mapping::PdoMappingEntry;
 use crate::refusal::Refusal;
 use crate::sys;
 use crate::value::ValueType;
+use crate::words::{bytes, counted, with_article};
 use std::fmt;
 
 /// How many numbers explain an element.
@@ -14,6 +15,7 @@ const EXPLAIN_NUMBERS: usize = 11;
 
 /// What is at the place that an element maps to.
 #[derive(Debug, Clone, Copy, PartialEq, Eq, Hash)]
+#[non_exhaustive]
 pub enum Target {
     /// There is no such object.
     NoObject,
@@ -40,6 +42,7 @@ pub enum Target {
 /// What an element of a mapping maps, and onto what. It displays as a sentence for a person, with the fault's name behind it where
 /// there is one: `element 1 maps 4 bytes onto 6000h/0, an Unsigned16 of 2 bytes: WrongLength`.
 #[derive(Debug, Clone, Copy, PartialEq, Eq, Hash)]
+#[non_exhaustive]
 pub struct Explanation {
     /// The place of the element in the mapping, from 1.
     pub element: u8,
@@ -122,7 +125,7 @@ impl fmt::Display for Explanation {
             }
         };
         match entry.field() {
-            Some(field) => write!(f, "maps {}", counted(field.len(), "byte"))?,
+            Some(field) => write!(f, "maps {}", bytes(field.len()))?,
             None => {
                 let length = counted(entry.length_bits.into(), "bit");
                 write!(f, "maps {length} from bit {} on", entry.offset_bits)?;
@@ -150,23 +153,11 @@ impl fmt::Display for Target {
             Target::NoSubIndex => f.write_str("a sub-index that the object does not have"),
             Target::Count => f.write_str("a list's count"),
             Target::Fixed { value_type, size } => {
-                write!(f, "{} of {}", with_article(value_type), counted(size, "byte"))
+                write!(f, "{} of {}", with_article(value_type), bytes(size))
             }
             Target::String { value_type, room } => {
-                write!(f, "{} with room for {}", with_article(value_type), counted(room, "byte"))
+                write!(f, "{} with room for {}", with_article(value_type), bytes(room))
             }
         }
     }
-}
-
-/// `1 byte`, `2 bytes`.
-fn counted(count: usize, what: &str) -> String {
-    let plural = if count == 1 { "" } else { "s" };
-    format!("{count} {what}{plural}")
-}
-
-fn with_article(value_type: ValueType) -> String {
-    let name = value_type.name();
-    let vowel = name.starts_with(['I', 'O', 'U']) && value_type != ValueType::UnicodeString;
-    format!("{} {name}", if vowel { "an" } else { "a" })
 }

@@ -30,8 +30,26 @@
 //!
 //! # Answers
 //!
-//! A call that does nothing says why by a [`Refusal`], the `Err` of its `Result`. What the check says of a channel,
-//! [`Checked`], a fault too, is an answer, and so is an [`Event`] of a payload that was consumed.
+//! A call that does nothing says why by a [`Refusal`], the `Err` of its `Result`; one that judges a text or a length says where
+//! as well, by [`Refused`]. What the check says of a channel, [`Checked`], a fault too, is an answer, and so is an [`Event`] of a
+//! payload that was consumed.
+//!
+//! What calls answer will grow: a `match` on an enum of answers has a last arm for what is to come, and [`Refused`],
+//! [`ObjectInfo`] and [`Explanation`] are taken apart with `..`. An [`ObjectEntry`] is made by [`new`](ObjectEntry::new) and its
+//! `with_` methods. Values, their types and accesses are those of DS 301, and are all there.
+//!
+//! ```
+//! use loomfinch::{Cause, Event};
+//!
+//! fn mends(event: Event) -> &'static str {
+//!     match event {
+//!         Event::PayloadShort(Cause::Text { .. }) => "the translator",
+//!         Event::MapVersion | Event::PayloadShort(_) => "whoever set up the drive",
+//!         _ => "whoever wrote the mapping",
+//!     }
+//! }
+//! assert_eq!(mends(Event::PayloadShort(Cause::Text { at: 8 })), "the translator");
+//! ```
 //!
 //! Each call does what the library's call of its name does, to the numbers: docs/RULES.md has the rules, and
 //! include/loomfinch.h the calls for C. docs/MOVING.md shows how code for powerlink-rs changes.
@@ -67,8 +85,10 @@ mod layout;
 mod mapping;
 mod parts;
 mod refusal;
+mod refused;
 mod types;
 mod value;
+mod words;
 
 #[cfg(not(target_arch = "x86_64"))]
 mod emulated;
@@ -86,7 +106,8 @@ pub use event::{Cause, Event, EventRecord, Events, Payload, ReceivedPayload, Unw
 pub use explain::{Explanation, Target};
 pub use mapping::PdoMappingEntry;
 pub use parts::{Capacity, Parts};
-pub use refusal::Refusal;
+pub use refusal::{NoRefusal, Refusal};
+pub use refused::{Place, Refused};
 pub use types::{
     IpAddress, MacAddress, NetTime, NodeId, PDOVersion, RelativeTime, TimeDifference, TimeOfDay,
 };

@@ -1,8 +1,12 @@
 //! Why a call did nothing.
 
+use std::error::Error;
 use std::fmt;
 
 /// Why a call did nothing: each refusal has a number and a name, and leaves everything as it was.
+///
+/// The numbers are those of docs/RULES.md, 1 to 18; there will be more, with gaps between them. 19 stands for
+/// [`Written::RestoreRequested`](crate::Written::RestoreRequested), which is no refusal.
 ///
 /// ```
 /// use loomfinch::{Capacity, Dictionary, Refusal};
@@ -11,115 +15,161 @@ use std::fmt;
 /// let refusal = dictionary.read(0x6000, 0).unwrap_err();
 /// assert_eq!(refusal, Refusal::ObjectNotFound);
 /// assert_eq!((refusal.number(), refusal.name()), (3, "ObjectNotFound"));
+/// assert_eq!((u8::from(refusal), Refusal::try_from(3)), (3, Ok(refusal)));
 /// ```
 #[derive(Debug, Clone, Copy, PartialEq, Eq, Hash)]
+#[non_exhaustive]
 #[repr(u8)]
 pub enum Refusal {
     /// The memory is no dictionary.
     Malformed = 1,
-    /// A value, name, room, list or default breaks a rule for sizes.
-    BadValue,
+    /// A value, name, room, list or default breaks a rule for sizes; bad text or too few bytes in writing an
+    /// encoding.
+    BadValue = 2,
     /// No such index or name.
-    ObjectNotFound,
+    ObjectNotFound = 3,
     /// No such sub-index there.
-    SubObjectNotFound,
+    SubObjectNotFound = 4,
     /// Another type than the one there or asked for; bad text in decoding.
-    TypeMismatch,
+    TypeMismatch = 5,
     /// The object's access is ReadOnly or Constant.
-    ReadOnly,
+    ReadOnly = 6,
     /// 1010h or 1011h: not its signature, or sub-index 0.
-    BadSignature,
+    BadSignature = 7,
     /// 1010h or 1011h: there is no store.
-    NoStorage,
+    NoStorage = 8,
     /// Sub-index 0 of a list that is no mapping.
-    CountNotWritable,
+    CountNotWritable = 9,
     /// One of the counted elements of a mapping is missing or no Unsigned64.
-    MissingEntries,
+    MissingEntries = 10,
     /// The mapping reaches past the limit for payloads.
-    PdoMapOverrun,
+    PdoMapOverrun = 11,
     /// Data to decode or an output is too short.
-    BufferTooShort,
+    BufferTooShort = 12,
     /// A string is longer than the room of its place.
-    TooLong,
+    TooLong = 13,
     /// A payload has more than 1490 bytes.
-    PayloadTooLong,
+    PayloadTooLong = 14,
     /// The event list has fewer than 254 places.
-    NoEventRoom,
+    NoEventRoom = 15,
     /// The index is taken.
-    Occupied,
+    Occupied = 16,
     /// The dictionary has no room for the object.
-    Full,
+    Full = 17,
     /// The store cannot hold what is to be saved.
-    StoreFull,
+    StoreFull = 18,
 }
 
-/// The refusals in the order of their numbers, from 1 on, with their names.
-const REFUSALS: [(Refusal, &str); 18] = [
-    (Refusal::Malformed, "Malformed"),
-    (Refusal::BadValue, "BadValue"),
-    (Refusal::ObjectNotFound, "ObjectNotFound"),
-    (Refusal::SubObjectNotFound, "SubObjectNotFound"),
-    (Refusal::TypeMismatch, "TypeMismatch"),
-    (Refusal::ReadOnly, "ReadOnly"),
-    (Refusal::BadSignature, "BadSignature"),
-    (Refusal::NoStorage, "NoStorage"),
-    (Refusal::CountNotWritable, "CountNotWritable"),
-    (Refusal::MissingEntries, "MissingEntries"),
-    (Refusal::PdoMapOverrun, "PdoMapOverrun"),
-    (Refusal::BufferTooShort, "BufferTooShort"),
-    (Refusal::TooLong, "TooLong"),
-    (Refusal::PayloadTooLong, "PayloadTooLong"),
-    (Refusal::NoEventRoom, "NoEventRoom"),
-    (Refusal::Occupied, "Occupied"),
-    (Refusal::Full, "Full"),
-    (Refusal::StoreFull, "StoreFull"),
+/// Every refusal.
+const ALL: [Refusal; 18] = [
+    Refusal::Malformed,
+    Refusal::BadValue,
+    Refusal::ObjectNotFound,
+    Refusal::SubObjectNotFound,
+    Refusal::TypeMismatch,
+    Refusal::ReadOnly,
+    Refusal::BadSignature,
+    Refusal::NoStorage,
+    Refusal::CountNotWritable,
+    Refusal::MissingEntries,
+    Refusal::PdoMapOverrun,
+    Refusal::BufferTooShort,
+    Refusal::TooLong,
+    Refusal::PayloadTooLong,
+    Refusal::NoEventRoom,
+    Refusal::Occupied,
+    Refusal::Full,
+    Refusal::StoreFull,
 ];
 
 impl Refusal {
-    /// The number of the refusal in docs/RULES.md, 1 to 18.
+    /// The number of the refusal in docs/RULES.md.
     pub fn number(self) -> u8 {
         self as u8
     }
 
     /// The refusal of a number, or none.
     pub fn from_number(number: u8) -> Option<Self> {
-        let place = usize::from(number).checked_sub(1)?;
-        REFUSALS.get(place).map(|&(refusal, _)| refusal)
+        ALL.into_iter().find(|refusal| refusal.number() == number)
     }
 
     /// The name of the refusal in docs/RULES.md.
     pub fn name(self) -> &'static str {
-        REFUSALS[usize::from(self.number()) - 1].1
+        self.words().0
     }
 
-    fn meaning(self) -> &'static str {
+    /// The name, and what it means.
+    fn words(self) -> (&'static str, &'static str) {
         match self {
-            Refusal::Malformed => "the memory is no dictionary",
-            Refusal::BadValue => "a value, name, room, list or default breaks a rule for sizes",
-            Refusal::ObjectNotFound => "no such index or name",
-            Refusal::SubObjectNotFound => "no such sub-index there",
-            Refusal::TypeMismatch => "another type than the one there or asked for, or bad text",
-            Refusal::ReadOnly => "the object may not be written",
-            Refusal::BadSignature => "not the signature, or sub-index 0",
-            Refusal::NoStorage => "there is no store",
-            Refusal::CountNotWritable => "a list's count may not be written",
-            Refusal::MissingEntries => "an element of the mapping is missing or no Unsigned64",
-            Refusal::PdoMapOverrun => "the mapping reaches past the limit for payloads",
-            Refusal::BufferTooShort => "the data or the output is too short",
-            Refusal::TooLong => "a string is longer than its room",
-            Refusal::PayloadTooLong => "the payload has more than 1490 bytes",
-            Refusal::NoEventRoom => "the event list has fewer than 254 places",
-            Refusal::Occupied => "the index is taken",
-            Refusal::Full => "the dictionary has no room for the object",
-            Refusal::StoreFull => "the store cannot hold what is to be saved",
+            Refusal::Malformed => ("Malformed", "the memory is no dictionary"),
+            Refusal::BadValue => {
+                ("BadValue", "a value, name, room, list or default breaks a rule for sizes")
+            }
+            Refusal::ObjectNotFound => ("ObjectNotFound", "no such index or name"),
+            Refusal::SubObjectNotFound => ("SubObjectNotFound", "no such sub-index there"),
+            Refusal::TypeMismatch => {
+                ("TypeMismatch", "another type than the one there or asked for, or bad text")
+            }
+            Refusal::ReadOnly => ("ReadOnly", "the object may not be written"),
+            Refusal::BadSignature => ("BadSignature", "not the signature, or sub-index 0"),
+            Refusal::NoStorage => ("NoStorage", "there is no store"),
+            Refusal::CountNotWritable => ("CountNotWritable", "a list's count may not be written"),
+            Refusal::MissingEntries => {
+                ("MissingEntries", "an element of the mapping is missing or no Unsigned64")
+            }
+            Refusal::PdoMapOverrun => {
+                ("PdoMapOverrun", "the mapping reaches past the limit for payloads")
+            }
+            Refusal::BufferTooShort => ("BufferTooShort", "the data or the output is too short"),
+            Refusal::TooLong => ("TooLong", "a string is longer than its room"),
+            Refusal::PayloadTooLong => ("PayloadTooLong", "the payload has more than 1490 bytes"),
+            Refusal::NoEventRoom => ("NoEventRoom", "the event list has fewer than 254 places"),
+            Refusal::Occupied => ("Occupied", "the index is taken"),
+            Refusal::Full => ("Full", "the dictionary has no room for the object"),
+            Refusal::StoreFull => ("StoreFull", "the store cannot hold what is to be saved"),
         }
     }
 }
 
 impl fmt::Display for Refusal {
     fn fmt(&self, f: &mut fmt::Formatter<'_>) -> fmt::Result {
-        write!(f, "{} ({}): {}", self.name(), self.number(), self.meaning())
+        let (name, meaning) = self.words();
+        write!(f, "{name} ({}): {meaning}", self.number())
     }
 }
 
-impl std::error::Error for Refusal {}
+impl Error for Refusal {}
+
+impl From<Refusal> for u8 {
+    fn from(refusal: Refusal) -> u8 {
+        refusal.number()
+    }
+}
+
+/// A number that no refusal has.
+///
+/// ```
+/// use loomfinch::{NoRefusal, Refusal};
+///
+/// assert_eq!(Refusal::try_from(0), Err(NoRefusal(0)));
+/// let restore_requested = Refusal::try_from(19).unwrap_err();
+/// assert_eq!(restore_requested.to_string(), "no refusal has the number 19");
+/// ```
+#[derive(Debug, Clone, Copy, PartialEq, Eq, Hash)]
+pub struct NoRefusal(pub u8);
+
+impl fmt::Display for NoRefusal {
+    fn fmt(&self, f: &mut fmt::Formatter<'_>) -> fmt::Result {
+        write!(f, "no refusal has the number {}", self.0)
+    }
+}
+
+impl Error for NoRefusal {}
+
+impl TryFrom<u8> for Refusal {
+    type Error = NoRefusal;
+
+    fn try_from(number: u8) -> Result<Self, NoRefusal> {
+        Refusal::from_number(number).ok_or(NoRefusal(number))
+    }
+}

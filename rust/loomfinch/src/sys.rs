@@ -3,6 +3,7 @@
 
 #![allow(unsafe_code)]
 
+use crate::answer::Said;
 use crate::entry::Description;
 use crate::parts::Parts;
 
@@ -13,6 +14,8 @@ extern "C" {
         data_len: usize,
         numbers: *mut u64,
         numbers_len: usize,
+        place: *mut u64,
+        had: *mut u64,
     ) -> u64;
     fn loomfinch_encode(
         type_number: u64,
@@ -61,7 +64,7 @@ declare! { mut:
         vals: *const u64, vals_len: usize, encodings: *const u8, encodings_len: usize);
     loomfinch_increment_counter(index: u16, sub_index: u8);
     loomfinch_write(store: *mut u8, store_len: usize, index: u16, sub_index: u8, type_number: u64,
-        data: *const u8, data_len: usize);
+        data: *const u8, data_len: usize, place: *mut u64, had: *mut u64);
     loomfinch_restore_power_on_values(store: *const u8, store_len: usize, first: u16, last: u16);
     loomfinch_consume_pdo_payload(payload: *const u8, payload_len: usize, sender: u8, version: u8, ready: u64,
         events: *mut u64, events_len: usize, count: *mut u64);
@@ -87,7 +90,7 @@ macro_rules! call {
     };
 }
 
-pub fn decode(type_number: u64, data: &[u8], numbers: &mut [u64]) -> u64 {
+pub fn decode(type_number: u64, data: &[u8], numbers: &mut [u64], said: &mut Said) -> u64 {
     // SAFETY: as in `call`.
     unsafe {
         loomfinch_decode(
@@ -96,6 +99,8 @@ pub fn decode(type_number: u64, data: &[u8], numbers: &mut [u64]) -> u64 {
             data.len(),
             numbers.as_mut_ptr(),
             numbers.len(),
+            &mut said.place,
+            &mut said.had,
         )
     }
 }
@@ -192,6 +197,7 @@ pub fn write(
     sub_index: u8,
     type_number: u64,
     data: &[u8],
+    said: &mut Said,
 ) -> u64 {
     let (store, store_len) = (store.as_mut_ptr(), store.len());
     let (data, data_len) = (data.as_ptr(), data.len());
@@ -203,7 +209,9 @@ pub fn write(
         sub_index,
         type_number,
         data,
-        data_len
+        data_len,
+        &mut said.place,
+        &mut said.had
     ))
 }
 

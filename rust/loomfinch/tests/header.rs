@@ -21,6 +21,24 @@ fn constant(name: &str) -> String {
     constant
 }
 
+/// Every refusal of the crate, rising by number.
+fn refusals() -> impl Iterator<Item = Refusal> {
+    (0..=u8::MAX).filter_map(Refusal::from_number)
+}
+
+#[test]
+fn the_crate_has_every_refusal_of_the_header() {
+    let header = file("loomfinch.h");
+    let answers = header.split("enum {").nth(1).unwrap().split('}').next().unwrap();
+    let numbers = answers.split(" = ").skip(1).map(|rest| {
+        let digits = rest.find(|c: char| !c.is_ascii_digit()).unwrap_or(rest.len());
+        rest[..digits].parse::<u8>().unwrap()
+    });
+    let done_and_restore_requested = [0, 19];
+    let wanted = numbers.filter(|number| !done_and_restore_requested.contains(number));
+    assert!(refusals().map(u8::from).eq(wanted));
+}
+
 #[test]
 fn constants_have_the_crate_s_numbers() {
     let header = file("loomfinch.h");
@@ -33,8 +51,8 @@ fn constants_have_the_crate_s_numbers() {
     for number in 0..=20 {
         has(&constant(ValueType::from_number(number).unwrap().name()), number);
     }
-    for number in 1..=18 {
-        has(&constant(Refusal::from_number(number).unwrap().name()), number);
+    for refusal in refusals() {
+        has(&constant(refusal.name()), refusal.number());
     }
     for number in 33..=38 {
         has(&constant(Fault::from_number(number).unwrap().name()), number);
@@ -85,13 +103,18 @@ fn the_parts_of_an_event_are_taken_from_64_bits() {
         let found = event_part(&header, name);
         assert!(found == wanted || (start + bits == 64 && found == highest), "{found}");
     }
+    for (name, part) in [("NEEDED", "START"), ("HAD", "LENGTH"), ("PLACE", "START")] {
+        assert_eq!(event_part(&header, name), format!("LOOMFINCH_EVENT_{part}(e)"));
+    }
 }
 
 #[test]
 fn the_terms_of_use_are_said() {
     let header = file("loomfinch.h");
     let terms = header.split("*/").next().unwrap();
-    for term in ["Null", "Aliasing", "Alignment", "Threads", "Stack", "System"] {
+    for term in
+        ["Answers", "Numbers", "Null", "Aliasing", "Alignment", "Threads", "Stack", "System"]
+    {
         assert!(terms.contains(&format!("\n * {term:<11}")), "{term}");
     }
 }
@@ -101,7 +124,7 @@ fn every_answer_has_its_name() {
     let header = file("loomfinch.h");
     let names = header.split("loomfinch_answer_name").nth(1).unwrap();
     let names: Vec<&str> = names.split('"').skip(1).step_by(2).collect();
-    let refusals = (1..=18).map(|number| Refusal::from_number(number).unwrap().name());
+    let refusals = refusals().map(Refusal::name);
     let faults = (33..=38).map(|number| Fault::from_number(number).unwrap().name());
     let mut wanted = vec!["Done"];
     wanted.extend(refusals);

@@ -57,7 +57,7 @@ struct argument {
 static uint64_t answer(uint64_t function, const struct argument *a) {
     switch (function) {
     case DECODE:
-        return loomfinch_decode(N(0), B(1), W(2));
+        return loomfinch_decode(N(0), B(1), W(2), a[3].at, a[4].at);
     case ENCODE:
         return loomfinch_encode(N(0), N(1), B(2), B(3), a[4].at);
     case FROM_U64:
@@ -87,7 +87,7 @@ static uint64_t answer(uint64_t function, const struct argument *a) {
     case VALIDATE_PDO_MAPPING:
         return loomfinch_validate_pdo_mapping(DICTIONARY, (uint16_t)N(4), (uint8_t)N(5));
     case WRITE:
-        return loomfinch_write(DICTIONARY, B(4), (uint16_t)N(5), (uint8_t)N(6), N(7), B(8));
+        return loomfinch_write(DICTIONARY, B(4), (uint16_t)N(5), (uint8_t)N(6), N(7), B(8), a[9].at, a[10].at);
     case RESTORE_POWER_ON_VALUES:
         return loomfinch_restore_power_on_values(DICTIONARY, B(4), (uint16_t)N(5), (uint16_t)N(6));
     case CONSUME_PDO_PAYLOAD:

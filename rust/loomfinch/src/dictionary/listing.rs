@@ -12,6 +12,7 @@ const MANAGING_NODE: u8 = 240;
 
 /// An object of a dictionary, as [`objects`](Dictionary::objects) lists it.
 #[derive(Debug, Clone, Copy, PartialEq, Eq)]
+#[non_exhaustive]
 pub struct ObjectInfo<'a> {
     /// Its index.
     pub index: u16,
@@ -42,7 +43,7 @@ impl Dictionary {
     ///
     /// let mut dictionary = Dictionary::new(Default::default());
     /// let times = [1_u32, 2, 3].map(ObjectValue::from);
-    /// let entry = ObjectEntry { name: "Move times", ..ObjectEntry::new(Object::Array(times.into())) };
+    /// let entry = ObjectEntry::new(Object::Array(times.into())).with_name("Move times");
     /// dictionary.insert(0x6200, entry)?;
     /// let object = dictionary.objects().next().unwrap();
     /// assert_eq!((object.index, object.kind, object.elements), (0x6200, Kind::Array, 3));

@@ -25,11 +25,8 @@ use std::fmt;
 /// use loomfinch::{Capacity, Dictionary, Object, ObjectEntry, ObjectValue};
 ///
 /// let mut dictionary = Dictionary::new(Capacity { objects: 8, values: 32, bytes: 512 });
-/// let speed = ObjectEntry {
-///     name: "Speed",
-///     ..ObjectEntry::new(Object::Variable(ObjectValue::Unsigned16(2_500)))
-/// };
-/// dictionary.insert(0x6000, speed)?;
+/// let speed = Object::Variable(ObjectValue::Unsigned16(2_500));
+/// dictionary.insert(0x6000, ObjectEntry::new(speed).with_name("Speed"))?;
 /// assert_eq!(dictionary.find_by_name("Speed")?, 0x6000);
 /// assert_eq!(dictionary.read_u16(0x6000, 0)?, 2_500);
 /// # Ok::<(), loomfinch::Refusal>(())

@@ -1,11 +1,12 @@
 //! Writing, saving and restoring.
 
 use super::Dictionary;
-use crate::answer::done;
+use crate::answer::{done, done_at, Said};
 use crate::parts::Parts;
 use crate::refusal::Refusal;
+use crate::refused::Refused;
 use crate::sys;
-use crate::value::ObjectValue;
+use crate::value::{ObjectValue, ValueType};
 
 /// The index whose write saves.
 const STORE_PARAMETERS: u16 = 0x1010;
@@ -15,6 +16,7 @@ const RESTORE_REQUESTED: u64 = 19;
 
 /// What a write has done.
 #[derive(Debug, Clone, Copy, PartialEq, Eq, Hash)]
+#[non_exhaustive]
 pub enum Written {
     /// The value is written, or the values are saved.
     Done,
@@ -55,7 +57,38 @@ impl Dictionary {
         sub_index: u8,
         value: ObjectValue,
     ) -> Result<Written, Refusal> {
-        write(&mut self.parts, &mut self.store, index, sub_index, &value)
+        Ok(write(&mut self.parts, &mut self.store, index, sub_index, &value)?)
+    }
+
+    /// Writes a value of the type that the place has, given as it travels: its type and its encoding, as SDO or a file brings
+    /// them. What it does is what [`write`](Dictionary::write) does.
+    ///
+    /// Refuses first with [`BadValue`](Refusal::BadValue) data that is not just a value of the type: a text that is not UTF-8,
+    /// with the [place](crate::Place::Text) of the first byte at which none goes on; fewer bytes than the type has, with the
+    /// [bytes](crate::Place::Value) needed and had; without a place more bytes than a type of a fixed size has, and units of 16
+    /// bits that are an odd number of bytes. Then it refuses as [`write`](Dictionary::write) does, without a place.
+    ///
+    /// ```
+    /// use loomfinch::{Dictionary, Object, ObjectEntry, Place, Refusal, Refused, ValueType, Written};
+    ///
+    /// let mut dictionary = Dictionary::new(Default::default());
+    /// let caption = ObjectEntry::new(Object::Variable("Act I".into())).with_rooms([40]);
+    /// dictionary.insert(0x6100, caption)?;
+    /// let text = ValueType::VisibleString;
+    /// assert_eq!(dictionary.write_encoded(0x6100, 0, text, "Décor".as_bytes())?, Written::Done);
+    /// let latin_1 = dictionary.write_encoded(0x6100, 0, text, b"D\xE9cor").unwrap_err();
+    /// assert_eq!(latin_1, Refused::new(Refusal::BadValue, Some(Place::Text { at: 2 })));
+    /// assert_eq!(dictionary.read_str(0x6100, 0)?, "Décor");
+    /// # Ok::<(), Refused>(())
+    /// ```
+    pub fn write_encoded(
+        &mut self,
+        index: u16,
+        sub_index: u8,
+        value_type: ValueType,
+        data: &[u8],
+    ) -> Result<Written, Refused> {
+        write_data(&mut self.parts, &mut self.store, index, sub_index, value_type, data)
     }
 
     /// Writes a value as [`write`](Dictionary::write) does, with a lent store instead of the dictionary's own.
@@ -66,7 +99,7 @@ impl Dictionary {
         value: ObjectValue,
         store: &mut [u8],
     ) -> Result<Written, Refusal> {
-        write(&mut self.parts, store, index, sub_index, &value)
+        Ok(write(&mut self.parts, store, index, sub_index, &value)?)
     }
 
     /// Saves a list into the dictionary's own store, as "save" written to 1010h does: list 1 is everything, 2 the indices
@@ -85,11 +118,8 @@ impl Dictionary {
     /// use loomfinch::{AccessType, Capacity, Dictionary, Object, ObjectEntry, ObjectValue};
     ///
     /// let mut dictionary = Dictionary::new(Capacity::MOST);
-    /// let time = ObjectEntry {
-    ///     access: Some(AccessType::ReadWriteStore),
-    ///     ..ObjectEntry::new(Object::Variable(ObjectValue::Unsigned16(2_500)))
-    /// };
-    /// dictionary.insert(0x6000, time)?;
+    /// let time = ObjectEntry::new(Object::Variable(ObjectValue::Unsigned16(2_500)));
+    /// dictionary.insert(0x6000, time.with_access(AccessType::ReadWriteStore))?;
     /// let mut store = [0; 64];
     /// dictionary.save_to(1, &mut store)?;
     /// dictionary.write(0x6000, 0, ObjectValue::Unsigned16(1))?;
@@ -98,7 +128,8 @@ impl Dictionary {
     /// # Ok::<(), loomfinch::Refusal>(())
     /// ```
     pub fn save_to(&self, list: u8, store: &mut [u8]) -> Result<(), Refusal> {
-        write(&mut self.parts.clone(), store, STORE_PARAMETERS, list, &signature()).map(|_| ())
+        write(&mut self.parts.clone(), store, STORE_PARAMETERS, list, &signature())?;
+        Ok(())
     }
 
     /// Restores the values of the objects from index `first` to index `last`, 1003h left out: to what the dictionary's own
@@ -128,11 +159,22 @@ fn write(
     index: u16,
     sub_index: u8,
     value: &ObjectValue,
-) -> Result<Written, Refusal> {
-    let type_number = value.value_type().number().into();
-    match sys::write(parts, store, index, sub_index, type_number, &value.serialize()) {
+) -> Result<Written, Refused> {
+    write_data(parts, store, index, sub_index, value.value_type(), &value.serialize())
+}
+
+fn write_data(
+    parts: &mut Parts,
+    store: &mut [u8],
+    index: u16,
+    sub_index: u8,
+    value_type: ValueType,
+    data: &[u8],
+) -> Result<Written, Refused> {
+    let (type_number, mut said) = (value_type.number().into(), Said::nothing());
+    match sys::write(parts, store, index, sub_index, type_number, data, &mut said) {
         RESTORE_REQUESTED => Ok(Written::RestoreRequested),
-        answer => done(answer).map(|()| Written::Done),
+        answer => done_at(answer, &said).map(|()| Written::Done),
     }
 }
 

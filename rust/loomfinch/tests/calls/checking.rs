@@ -1,7 +1,7 @@
 //! The check: a pass, each fault, and all channels at once.
 
 use crate::rig::{array, channel, dictionary, maps, record, rig, text, variable};
-use loomfinch::{Checked, Fault, ObjectEntry, ObjectValue, Refusal};
+use loomfinch::{Checked, Fault, ObjectValue, Refusal};
 
 fn at(element: u8, fault: Fault) -> Checked {
     Checked::Element { element, fault }
@@ -52,7 +52,7 @@ fn each_fault_of_a_channel_names_no_element() -> Result<(), Refusal> {
 
 #[test]
 fn a_string_is_judged_by_its_room() -> Result<(), Refusal> {
-    let roomy = || ObjectEntry { rooms: vec![4], ..variable(text("")) };
+    let roomy = || variable(text("")).with_rooms([4]);
     for (bits, wanted) in [(0, Checked::Pass), (32, Checked::Pass), (40, at(1, Fault::WrongLength))]
     {
         let mut dictionary = channel([maps(bits, 0, 0, 0x2000)])?;

@@ -68,27 +68,12 @@ fn a_fixed_type_ignores_what_is_behind_it() {
 }
 
 #[test]
-fn too_few_bytes_are_refused() {
+fn an_output_that_is_too_short_is_refused() {
     for (value, encoding) in samples() {
-        let short = &encoding[..encoding.len() - 1];
-        if value.value_type().size().is_some() {
-            assert_eq!(decode(value.value_type(), short), Err(Refusal::BufferTooShort));
-        }
         let mut out = vec![0xAA; encoding.len() - 1];
         assert_eq!(encode(&value, &mut out), Err(Refusal::BufferTooShort));
         assert!(out.iter().all(|&byte| byte == 0xAA));
     }
-}
-
-#[test]
-fn bad_text_and_half_a_unit_are_refused() {
-    for bad in
-        [&[0x80][..], &[0xC0, 0x80], &[0xED, 0xA0, 0x80], &[0xF4, 0x90, 0x80, 0x80], &[0xE2, 0x82]]
-    {
-        assert_eq!(decode(ValueType::VisibleString, bad), Err(Refusal::TypeMismatch));
-        assert_eq!(decode(ValueType::OctetString, bad), Ok(ObjectValue::OctetString(bad.to_vec())));
-    }
-    assert_eq!(decode(ValueType::UnicodeString, &[0x41]), Err(Refusal::TypeMismatch));
 }
 
 #[test]

@@ -2,7 +2,7 @@
 
 use crate::rig::{channel, dictionary, maps, record, rig, text, variable, NODE, VERSION};
 use loomfinch::{
-    Cause, Dictionary, Event, EventRecord, NodeId, ObjectEntry, ObjectValue, PDOVersion, Payload,
+    AccessType, Cause, Dictionary, Event, EventRecord, NodeId, ObjectValue, PDOVersion, Payload,
     Refusal, Unwritten, MOST_PAYLOADS, MOST_PAYLOAD_BYTES,
 };
 
@@ -39,7 +39,8 @@ fn a_payload_that_ends_early_stops_and_marks_its_node() -> Result<(), Refusal> {
 #[test]
 fn a_field_that_is_too_short_stops_without_a_mark() -> Result<(), Refusal> {
     let mut rig = rig(8)?;
-    assert_eq!(consume(&mut rig, &MOVE)?, [at(1, Event::PayloadShort(Cause::Value))]);
+    let cause = Cause::Value { needed: 2, had: 1 };
+    assert_eq!(consume(&mut rig, &MOVE)?, [at(1, Event::PayloadShort(cause))]);
     assert_eq!(rig.read_bytes(0x1C81, 0)?, [0; 32]);
     Ok(())
 }
@@ -77,7 +78,7 @@ fn a_wrong_version_names_no_element() -> Result<(), Refusal> {
 #[test]
 fn bad_text_and_half_a_unit_stop() -> Result<(), Refusal> {
     for (value, cause) in
-        [(text("a"), Cause::Text), (ObjectValue::UnicodeString(vec![0x41]), Cause::Odd)]
+        [(text("a"), Cause::Text { at: 0 }), (ObjectValue::UnicodeString(vec![0x41]), Cause::Odd)]
     {
         let mut dictionary = channel([maps(8, 0, 0, 0x2000)])?;
         dictionary.insert(0x2000, variable(value.clone()))?;
@@ -201,8 +202,8 @@ fn an_error_object_has_a_bit_for_each_node() -> Result<(), Refusal> {
 #[test]
 fn access_is_not_looked_at() -> Result<(), Refusal> {
     let mut dictionary = channel([maps(16, 0, 0, 0x2000)])?;
-    let access = Some(loomfinch::AccessType::ReadOnly);
-    dictionary.insert(0x2000, ObjectEntry { access, ..variable(ObjectValue::Unsigned16(0)) })?;
+    let time = variable(ObjectValue::Unsigned16(0));
+    dictionary.insert(0x2000, time.with_access(AccessType::ReadOnly))?;
     assert_eq!(consume(&mut dictionary, &MOVE)?, []);
     assert_eq!(dictionary.read_u16(0x2000, 0)?, 2_500);
     Ok(())

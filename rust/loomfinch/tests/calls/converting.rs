@@ -80,8 +80,9 @@ fn signed_numbers_are_read() -> Result<(), Refusal> {
 #[test]
 fn bytes_behind_a_value_are_refused() {
     assert_eq!(decode_exact(ValueType::Unsigned16, &[1, 0]), Ok(ObjectValue::Unsigned16(1)));
-    assert_eq!(decode_exact(ValueType::Unsigned16, &[1, 0, 0]), Err(Refusal::TypeMismatch));
-    assert_eq!(decode_exact(ValueType::Unsigned16, &[1]), Err(Refusal::BufferTooShort));
+    let refused = |data: &[u8]| decode_exact(ValueType::Unsigned16, data).unwrap_err();
+    assert_eq!(refused(&[1, 0, 0]), Refusal::TypeMismatch.into());
+    assert_eq!(refused(&[1]).refusal, Refusal::BufferTooShort);
     let text = decode_exact(ValueType::VisibleString, b"Act");
     assert_eq!(text, Ok(ObjectValue::from("Act")));
 }

@@ -1,7 +1,7 @@
 //! Explaining an element.
 
 use crate::rig::{channel, maps, rig, text, variable};
-use loomfinch::{Fault, ObjectEntry, ObjectValue, Refusal, Target, ValueType};
+use loomfinch::{Fault, ObjectValue, Refusal, Target, ValueType};
 
 #[test]
 fn an_element_in_order_is_explained_too() -> Result<(), Refusal> {
@@ -29,7 +29,7 @@ fn each_element_has_its_sentence() -> Result<(), Refusal> {
         maps(40, 0, 0, 0x2000),
         maps(24, 0, 0, 0x2001),
     ])?;
-    dictionary.insert(0x2000, ObjectEntry { rooms: vec![4], ..variable(text("")) })?;
+    dictionary.insert(0x2000, variable(text("")).with_rooms([4]))?;
     let units = ObjectValue::UnicodeString(vec![0x41; 2]);
     dictionary.insert(0x2001, variable(units))?;
     for (element, (fault, sentence)) in (1..).zip([

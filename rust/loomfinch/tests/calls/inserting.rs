@@ -27,12 +27,12 @@ fn an_object_that_breaks_a_rule_is_a_bad_value() {
     let entry = || variable(ObjectValue::Unsigned8(0));
     let list = |count| ObjectEntry::new(Object::Array(vec![ObjectValue::Boolean(0); count]));
     let bad = [
-        ObjectEntry { name: &long, ..entry() },
+        entry().with_name(&long),
         list(255),
-        ObjectEntry { rooms: vec![1_491], ..entry() },
-        ObjectEntry { rooms: vec![2], ..variable(text("abc")) },
-        ObjectEntry { rooms: vec![0, 0], ..entry() },
-        ObjectEntry { default_value: Some(text(&"a".repeat(1_491))), ..entry() },
+        entry().with_rooms([1_491]),
+        variable(text("abc")).with_rooms([2]),
+        entry().with_rooms([0, 0]),
+        entry().with_default_value(text(&"a".repeat(1_491))),
     ];
     for entry in bad {
         let mut dictionary = empty();
@@ -40,11 +40,8 @@ fn an_object_that_breaks_a_rule_is_a_bad_value() {
         assert_eq!(dictionary.insert(0x6000, entry.clone()), Err(Refusal::BadValue), "{entry:?}");
         assert_eq!(dictionary.parts(), &before);
     }
-    assert_eq!(empty().insert(0x6000, ObjectEntry { name: &long[..32], ..list(254) }), Ok(()));
-    assert_eq!(
-        empty().insert(0x6000, ObjectEntry { rooms: vec![1_490], ..list(0) }),
-        Err(Refusal::BadValue)
-    );
+    assert_eq!(empty().insert(0x6000, list(254).with_name(&long[..32])), Ok(()));
+    assert_eq!(empty().insert(0x6000, list(0).with_rooms([1_490])), Err(Refusal::BadValue));
 }
 
 #[test]
@@ -74,7 +71,7 @@ fn a_dictionary_holds_no_more_than_the_most() -> Result<(), Refusal> {
         Dictionary::new(Capacity { objects: usize::MAX, values: usize::MAX, bytes: usize::MAX });
     assert_eq!(dictionary.parts().bytes.len(), Capacity::MOST.bytes);
     assert_eq!(dictionary.parts().words.len(), Capacity::MOST.values);
-    let roomy = || ObjectEntry { rooms: vec![1_490], ..variable(text("")) };
+    let roomy = || variable(text("")).with_rooms([1_490]);
     for index in 0..21 {
         dictionary.insert(index, roomy())?;
     }
@@ -88,8 +85,7 @@ fn a_dictionary_holds_no_more_than_the_most() -> Result<(), Refusal> {
 
 #[test]
 fn a_room_outlasts_its_value() -> Result<(), Refusal> {
-    let mut dictionary =
-        dictionary([(0x2000, ObjectEntry { rooms: vec![4], ..variable(text("")) })])?;
+    let mut dictionary = dictionary([(0x2000, variable(text("")).with_rooms([4]))])?;
     assert_eq!(dictionary.write(0x2000, 0, text("four"))?, Written::Done);
     assert_eq!(dictionary.write(0x2000, 0, text("fifth")), Err(Refusal::TooLong));
     assert_eq!(dictionary.read_str(0x2000, 0)?, "four");

@@ -1,8 +1,7 @@
 //! Dictionaries over many calls, and in other threads.
 
 use crate::rig::{rig, text, variable, NODE, VERSION};
-use loomfinch::{Capacity, Checked, Dictionary, Events, ObjectEntry, ObjectValue, Refusal};
-use std::error::Error;
+use loomfinch::{Capacity, Checked, Dictionary, Events, ObjectValue, Refusal};
 use std::thread;
 
 #[test]
@@ -27,8 +26,7 @@ fn a_dictionary_grows_to_its_bounds() -> Result<(), Refusal> {
     let mut dictionary = Dictionary::new(Capacity { objects: 300, values: 300, bytes: 3_000 });
     for index in (0..300).rev() {
         let name = format!("{index}");
-        let entry = ObjectEntry { rooms: vec![4], ..variable(text(&name)) };
-        dictionary.insert(index, ObjectEntry { name: &name, ..entry })?;
+        dictionary.insert(index, variable(text(&name)).with_rooms([4]).with_name(&name))?;
     }
     assert_eq!(dictionary.insert(300, variable(text(""))), Err(Refusal::Full));
     for index in 0..300 {
@@ -69,17 +67,6 @@ fn dictionaries_are_used_in_threads() -> Result<(), Refusal> {
         assert_eq!(thread.join().expect("no panic"), Ok(100 * number as u16 + 24));
     }
     Ok(())
-}
-
-#[test]
-fn a_refusal_is_an_error_with_a_number_and_a_name() {
-    let refusal: Box<dyn Error> = Box::new(Refusal::TooLong);
-    assert_eq!(refusal.to_string(), "TooLong (13): a string is longer than its room");
-    for number in 1..=18 {
-        let refusal = Refusal::from_number(number).expect("a refusal");
-        assert_eq!((refusal.number(), refusal.name()), (number, &*format!("{refusal:?}")));
-    }
-    assert_eq!((Refusal::from_number(0), Refusal::from_number(19)), (None, None));
 }
 
 #[test]

@@ -2,27 +2,28 @@
 
 use crate::rig::{array, channel, dictionary, maps, record, rig, text, variable};
 use loomfinch::{
-    AccessType, Capacity, Dictionary, Kind, NodeId, ObjectEntry, ObjectInfo, ObjectValue,
-    PDOVersion, Refusal,
+    AccessType, Capacity, Dictionary, Kind, NodeId, ObjectInfo, ObjectValue, PDOVersion, Refusal,
 };
 
 #[test]
 fn objects_rise_by_index() -> Result<(), Refusal> {
     let access = Some(AccessType::ReadWriteStore);
-    let speed = ObjectEntry { name: "Speed", access, ..variable(7_u16.into()) };
+    let speed = variable(7_u16.into()).with_name("Speed").with_access(access);
     let dictionary = dictionary([
         (0x6200, array([1_u32, 2, 3].map(ObjectValue::from))),
         (0x6000, speed),
         (0x1400, record([])),
     ])?;
-    let object =
-        |index, kind, access, name, elements| ObjectInfo { index, kind, access, name, elements };
+    let columns = |object: ObjectInfo<'_>| {
+        let ObjectInfo { index, kind, access, name, elements, .. } = object;
+        (index, kind, access, name.to_owned(), elements)
+    };
     let wanted = [
-        object(0x1400, Kind::Record, None, "", 0),
-        object(0x6000, Kind::Variable, access, "Speed", 1),
-        object(0x6200, Kind::Array, None, "", 3),
+        (0x1400, Kind::Record, None, String::new(), 0),
+        (0x6000, Kind::Variable, access, "Speed".to_owned(), 1),
+        (0x6200, Kind::Array, None, String::new(), 3),
     ];
-    assert_eq!(dictionary.objects().collect::<Vec<_>>(), wanted);
+    assert_eq!(dictionary.objects().map(columns).collect::<Vec<_>>(), wanted);
     let found = [0x1400, 0x1401, 0x6000, 0xFFFF].map(|index| dictionary.contains(index));
     assert_eq!(found, [true, false, true, false]);
     Ok(())
@@ -31,7 +32,7 @@ fn objects_rise_by_index() -> Result<(), Refusal> {
 #[test]
 fn a_peek_is_a_read() -> Result<(), Refusal> {
     let mut dictionary = rig(16)?;
-    dictionary.insert(0x2000, ObjectEntry { rooms: vec![9], ..variable(text("Act I")) })?;
+    dictionary.insert(0x2000, variable(text("Act I")).with_rooms([9]))?;
     dictionary.insert(0x2001, variable(ObjectValue::Real64(-2.5)))?;
     for index in [0, 0x1400, 0x1600, 0x1C81, 0x2000, 0x2001, 0x6000, 0x6200, 0xFFFF] {
         for sub_index in 0..5 {
@@ -89,7 +90,7 @@ fn memory_that_is_no_dictionary_has_nothing() -> Result<(), Refusal> {
 fn equal_are_dictionaries_of_the_same_objects() -> Result<(), Refusal> {
     let mut large = Dictionary::new(Capacity::default());
     assert_eq!(large, Dictionary::new(Capacity { objects: 0, values: 0, bytes: 0 }));
-    let entry = |value: &str| ObjectEntry { rooms: vec![9], ..variable(text(value)) };
+    let entry = |value: &str| variable(text(value)).with_rooms([9]);
     large.insert(0x2000, entry("Akt I"))?;
     let mut small = Dictionary::new(Capacity { objects: 1, values: 1, bytes: 9 });
     small.insert(0x2000, entry("Overture"))?;
@@ -98,7 +99,7 @@ fn equal_are_dictionaries_of_the_same_objects() -> Result<(), Refusal> {
     small.write(0x2000, 0, text("Akt I"))?;
     assert_eq!(large, small);
     assert_ne!(large, small.clone().with_store(vec![0; 2]));
-    let other = dictionary([(0x2000, ObjectEntry { rooms: vec![8], ..variable(text("Akt I")) })])?;
+    let other = dictionary([(0x2000, variable(text("Akt I")).with_rooms([8]))])?;
     assert_ne!(large, other);
     assert_ne!(channel([maps(16, 0, 0, 0x6000)])?, channel([maps(32, 0, 0, 0x6000)])?);
     Ok(())

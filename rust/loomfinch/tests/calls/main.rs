@@ -10,6 +10,7 @@ mod lasting;
 mod listing;
 mod mapping;
 mod reading;
+mod refusing;
 mod rig;
 mod storing;
 mod writing;

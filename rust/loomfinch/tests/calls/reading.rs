@@ -1,7 +1,7 @@
 //! Reading, names and nodes.
 
 use crate::rig::{array, dictionary, maps, record, text, variable};
-use loomfinch::{NodeId, ObjectEntry, ObjectValue, Refusal};
+use loomfinch::{NodeId, ObjectValue, Refusal};
 
 #[test]
 fn a_place_that_holds_nothing_is_none() -> Result<(), Refusal> {
@@ -71,7 +71,7 @@ fn strings_are_lent() -> Result<(), Refusal> {
 
 #[test]
 fn a_name_leads_to_its_lowest_index() -> Result<(), Refusal> {
-    let named = |name| ObjectEntry { name, ..variable(ObjectValue::Boolean(0)) };
+    let named = |name: &'static str| variable(ObjectValue::Boolean(0)).with_name(name);
     let dictionary =
         dictionary([(0x6002, named("Time")), (0x6001, named("Time")), (0x6000, named(""))])?;
     assert_eq!(dictionary.find_by_name("Time")?, 0x6001);

@@ -4,12 +4,12 @@ use crate::rig::{dictionary, record, text, variable};
 use loomfinch::{AccessType, Dictionary, ObjectEntry, ObjectValue, Refusal, Written, MOST_STORED};
 
 fn storable() -> Result<Dictionary, Refusal> {
-    let stored = |entry| ObjectEntry { access: Some(AccessType::ReadWriteStore), ..entry };
+    let stored = |entry: ObjectEntry<'static>| entry.with_access(AccessType::ReadWriteStore);
     dictionary([
         (0x1F00, stored(variable(ObjectValue::Unsigned32(1)))),
         (0x6000, stored(variable(ObjectValue::Unsigned16(2_500)))),
-        (0x6001, stored(ObjectEntry { rooms: vec![8], ..variable(text("Act I")) })),
-        (0x6002, ObjectEntry { default_value: Some(text("!")), ..record([text("a")]) }),
+        (0x6001, stored(variable(text("Act I")).with_rooms([8]))),
+        (0x6002, record([text("a")]).with_default_value(text("!"))),
     ])
 }
 
@@ -95,7 +95,7 @@ fn a_restored_value_has_the_saved_type_and_its_own_room() -> Result<(), Refusal>
     let mut store = [0; 64];
     storable()?.save_to(3, &mut store)?;
     let number = || variable(ObjectValue::Unsigned8(7));
-    let mut roomy = dictionary([(0x6001, ObjectEntry { rooms: vec![5], ..number() })])?;
+    let mut roomy = dictionary([(0x6001, number().with_rooms([5]))])?;
     roomy.restore_from(0x6000, 0x6FFF, &store)?;
     assert_eq!(roomy.read(0x6001, 0)?, text("Act I"));
     let mut tight = dictionary([(0x6000, number()), (0x6001, number())])?;

@@ -1,10 +1,10 @@
 //! Writing and counting.
 
 use crate::rig::{array, dictionary, maps, record, text, variable};
-use loomfinch::{AccessType, Dictionary, ObjectEntry, ObjectValue, Refusal, Written};
+use loomfinch::{AccessType, Dictionary, ObjectValue, Refusal, Written};
 
 fn writable() -> Result<Dictionary, Refusal> {
-    let accessed = |access, value| ObjectEntry { access: Some(access), ..variable(value) };
+    let accessed = |access: AccessType, value| variable(value).with_access(access);
     dictionary([
         (0x1600, array([maps(16, 0, 0, 0x6000)])),
         (0x2000, accessed(AccessType::ReadOnly, ObjectValue::Unsigned8(1))),
