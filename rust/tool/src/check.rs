@@ -197,5 +197,6 @@ fn target_json(target: Target) -> Json {
                 ("room", Json::number(room as u64)),
             ]
         }
+        other => vec![kind(&other.to_string())],
     })
 }

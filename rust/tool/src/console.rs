@@ -5,7 +5,7 @@ use crate::explain::{self, Element};
 use crate::rig::{Kind, Object, Place, Problem, Rig, Value};
 use loomfinch::{
     decode, Capacity, Cause, Checked, Dictionary, Event, EventRecord, NodeId, ObjectEntry,
-    ObjectValue, PDOVersion, Refusal, Unwritten,
+    ObjectValue, PDOVersion, Refusal, Refused,
 };
 use std::collections::HashMap;
 
@@ -54,7 +54,8 @@ pub enum Outcome {
     /// Neither written nor reported by the library: misaligned, no mapping word, no target, a mapping's count.
     PassedOver,
     HandedOn,
-    Refused(Unwritten),
+    /// Not written, as the event says.
+    Refused(Event),
     Stopped(Cause),
     /// An earlier element stopped the payload.
     NotReached,
@@ -76,10 +77,11 @@ impl Console {
     pub fn new(rig: Rig) -> Result<Console, Problem> {
         let mut dictionary = Dictionary::new(capacity(&rig));
         for (index, object) in &rig.objects {
-            let refused = |refusal: Refusal| {
-                object.problem(format!("the library refuses this object: {refusal}"))
-            };
-            dictionary.insert(*index, entry(object).map_err(refused)?).map_err(refused)?;
+            let inserted = entry(object)
+                .and_then(|entry| dictionary.insert(*index, entry).map_err(Refused::from));
+            inserted.map_err(|refused| {
+                object.problem(format!("the library refuses this object: {refused}"))
+            })?;
         }
         Ok(Console { rig, dictionary, explained: HashMap::new() })
     }
@@ -146,10 +148,8 @@ impl Console {
                 _ if stopped => Outcome::NotReached,
                 Some(Event::PayloadShort(cause)) => Outcome::Stopped(cause),
                 Some(Event::Server { .. }) | Some(Event::Client { .. }) => Outcome::HandedOn,
-                Some(Event::WriteRefused(why)) => Outcome::Refused(why),
-                Some(Event::MapVersion) | None => {
-                    self.put(&element, payload).map_or(Outcome::PassedOver, Outcome::Written)
-                }
+                Some(event) => Outcome::Refused(event),
+                None => self.put(&element, payload).map_or(Outcome::PassedOver, Outcome::Written),
             };
             stopped = stopped || matches!(outcome, Outcome::Stopped(_));
             steps.push(Step { element, outcome });
@@ -231,24 +231,21 @@ fn capacity(rig: &Rig) -> Capacity {
     Capacity { objects, values, bytes }
 }
 
-fn entry(object: &Object) -> Result<ObjectEntry<'_>, Refusal> {
-    let values: Result<Vec<ObjectValue>, Refusal> =
+fn entry(object: &Object) -> Result<ObjectEntry<'_>, Refused> {
+    let values: Result<Vec<ObjectValue>, Refused> =
         object.values.iter().map(object_value).collect();
     let mut values = values?;
+    let default = object.default.as_ref().map(object_value).transpose()?;
+    let rooms: Vec<usize> = object.values.iter().map(|value| value.room).collect();
     let inner = match object.kind {
         Kind::Variable => loomfinch::Object::Variable(values.pop().ok_or(Refusal::BadValue)?),
         Kind::Array => loomfinch::Object::Array(values),
         Kind::Record => loomfinch::Object::Record(values),
     };
-    Ok(ObjectEntry {
-        object: inner,
-        name: &object.name,
-        access: object.access,
-        default_value: object.default.as_ref().map(object_value).transpose()?,
-        rooms: object.values.iter().map(|value| value.room).collect(),
-    })
+    let entry = ObjectEntry::new(inner).with_name(&object.name).with_access(object.access);
+    Ok(entry.with_default_value(default).with_rooms(rooms))
 }
 
-fn object_value(value: &Value) -> Result<ObjectValue, Refusal> {
+fn object_value(value: &Value) -> Result<ObjectValue, Refused> {
     decode(value.of, &value.bytes)
 }

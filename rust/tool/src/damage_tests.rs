@@ -9,17 +9,18 @@ use crate::frame::{self, Frame};
 use crate::pair;
 use crate::rig::{self, Rig};
 use crate::words::Style;
-use loomfinch::Checked;
+use loomfinch::{Cause, Checked};
 use std::collections::HashMap;
 use std::io::Cursor;
 
 #[path = "../tests/common/captures.rs"]
 mod captures;
 
-const RIGS: [&[u8]; 3] = [
+const RIGS: [&[u8]; 4] = [
     include_bytes!("../../../rigs/ramp.rig"),
     include_bytes!("../../../rigs/mended.rig"),
     include_bytes!("../../../rigs/faults.rig"),
+    include_bytes!("../../../rigs/captions.rig"),
 ];
 const REHEARSAL: &[u8] = include_bytes!("../../../rigs/rehearsal.pcap");
 
@@ -110,6 +111,7 @@ fn assert_explained(console: &mut Console) {
                 let sender = console.rig.named_sender(channel);
                 assert_ne!(sender.and_then(|sender| console.channel_of(sender)), Some(channel));
             }
+            other => panic!("{other}"),
         }
     }
 }
@@ -119,7 +121,7 @@ fn damaged_rigs() {
     let mut chance = Chance(0x1400_1600);
     let mut used = 0;
     for round in 0..600 {
-        let damaged = chance.damaged(RIGS[round % 3]);
+        let damaged = chance.damaged(RIGS[round % RIGS.len()]);
         let twice = chance.damaged(&damaged);
         used += usize::from(use_rig(&damaged)) + usize::from(use_rig(&twice));
     }
@@ -277,6 +279,46 @@ fn what_is_told_was_written() {
     assert!(written > 300, "only {written} fields were written");
 }
 
+/// The first byte at which no UTF-8 goes on, by what std says: of a character that began well it counts the bytes, but a byte that
+/// begins none it counts as well.
+fn broken_at(field: &[u8]) -> Option<usize> {
+    let error = std::str::from_utf8(field).err()?;
+    Some(match (error.valid_up_to(), error.error_len()) {
+        (_, None) => field.len(),
+        (start, Some(_)) if !(0xC2..=0xF4).contains(&field[start]) => start,
+        (start, Some(begun)) => start + begun,
+    })
+}
+
+#[test]
+fn what_stops_a_text_is_its_byte() {
+    let rig = rig::parse(RIGS[3]).unwrap_or_else(|problems| panic!("{}", problems[0].text));
+    let mut console = Console::new(rig).unwrap_or_else(|problem| panic!("{}", problem.text));
+    let likely = [b'a', 0, 0x1B, 0x80, 0xA0, 0xC3, 0xA9, 0xE0, 0xE2, 0x82, 0xED, 0xF0, 0x90, 0xFF];
+    let mut chance = Chance(0x6100);
+    let mut broken = 0;
+    for _ in 0..1500 {
+        let mut payload = vec![b'a'; 34];
+        let start = 10 + chance.below(20);
+        payload[start..].fill_with(|| likely[chance.below(likely.len())]);
+        let field = &payload[10..30];
+        let received = Received { sender: 12, version: 0x10, ready: true, payload: &payload };
+        let told = give(&mut console, received, Style::default());
+        let at = broken_at(field);
+        let cause = told.troubles.iter().find_map(|found| found.cause);
+        assert_eq!(cause, at.map(|at| Cause::Text { at: at as u16 }), "{field:02X?}");
+        let named = at.map(|at| match field.get(at) {
+            Some(byte) => format!("byte {at} of the field, {byte:02X}h, "),
+            None => format!("the field ends at byte {at}, "),
+        });
+        let text = told.troubles.first().map_or("", |found| found.text.as_str());
+        assert!(named.map_or(text.is_empty(), |named| text.contains(&named)), "{text}");
+        assert!(!text.contains('\u{1B}'), "{text}");
+        broken += usize::from(at.is_some());
+    }
+    assert!((500..1500).contains(&broken), "{broken} of 1500 were no text");
+}
+
 /// What is said of a drive that sends what a text says as received, and of a console.
 fn pair_says(drive: &str, console: &mut Console) -> (Status, String) {
     let drive = drive.replace("1400h Record", "1800h Record").replace("1600h Array", "1A00h Array");
@@ -336,7 +378,7 @@ fn what_pair_passes_arrives_whole() {
             (0..ends.max().unwrap_or(0)).map(|_| chance.next() as u8 >> 1).collect();
         let received = Received { sender: 5, version: 0, ready: true, payload: &payload };
         let told = give(&mut console, received, Style::default());
-        let troubles: Vec<&str> = told.troubles.iter().map(|trouble| trouble.1.as_str()).collect();
+        let troubles: Vec<&str> = told.troubles.iter().map(|found| found.text.as_str()).collect();
         assert!(troubles.is_empty(), "{troubles:?}\n{said}\n{drive}\n{text}");
         assert_eq!(told.written, elements.len() as u64, "{said}\n{text}");
     }

@@ -32,7 +32,7 @@ impl Element {
             Target::String { value_type, .. } => {
                 value_type == ValueType::UnicodeString && field.len() % 2 != 0
             }
-            Target::NoObject | Target::NoSubIndex => false,
+            _ => false,
         };
         self.ends_behind_payloads() || (unreadable && self.fault != Some(Fault::HandOff))
     }
@@ -80,7 +80,7 @@ impl Mapped {
 
 impl From<Explanation> for Element {
     fn from(explanation: Explanation) -> Element {
-        let Explanation { element, fault, element_type, mapped } = explanation;
+        let Explanation { element, fault, element_type, mapped, .. } = explanation;
         let mapped = mapped.map(|(entry, target)| Mapped {
             entry,
             target,

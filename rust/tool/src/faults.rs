@@ -20,6 +20,7 @@ pub fn sentence(console: &Console, channel: u8, checked: Checked, elements: &[El
                 of_element(rig, known, fault, first_stop(elements)) + &why_stopped(known, elements)
             })
         }
+        other => other.to_string(),
     }
 }
 
@@ -140,6 +141,7 @@ fn of_mapping(rig: &Rig, mapped: &Mapped, fault: Fault) -> (String, String) {
             ", which no payload changes",
         ),
         Fault::WrongLength => return wrong_length(&at, mapped),
+        other => return (format!("maps onto {at}"), format!(": {other}")),
     };
     (what, then.to_string())
 }

@@ -66,7 +66,8 @@ loomfinch consume RIG --from NODE --version V HEX... [options]
 
 Gives payloads to the rig, one after another, and says what each of them
 changes: old value and new value, what was refused and why, and the error bits
-in 1C80h and 1C81h.
+in 1C80h and 1C81h. Of a text that is no UTF-8 it names the byte of the field,
+counted from 0, at which none goes on.
 
   HEX           a payload as hexadecimal digits: C40910270000, or with spaces
                 in quotes: 'C4 09 10 27 00 00'; each HEX is one payload
@@ -120,7 +121,9 @@ interrupt (Ctrl-C) ends the capture and writes the table:
                 show the time of day, on a clock so far ahead of UTC
   --between 20:14:00..20:15:00
                 tell only frames of this part of the day, on that clock
-  --json        write a line of JSON for each frame, and one for the table
+  --json        write a line of JSON for each frame, and one for the table, with
+                the byte of a bad text, and the bytes that a short value needs
+                and had
   --times       show every Unsigned16 and Unsigned32 as a time in ms and s,
                 also where the rig file has no 'ms' beside it
   --comma       write decimals with a comma: 2,500 s

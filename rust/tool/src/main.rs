@@ -4,6 +4,7 @@
 #![deny(unsafe_code)]
 
 mod args;
+mod broken;
 mod capture;
 mod check;
 mod clock;

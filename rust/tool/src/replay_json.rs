@@ -7,7 +7,8 @@ use crate::player::{Head, When};
 use crate::report::{Changed, Line, Told};
 use crate::rig::Rig;
 use crate::table::{Row, Table};
-use crate::trouble::Trouble;
+use crate::trouble::{Incident, Trouble};
+use loomfinch::Cause;
 
 pub fn frame(
     rig: &Rig,
@@ -22,7 +23,7 @@ pub fn frame(
     let name = head.sender.and_then(|sender| rig.nodes.get(&sender));
     let state = poll.and_then(|poll| poll.state).map(frame::state_name);
     let changes = told.changes.iter().map(change).collect();
-    let troubles = told.troubles.iter().map(trouble).collect();
+    let troubles = told.troubles.iter().map(incident).collect();
     let lines = lines.iter().map(|line| Json::text(line.text.trim_start())).collect();
     Json::Object(vec![
         ("packet", Json::number(packet)),
@@ -51,8 +52,27 @@ fn change(change: &Changed) -> Json {
     ])
 }
 
-fn trouble((kind, text): &(Trouble, String)) -> Json {
-    Json::Object(vec![("kind", Json::text(kind.name())), ("text", Json::text(text.as_str()))])
+fn incident(incident: &Incident) -> Json {
+    let mut members = vec![("kind", Json::text(incident.kind.name()))];
+    members.extend(said(incident));
+    Json::Object(members)
+}
+
+/// What is said of an incident, with the numbers of a stop: the byte of a bad text, and the bytes that a short value needs and had.
+fn said(incident: &Incident) -> Vec<(&'static str, Json)> {
+    let (at, needed, had) = match incident.cause {
+        Some(Cause::Text { at }) => (Some(at), None, None),
+        Some(Cause::Value { needed, had }) => (None, Some(needed), Some(had)),
+        _ => (None, None, None),
+    };
+    let number = |number: Option<u16>| Json::or_null(number.map(Json::number));
+    vec![
+        ("text", Json::text(incident.text.as_str())),
+        ("element", Json::or_null(incident.element.map(Json::number))),
+        ("at", number(at)),
+        ("needed", number(needed)),
+        ("had", number(had)),
+    ]
 }
 
 pub fn table(table: &Table, console: &Console, notes: &[String]) -> Json {
@@ -71,13 +91,14 @@ pub fn table(table: &Table, console: &Console, notes: &[String]) -> Json {
 fn of_sender(console: &Console, sender: Option<u8>, row: &Row) -> Json {
     let channel = sender.and_then(|sender| console.channel_of(sender));
     let kind = |kind: Trouble| {
-        let (packet, text) = row.troubles.first(kind)?;
-        Some(Json::Object(vec![
+        let (packet, incident) = row.troubles.first(kind)?;
+        let mut members = vec![
             ("kind", Json::text(kind.name())),
             ("frames", Json::number(row.troubles.frames(kind))),
             ("first", Json::number(packet)),
-            ("text", Json::text(text)),
-        ]))
+        ];
+        members.extend(said(incident));
+        Some(Json::Object(members))
     };
     Json::Object(vec![
         ("sender", Json::or_null(sender.map(Json::number))),

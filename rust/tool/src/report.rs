@@ -5,7 +5,7 @@ use crate::explain::{Element, Mapped};
 use crate::faults::last_bytes;
 use crate::reasons;
 use crate::rig::{Rig, Value};
-use crate::trouble::Trouble;
+use crate::trouble::{Incident, Trouble};
 use crate::words::{self, named_place, Style};
 use loomfinch::{Cause, Target, ValueType};
 
@@ -20,7 +20,7 @@ pub struct Told {
     /// Did a channel that has a mapping look at the payload?
     pub taken: bool,
     /// What went wrong, in order.
-    pub troubles: Vec<(Trouble, String)>,
+    pub troubles: Vec<Incident>,
 }
 
 /// A line of the story.
@@ -46,14 +46,14 @@ impl Told {
     /// The story of a frame that could not be consumed.
     pub fn damaged(why: String) -> Told {
         let mut told = Told::default();
-        told.trouble(Trouble::Damaged, Vec::new(), why);
+        told.trouble(Vec::new(), Incident::of_payload(Trouble::Damaged, why));
         told
     }
 
     /// The story of a payload that was refused as a whole.
     pub fn refused(why: String) -> Told {
         let mut told = Told { taken: true, ..Told::default() };
-        told.trouble(Trouble::Refused, Vec::new(), why);
+        told.trouble(Vec::new(), Incident::of_payload(Trouble::Refused, why));
         told
     }
 
@@ -61,9 +61,9 @@ impl Told {
         self.lines.push(Line { places, changed: false, same: false, text });
     }
 
-    fn trouble(&mut self, kind: Trouble, places: Vec<(u16, u8)>, text: String) {
-        self.line(places, text.clone());
-        self.troubles.push((kind, text));
+    fn trouble(&mut self, places: Vec<(u16, u8)>, incident: Incident) {
+        self.line(places, incident.text.clone());
+        self.troubles.push(incident);
     }
 }
 
@@ -119,7 +119,7 @@ impl Teller<'_> {
             channel,
             words::versions_from(expected)
         );
-        self.told.trouble(Trouble::Version, Vec::new(), why);
+        self.told.trouble(Vec::new(), Incident::of_payload(Trouble::Version, why));
     }
 
     fn step(&mut self, step: &Step, later: &[Step]) {
@@ -127,7 +127,8 @@ impl Teller<'_> {
             Some(mapped) => named_place(self.rig, mapped.entry.index, mapped.entry.sub_index),
             None => words::type_with_article(step.element.element_type),
         };
-        let element = format!("element {} ({})", step.element.number, at);
+        let number = step.element.number;
+        let element = format!("element {number} ({at})");
         let mut places: Vec<(u16, u8)> = place_of(&step.element).into_iter().collect();
         match &step.outcome {
             Outcome::Written(change) => {
@@ -138,18 +139,21 @@ impl Teller<'_> {
             Outcome::PassedOver => {
                 let why = reasons::passed_over(&step.element);
                 let text = format!("{element} is passed over: {why}");
-                self.told.trouble(Trouble::PassedOver, places, text);
+                let incident = Incident::of_element(Trouble::PassedOver, number, text);
+                self.told.trouble(places, incident);
             }
             Outcome::HandedOn => self.told.line(places, format!("{element} is handed on to SDO")),
-            Outcome::Refused(why) => {
-                let why = reasons::refused(*why, &step.element);
+            Outcome::Refused(event) => {
+                let why = reasons::refused(*event, &step.element);
                 let text = format!("{element} is not written: {why}");
-                self.told.trouble(Trouble::Refused, places, text);
+                self.told.trouble(places, Incident::of_element(Trouble::Refused, number, text));
             }
             Outcome::Stopped(cause) => {
                 let why = reasons::stopped(*cause, &step.element, self.received);
                 places.extend(later.iter().filter_map(|step| place_of(&step.element)));
-                self.told.trouble(stop(*cause), places, format!("stopped at {element}: {why}"));
+                let text = format!("stopped at {element}: {why}");
+                let incident = Incident::of_element(stop(*cause), number, text);
+                self.told.trouble(places, Incident { cause: Some(*cause), ..incident });
             }
             Outcome::NotReached => self.told.line(places, format!("{element} is not reached")),
         }
@@ -219,7 +223,8 @@ impl Teller<'_> {
             if lost.len() == 1 { "is" } else { "are" }
         );
         self.told.line(vec![(change.index, change.sub_index)], format!("  CUT: {why}"));
-        self.told.troubles.push((Trouble::Cut, format!("{at}: {why}")));
+        let text = format!("{at}: {why}");
+        self.told.troubles.push(Incident::of_element(Trouble::Cut, step.element.number, text));
     }
 
     /// Tells which nodes an error object has noted newly.
@@ -253,8 +258,8 @@ fn place_of(element: &Element) -> Option<(u16, u8)> {
 /// The trouble of a payload that stopped.
 fn stop(cause: Cause) -> Trouble {
     match cause {
-        Cause::Frame | Cause::Value => Trouble::Short,
-        Cause::Text | Cause::Odd => Trouble::NoText,
+        Cause::Text { .. } | Cause::Odd => Trouble::NoText,
+        _ => Trouble::Short,
     }
 }
 

@@ -64,7 +64,7 @@ fn of_object(rig: &Rig, mapped: &Mapped, length: usize, style: Style) -> Option<
         Target::String { value_type: ValueType::UnicodeString, .. } if length % 2 != 0 => {
             Some(format!(", {there}: half of its last character is not sent"))
         }
-        Target::String { .. } => None,
+        _ => None,
     }
 }
 

@@ -4,7 +4,7 @@ use crate::console::Console;
 use crate::failure::Status;
 use crate::quoting;
 use crate::report::Told;
-use crate::trouble::{Trouble, Troubles};
+use crate::trouble::{Incident, Trouble, Troubles};
 use std::collections::BTreeMap;
 use std::io::{self, Write};
 
@@ -62,7 +62,8 @@ impl Table {
     pub fn damaged(&mut self, sender: Option<u8>, packet: u64, why: &str) {
         let row = self.senders.entry(sender).or_default();
         row.frames += 1;
-        row.troubles.count(packet, &[(Trouble::Damaged, why.to_string())]);
+        let incident = Incident::of_payload(Trouble::Damaged, why.to_string());
+        row.troubles.count(packet, &[incident]);
         self.looked_at += 1;
     }
 

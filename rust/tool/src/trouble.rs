@@ -1,5 +1,6 @@
 //! The kinds of things that go wrong with a payload, and how often each did.
 
+use loomfinch::Cause;
 use std::collections::BTreeMap;
 
 /// A kind of trouble; the first is the one that nothing else reports.
@@ -45,6 +46,27 @@ impl Trouble {
     }
 }
 
+/// Something that went wrong with a payload.
+#[derive(Clone, Debug)]
+pub struct Incident {
+    pub kind: Trouble,
+    /// The element of the mapping that it is about; none where it is about the payload as a whole.
+    pub element: Option<u8>,
+    /// Why the element stopped the payload, where it did.
+    pub cause: Option<Cause>,
+    pub text: String,
+}
+
+impl Incident {
+    pub fn of_payload(kind: Trouble, text: String) -> Incident {
+        Incident { kind, element: None, cause: None, text }
+    }
+
+    pub fn of_element(kind: Trouble, element: u8, text: String) -> Incident {
+        Incident { kind, element: Some(element), cause: None, text }
+    }
+}
+
 /// How many frames had each kind of trouble, and the first of them.
 #[derive(Debug, Default)]
 pub struct Troubles {
@@ -55,15 +77,15 @@ pub struct Troubles {
 struct Found {
     frames: u64,
     /// The number of the first frame's packet, and what went wrong there.
-    first: (u64, String),
+    first: (u64, Incident),
 }
 
 impl Troubles {
     /// Counts a frame once for each kind of trouble that it had.
-    pub fn count(&mut self, packet: u64, troubles: &[(Trouble, String)]) {
+    pub fn count(&mut self, packet: u64, incidents: &[Incident]) {
         for kind in Trouble::ALL {
-            if let Some((_, why)) = troubles.iter().find(|trouble| trouble.0 == kind) {
-                let new = || Found { frames: 0, first: (packet, why.clone()) };
+            if let Some(incident) = incidents.iter().find(|incident| incident.kind == kind) {
+                let new = || Found { frames: 0, first: (packet, incident.clone()) };
                 self.found.entry(kind).or_insert_with(new).frames += 1;
             }
         }
@@ -78,14 +100,15 @@ impl Troubles {
     }
 
     /// The first packet that had a kind of trouble, and what it was.
-    pub fn first(&self, kind: Trouble) -> Option<(u64, &str)> {
-        self.found.get(&kind).map(|found| (found.first.0, found.first.1.as_str()))
+    pub fn first(&self, kind: Trouble) -> Option<(u64, &Incident)> {
+        self.found.get(&kind).map(|found| (found.first.0, &found.first.1))
     }
 
     /// A line for each kind that was found: how often, and the first of them.
     pub fn lines(&self) -> Vec<String> {
         let line = |(kind, found): (&Trouble, &Found)| {
-            let (packet, why) = &found.first;
+            let (packet, incident) = &found.first;
+            let why = &incident.text;
             match found.frames {
                 1 => format!("{} in No. {}: {}", kind.name(), packet, why),
                 frames => {

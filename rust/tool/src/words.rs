@@ -136,8 +136,8 @@ pub fn target(target: Target) -> String {
         Target::String { value_type, room } => {
             format!("{} with room for {}", type_with_article(value_type), bytes(room))
         }
-        Target::Count => "a list's count".to_string(),
         Target::NoObject | Target::NoSubIndex => "nothing".to_string(),
+        other => other.to_string(),
     }
 }
 

@@ -212,7 +212,7 @@ fn each_way_in_which_an_element_fails() {
   element 4 (1200h/1) is handed on to SDO
   element 5 (6200h/0) is not written: it is a list's count
   element 6 (1600h/0) is passed over: it is a mapping's count
-  stopped at element 7 (6100h/0): the field is no text in UTF-8
+  stopped at element 7 (6100h/0): the field ends at byte 3, within the character begun by C3h after \"AB\"
   element 8 (6000h/0) is not reached
 ";
     assert!(run.out.starts_with(wanted), "{}", run.out);

@@ -103,7 +103,7 @@ fn json_has_a_line_for_each_frame_and_one_for_the_table() {
     let run = replay(&["--json", "--faults", "--clock", "Z"]);
     assert_eq!(run.status, 1);
     let lines: Vec<&str> = run.out.lines().collect();
-    let wanted = r#"{"packet": 6, "nanoseconds": 30400000, "clock": "22:13:20.030400", "frame": "PRes", "sender": 5, "name": null, "state": "Operational", "version": 18, "ready": true, "bytes": 8, "taken": true, "changes": [{"index": 24576, "sub_index": 0, "before": "3000 ms = 3.000 s", "after": "24464 ms = 24.464 s"}, {"index": 25088, "sub_index": 3, "before": "0 ms = 0.000 s", "after": "1 ms = 0.001 s"}], "troubles": [{"kind": "CUT", "text": "6000h/0 \"Ramp time\": element 1's field is 90 5F 01 00, 90000 ms = 90.000 s; the last 2 bytes, 01 00, are lost"}], "#;
+    let wanted = r#"{"packet": 6, "nanoseconds": 30400000, "clock": "22:13:20.030400", "frame": "PRes", "sender": 5, "name": null, "state": "Operational", "version": 18, "ready": true, "bytes": 8, "taken": true, "changes": [{"index": 24576, "sub_index": 0, "before": "3000 ms = 3.000 s", "after": "24464 ms = 24.464 s"}, {"index": 25088, "sub_index": 3, "before": "0 ms = 0.000 s", "after": "1 ms = 0.001 s"}], "troubles": [{"kind": "CUT", "text": "6000h/0 \"Ramp time\": element 1's field is 90 5F 01 00, 90000 ms = 90.000 s; the last 2 bytes, 01 00, are lost", "element": 1, "at": null, "needed": null, "had": null}], "#;
     assert!(lines[0].starts_with(wanted), "{}", lines[0]);
     assert!(lines[3].starts_with(r#"{"packet": 9, "#), "{}", lines[3]);
     let table = r#"{"senders": [{"sender": 5, "channel": 0, "frames": 7, "not_ready": 1, "fields_written": 6, "troubles": [{"kind": "CUT", "frames": 1, "first": 6, "text": "#;

@@ -204,8 +204,21 @@ fn the_rig_of_the_document_is_a_rig() {
 }
 
 #[test]
+fn the_document_shows_what_is_said_of_a_line_in_latin_1() {
+    let path = common::file("winch.rig", b"rig 1\nnode 5 \"Drehb\xFChne\"\n6000h Variable U8\n");
+    let said = &sample("RIG.md", "winch.rig:2:14")[0];
+    let place = path.strip_suffix("winch.rig").unwrap();
+    assert_eq!(run(&["check", &path]).err.replace(place, ""), format!("{said}\n"));
+}
+
+#[test]
 fn the_document_shows_what_is_printed() {
-    for command in ["$ loomfinch check", "$ loomfinch consume", "$ loomfinch pair"] {
+    for command in [
+        "$ loomfinch check",
+        "$ loomfinch consume",
+        "$ loomfinch consume rigs/captions.rig",
+        "$ loomfinch pair",
+    ] {
         let lines = sample("TOOL.md", command);
         let arguments: Vec<String> = lines[0]
             .split_whitespace()

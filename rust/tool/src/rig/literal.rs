@@ -4,6 +4,7 @@ use super::cursor::Cursor;
 use super::lexer::Token;
 use super::numbers;
 use super::problem::Problem;
+use crate::broken;
 use crate::words;
 use loomfinch::ValueType;
 
@@ -24,11 +25,17 @@ pub fn value(cursor: &mut Cursor, of: ValueType) -> Result<Vec<u8>, Problem> {
 
 /// Bytes in brackets stand for themselves, for any type.
 fn raw(cursor: &Cursor, of: ValueType, bytes: Vec<u8>) -> Result<Vec<u8>, Problem> {
+    let no_text = match of {
+        ValueType::VisibleString => broken::why("text", &bytes),
+        _ => None,
+    };
+    if let Some(why) = no_text {
+        let of = words::type_with_article(of);
+        let text = format!("expected text in UTF-8 in the brackets for {of}: {why}");
+        return Err(cursor.problem(text));
+    }
     let fault = match of.size() {
         Some(size) if size != bytes.len() => Some(format!("{} in brackets", words::bytes(size))),
-        None if of == ValueType::VisibleString && std::str::from_utf8(&bytes).is_err() => {
-            Some("text in UTF-8 in the brackets".to_string())
-        }
         None if of == ValueType::UnicodeString && bytes.len() % 2 != 0 => {
             Some("an even number of bytes in the brackets".to_string())
         }

@@ -8,6 +8,10 @@ use super::problem::Problem;
 use super::types::Kind;
 use super::{Object, Rig, Value, FORM, MANAGING_NODE};
 use super::{MOST_BYTES, MOST_ELEMENTS, MOST_OBJECTS, MOST_VALUES};
+use crate::broken;
+
+/// What editors of some systems begin a text in UTF-8 with.
+const BYTE_ORDER_MARK: &[u8] = "\u{FEFF}".as_bytes();
 
 /// The rig that the bytes of a file describe, or all that is wrong with it, line by line.
 pub fn parse(file: &[u8]) -> Result<Rig, Vec<Problem>> {
@@ -30,14 +34,18 @@ pub fn parse(file: &[u8]) -> Result<Rig, Vec<Problem>> {
 }
 
 fn text_of(file: &[u8]) -> Result<&str, Problem> {
-    std::str::from_utf8(file).map(|text| text.strip_prefix('\u{FEFF}').unwrap_or(text)).map_err(
-        |error| {
-            let before = String::from_utf8_lossy(&file[..error.valid_up_to()]);
-            let line = 1 + before.matches('\n').count();
-            let column = 1 + before.rsplit('\n').next().map_or(0, |last| last.chars().count());
-            Problem::at(line, column, "expected text in UTF-8, found a byte that is none")
-        },
-    )
+    let file = file.strip_prefix(BYTE_ORDER_MARK).unwrap_or(file);
+    std::str::from_utf8(file).map_err(|error| no_text(file, error.valid_up_to()))
+}
+
+/// The error for a file that is text up to a byte.
+fn no_text(file: &[u8], end: usize) -> Problem {
+    let number = 1 + file[..end].iter().filter(|byte| **byte == b'\n').count();
+    let start = file[..end].iter().rposition(|byte| *byte == b'\n').map_or(0, |found| found + 1);
+    let column = 1 + String::from_utf8_lossy(&file[start..end]).chars().count();
+    let line = file[start..].split(|byte| *byte == b'\n').next().unwrap_or_default();
+    let why = broken::why("line", line).unwrap_or_default();
+    Problem::at(number, column, format!("expected text in UTF-8: {why}"))
 }
 
 #[derive(Default)]

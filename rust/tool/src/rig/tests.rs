@@ -113,7 +113,9 @@ fn errors_name_the_line_and_what_was_expected() {
         ("6000h Variable VisibleString", "expected a room for a VisibleString, as in room 40"),
         ("6000h Variable VisibleString = 5", "expected text in double quotes for a VisibleString, found '5'"),
         ("6000h Variable VisibleString room 2 = \"abc\"", "the value has 3 bytes, its room only 2"),
-        ("6000h Variable VisibleString = [FF]", "expected text in UTF-8 in the brackets for a VisibleString"),
+        ("6000h Variable VisibleString = [FF]", "expected text in UTF-8 in the brackets for a VisibleString: byte 0 of the text, FFh, is no UTF-8"),
+        ("6000h Variable VisibleString = [44 E9 63]", "expected text in UTF-8 in the brackets for a VisibleString: byte 2 of the text, 63h, cannot follow E9h, which stands after \"D\"; the text may be Latin-1"),
+        ("6000h Variable U8 default VisibleString = [44 C3]", "expected text in UTF-8 in the brackets for a VisibleString: the text ends at byte 2, within the character begun by C3h after \"D\""),
         ("6000h Variable UnicodeString = [FF]", "expected an even number of bytes in the brackets"),
         ("6000h Variable U16 room 1491", "expected a room of 0 to 1490 bytes, found '1491'"),
         ("6000h Variable Real32 ms", "expected 'ms' only beside an Unsigned type, found it beside a Real32"),
@@ -261,11 +263,28 @@ fn files_that_are_empty_or_no_text() {
     for text in ["", "\n\n# nothing\n", "\u{FEFF}"] {
         assert_eq!(parse(text.as_bytes()).unwrap_err()[0].line, None);
     }
-    let problem = parse(b"# one\n# two \xFF\n").unwrap_err().remove(0);
-    assert_eq!(
-        (problem.line, problem.shown("x.rig").as_str()),
-        (Some(2), "x.rig:2:7: expected text in UTF-8, found a byte that is none")
-    );
+    for (file, shown) in [
+        (
+            &b"# one\n# two \xFC\n# three \xC3\xA9"[..],
+            "2:7: expected text in UTF-8: byte 6 of the line, FCh, is no UTF-8 after \"# two \"; the line may be Latin-1",
+        ),
+        (
+            b"\xFF\xFE6\x000\x00",
+            "1:1: expected text in UTF-8: byte 0 of the line, FFh, is no UTF-8",
+        ),
+        (
+            b"\xEF\xBB\xBF6000h Variable U8 \"Dur\xE9e\"\n",
+            "1:23: expected text in UTF-8: byte 23 of the line, 65h, cannot follow E9h, which stands after \
+             ..\"00h Variable U8 \\\"Dur\"; the line may be Latin-1",
+        ),
+        (
+            b"# \xC3\xA9\n\xE2\x82\n",
+            "2:1: expected text in UTF-8: the line ends at byte 2, within the character begun by E2h 82h",
+        ),
+    ] {
+        let problem = parse(file).unwrap_err().remove(0);
+        assert_eq!(problem.shown("x.rig"), format!("x.rig:{shown}"));
+    }
 }
 
 #[test]
