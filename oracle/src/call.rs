@@ -1,5 +1,6 @@
 //! One call with all that is lent to it, and what it leaves.
 
+use crate::fault::Fault;
 use crate::{mapping, original};
 use original::BUFFER_TOO_SHORT;
 use powerlink_rs::pdo::PdoMappingEntry;
@@ -36,8 +37,13 @@ pub struct Outcome {
     /// Whether memory was touched that no call may touch.
     pub touched: bool,
     pub numbers: Vec<u64>,
+    /// What decoding is lent for the numbers of a fault: a place or the bytes needed, and the bytes
+    /// had.
+    pub said: [u64; SAID],
     pub out: Vec<u8>,
 }
+
+pub const SAID: usize = 2;
 
 /// Cells kept behind each lent slice, so that a store past its end shows.
 pub const BEHIND: usize = 8;
@@ -70,11 +76,12 @@ impl Call {
             answer: 0,
             touched: false,
             numbers: (0..self.room + BEHIND).map(number_fill).collect(),
+            said: std::array::from_fn(number_fill),
             out: (0..self.out + BEHIND).map(byte_fill).collect(),
         }
     }
 
-    /// What the unchanged Rust makes of the call.
+    /// What the unchanged Rust makes of the call, and what is said of data that it does not decode.
     pub fn wanted(&self) -> Outcome {
         let mut outcome = self.lent();
         match self.rust() {
@@ -85,7 +92,19 @@ impl Call {
             }
             Err(refusal) => outcome.answer = refusal,
         }
+        if let Some(fault) = self.fault() {
+            let numbers = fault.numbers();
+            outcome.said[..numbers.len()].copy_from_slice(&numbers);
+        }
         outcome
+    }
+
+    /// Of data to decode.
+    pub fn fault(&self) -> Option<Fault> {
+        match self.function {
+            Function::Decode => Fault::of(self.kind, &self.input),
+            _ => None,
+        }
     }
 
     /// The answer, the numbers and the bytes to be written, or a refusal that writes nothing.

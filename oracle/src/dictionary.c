@@ -60,7 +60,8 @@ static u64 answer(const struct call *c) {
     case CNS:
         return loomfinch_get_configured_cns(DICTIONARY, BYTES(out), number);
     case WRITE:
-        return loomfinch_write(DICTIONARY, STORE, index, sub_index, c->kind, BYTES(encodings));
+        return loomfinch_write(DICTIONARY, STORE, index, sub_index, c->kind, BYTES(encodings),
+                               number, number + 1);
     case VALIDATE:
         return loomfinch_validate_pdo_mapping(DICTIONARY, index, sub_index);
     case RESTORE:

@@ -11,8 +11,8 @@ mod timing;
 use crate::port::Port;
 use crate::random::Random;
 use runs::{
-    bounds, consumed, demand, faults, goals, halves, histories, images, malice, restored, rooms,
-    saves, trial, written,
+    bounds, consumed, demand, faults, goals, halves, histories, images, malice, no_values,
+    restored, rooms, saves, trial, written,
 };
 
 /// Gives the comparisons and the differences.
@@ -28,6 +28,7 @@ pub fn compare(port: &mut Port, random: &mut Random) -> (u64, u64) {
     bounds::compare(&mut trial, random);
     halves::compare(&mut trial, random);
     malice::compare(&mut trial, random);
+    no_values::compare(&mut trial, random);
     trial.demand(goals::lacking);
     trial.finish("the dictionary's answers")
 }

@@ -5,7 +5,9 @@
 //! give.
 
 mod call;
+mod decoded;
 mod dictionary;
+mod fault;
 mod hex;
 mod inputs;
 mod mapping;
@@ -14,6 +16,9 @@ mod port;
 mod random;
 mod report;
 mod shrink;
+mod sorts;
+mod sweep;
+mod texts;
 mod values;
 mod words;
 
@@ -90,6 +95,7 @@ fn bench(program: &str, port: &mut Port, seed: u64) -> ExitCode {
 fn compare_codec(port: &mut Port, random: &mut Random) -> (u64, u64) {
     let mut report = report::Report::new(port);
     values::compare(&mut report, random);
+    texts::compare(&mut report, random);
     words::compare(&mut report, random);
     report.finish()
 }

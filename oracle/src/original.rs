@@ -6,7 +6,7 @@ use powerlink_rs::frame::basic::MacAddress;
 use powerlink_rs::od::ObjectValue;
 
 pub const BAD_VALUE: u64 = 2;
-const TYPE_MISMATCH: u64 = 5;
+pub const TYPE_MISMATCH: u64 = 5;
 pub const BUFFER_TOO_SHORT: u64 = 12;
 
 pub const KINDS: u64 = 21;
@@ -80,8 +80,10 @@ pub fn encode(kind: u64, word: u64, part: &[u8]) -> Result<Vec<u8>, u64> {
 }
 
 /// The word and the six fields of a value.
-pub fn numbers(value: &ObjectValue) -> [u64; 7] {
-    let mut numbers = [0; 7];
+pub const NUMBERS: usize = 7;
+
+pub fn numbers(value: &ObjectValue) -> [u64; NUMBERS] {
+    let mut numbers = [0; NUMBERS];
     let fields = fields(value);
     numbers[0] = word(value);
     numbers[1..=fields.len()].copy_from_slice(&fields);

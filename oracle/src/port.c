@@ -13,7 +13,11 @@ void (*signal(int number, void handler(int)))(int);
 
 // port.rs has the same numbers.
 enum { BEHIND = 8, LARGEST_BATCH = 1 << 18 };
-enum { DECODE, ENCODE, FROM_U64, TO_U64, AGAIN };
+enum { DECODE, ENCODE, FROM_U64, TO_U64, AGAIN, DECODE_EACH };
+
+// Single numbers that decoding is lent for what it says of a fault: a place or
+// the bytes needed, and the bytes had.
+enum { SAID = 2 };
 
 // What a batch holds is said by the top bits of its length.
 enum { CODEC, DICTIONARY, KIND_SHIFT = 32 };
@@ -26,7 +30,7 @@ enum { LONGEST_BATCH = 120, OWN_TIME = 1 };
 // The lengths are those that are lent. Memory: numbers, output, input, each
 // with BEHIND cells more and filled up to whole words.
 struct call {
-    u64 function, kind, word, input, out, numbers;
+    u64 function, kind, word, input, out, numbers, said[SAID];
     u64 memory[];
 };
 
@@ -38,10 +42,21 @@ static u64 to_u64(u64 index, u64 sub_index, u64 offset, u64 length) {
     return loomfinch_to_u64((u16)index, (u8)sub_index, (u16)offset, (u16)length);
 }
 
-static u64 answer(const struct call *c, u64 *numbers, u8 *out, const u8 *input) {
+static struct lent lent_numbers, lent_said, lent_out, lent_input;
+
+static u64 decode(u64 kind) {
+    u64 *said = (u64 *)lent_said.at;
+    return loomfinch_decode(kind, lent_input.at, lent_input.count, (u64 *)lent_numbers.at,
+                            lent_numbers.count, said, said + 1);
+}
+
+static u64 answer(const struct call *c) {
+    u64 *numbers = (u64 *)lent_numbers.at;
+    u8 *out = lent_out.at;
+    const u8 *input = lent_input.at;
     switch (c->function) {
     case DECODE:
-        return loomfinch_decode(c->kind, input, c->input, numbers, c->numbers);
+        return decode(c->kind);
     case ENCODE:
         return loomfinch_encode(c->kind, c->word, input, c->input, out, c->out, numbers);
     case FROM_U64:
@@ -54,7 +69,47 @@ static u64 answer(const struct call *c, u64 *numbers, u8 *out, const u8 *input) 
     }
 }
 
-static struct lent lent_numbers, lent_out, lent_input;
+// Whether memory was touched that no call may touch: what it only reads, and
+// the cells around everything.
+static u64 strays(void) {
+    return (u64)(touched(&lent_input) | touched_around(&lent_numbers) | touched_around(&lent_said) |
+                 touched_around(&lent_out));
+}
+
+// sweep.rs has the same.
+static u64 folded(u64 sum, const void *lent, u64 count) {
+    for (const u64 *number = lent; count > 0; number++, count--) {
+        sum = ((sum << 5 | sum >> 59) ^ *number) * 0x517CC1B727220A95;
+    }
+    return sum;
+}
+
+// Decodes all data that are the call's input with `word` bytes of a set behind
+// it, in the set's order; the set is given as the output. There are too many
+// for a pipe, so that one sum over all that they leave stands for the answers.
+static void decode_each(struct call *c, const u8 *set, const void *input, int at_start) {
+    u8 bytes[BEHIND];
+    u64 sum = 0, found = 0, all = 1;
+    for (u64 k = 0; k < c->word; k++) {
+        all *= c->out;
+    }
+    lend_given(&lent_input, input, c->input + c->word, at_start);
+    for (u64 one = 0; one < all; one++) {
+        for (u64 place = c->word, rest = one; place > 0; rest /= c->out) {
+            bytes[--place] = set[rest % c->out];
+        }
+        put(&lent_input, c->input, bytes, c->word);
+        lend_filled(&lent_numbers, c->numbers, at_start);
+        lend_filled(&lent_said, SAID, at_start);
+        u64 given = decode(c->kind);
+        sum = folded(sum, &given, 1);
+        sum = folded(sum, lent_numbers.at, c->numbers);
+        sum = folded(sum, lent_said.at, SAID);
+        found |= strays();
+    }
+    c->function = sum;
+    c->kind = found;
+}
 
 // Makes a call with memory between guard pages; which of the two sides depends
 // on the call, so that it is the same when it is made again. Puts the answer in
@@ -65,12 +120,18 @@ static u64 make(struct call *c) {
     u64 *input = out + words(c->out);
     u64 *end = input + words(c->input);
     int at_start = (c->kind + c->word + c->input + c->numbers + *input) % 2 == 1;
+    if (c->function == DECODE_EACH) {
+        decode_each(c, (const u8 *)out, input, at_start);
+        return (u64)(end - (u64 *)c);
+    }
     lend_given(&lent_numbers, c->memory, c->numbers, at_start);
+    lend_given(&lent_said, c->said, SAID, at_start);
     lend_given(&lent_out, out, c->out, at_start);
     lend_given(&lent_input, input, c->input, at_start);
-    c->function = answer(c, (u64 *)lent_numbers.at, lent_out.at, lent_input.at);
-    c->kind = (u64)(touched(&lent_input) | touched_around(&lent_numbers) | touched_around(&lent_out));
+    c->function = answer(c);
+    c->kind = strays();
     memcpy(c->memory, lent_numbers.at, 8 * c->numbers);
+    memcpy(c->said, lent_said.at, 8 * SAID);
     memcpy(out, lent_out.at, c->out);
     return (u64)(end - (u64 *)c);
 }
@@ -133,6 +194,7 @@ int main(void) {
         signal(stops[k], stopped);
     }
     make_lent(&lent_numbers, 4096, 8);
+    make_lent(&lent_said, 4096, 8);
     make_lent(&lent_out, 1 << 16, 1);
     make_lent(&lent_input, 1 << 16, 1);
     u64 head;

@@ -1,12 +1,17 @@
 //! The port, behind a pipe to the program that port.c makes.
 
-use crate::call::{BEHIND, Call, Outcome};
+use crate::call::{BEHIND, Call, Outcome, SAID, number_fill};
+use crate::original::{NUMBERS, VISIBLE_STRING};
+use crate::sweep::Sweep;
 use std::io::{BufReader, Read, Result, Write};
 use std::process::{Child, ChildStdin, ChildStdout, Command, Stdio};
 
 /// Words before a call's memory, and the most that one batch may have: as in port.c.
-const HEADER: usize = 6;
+const HEADER: usize = 6 + SAID;
 pub const LARGEST_BATCH: usize = 1 << 18;
+
+/// The number of a sweep, behind those of the functions: as in port.c.
+const DECODE_EACH: u64 = 5;
 
 /// Starting the program takes long, so that one that is stopped so often is not
 /// started for further calls.
@@ -79,16 +84,39 @@ impl Port {
         let mut words = self.words(batch.len())?.into_iter();
         Ok(calls.iter().map(|call| outcome(call, &mut words)).collect())
     }
+
+    /// Begins the calls of sweeps; their sums are read in the same order.
+    pub fn send_sweeps(&mut self, sweeps: &[Sweep]) -> Result<()> {
+        let batch: Vec<u64> = sweeps.iter().flat_map(sweep_layout).collect();
+        self.send(Batch::Codec, &batch)
+    }
+
+    /// The sum over what the calls of a sweep leave; none where one touched what it may not.
+    pub fn swept(&mut self, sweep: &Sweep) -> Result<Option<u64>> {
+        let words = self.words(sweep_layout(sweep).len())?;
+        Ok((words[1] == 0).then_some(words[0]))
+    }
 }
 
 fn layout(call: &Call) -> Vec<u64> {
-    let Call { function, kind, word, input, out, room } = call;
-    let lent = call.lent();
-    let mut words = vec![*function as u64, *kind, *word];
-    words.extend([input.len() as u64, *out as u64, *room as u64]);
-    words.extend(lent.numbers);
-    words.extend(whole_words(lent.out));
-    words.extend(whole_words([input.as_slice(), &CONTINUATION].concat()));
+    let head = [call.function as u64, call.kind, call.word];
+    laid(head, call.room, call.lent().out, &call.input)
+}
+
+/// The set is given as the output.
+fn sweep_layout(Sweep { start, set, count }: &Sweep) -> Vec<u64> {
+    let set = [set.as_slice(), &[0; BEHIND]].concat();
+    laid([DECODE_EACH, VISIBLE_STRING, *count as u64], NUMBERS, set, start)
+}
+
+/// The output has its cells behind what is lent, the rest gets them here.
+fn laid(head: [u64; 3], room: usize, out: Vec<u8>, input: &[u8]) -> Vec<u64> {
+    let mut words = head.to_vec();
+    words.extend([input.len(), out.len() - BEHIND, room].map(|length| length as u64));
+    words.extend((0..SAID).map(number_fill));
+    words.extend((0..room + BEHIND).map(number_fill));
+    words.extend(whole_words(out));
+    words.extend(whole_words([input, &CONTINUATION].concat()));
     words
 }
 
@@ -101,6 +129,7 @@ pub fn whole_words(mut bytes: Vec<u8>) -> Vec<u64> {
 /// function's place, and in the type's place what was touched wrongly.
 fn outcome(call: &Call, words: &mut impl Iterator<Item = u64>) -> Outcome {
     let header: Vec<u64> = words.take(HEADER).collect();
+    let said = std::array::from_fn(|place| header[HEADER - SAID + place]);
     let numbers = words.take(call.room + BEHIND).collect();
     let mut bytes = |length: usize| {
         let words = words.take((length + BEHIND).div_ceil(8));
@@ -110,5 +139,5 @@ fn outcome(call: &Call, words: &mut impl Iterator<Item = u64>) -> Outcome {
     };
     let out = bytes(call.out);
     bytes(call.input.len());
-    Outcome { answer: header[0], touched: header[1] != 0, numbers, out }
+    Outcome { answer: header[0], touched: header[1] != 0, numbers, said, out }
 }

@@ -1,11 +1,14 @@
 //! Prints a fixed list of the unchanged Rust's answers, for replay without Rust:
-//! mapping words (w), decoded data (d) and encoded values (e).
+//! mapping words (w), decoded data (d) and encoded values (e). What is said of data that it does not
+//! decode is fault.rs's.
 
+mod fault;
 mod hex;
 mod inputs;
 mod original;
 mod random;
 
+use fault::Fault;
 use hex::hex;
 use inputs::{EDGE_BYTES, damaged, patterns, text};
 use original::{KINDS, UNICODE_STRING, VISIBLE_STRING, size};
@@ -40,10 +43,14 @@ fn decode_line(kind: u64, data: &[u8]) {
         Ok(value) => {
             print!(" 0");
             original::numbers(&value).iter().for_each(|number| print!(" {number:X}"));
-            println!();
         }
-        Err(refusal) => println!(" {refusal:X}"),
+        Err(refusal) => {
+            print!(" {refusal:X}");
+            let numbers = Fault::of(kind, data).map_or(Vec::new(), Fault::numbers);
+            numbers.iter().for_each(|number| print!(" {number:X}"));
+        }
     }
+    println!();
 }
 
 /// What cannot be encoded has no line: the Rust has no value for it.

@@ -11,6 +11,7 @@ pub mod halves;
 pub mod histories;
 pub mod images;
 pub mod malice;
+pub mod no_values;
 pub mod restored;
 pub mod rooms;
 pub mod saves;

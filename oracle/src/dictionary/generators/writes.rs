@@ -4,14 +4,13 @@ use super::calls;
 use super::mappings;
 use super::objects;
 use crate::dictionary::model::layout::{
-    Object, STORE_PARAMETERS, Value, element, is_mapping, is_string,
+    Object, RESTORE_DEFAULTS, STORE_PARAMETERS, Value, element, is_mapping, is_string,
 };
 use crate::dictionary::model::step::{Call, Write};
 use crate::inputs::{damaged, text};
 use crate::original::{KINDS, UNICODE_STRING, VISIBLE_STRING};
 use crate::random::Random;
 
-const RESTORE_DEFAULTS: u16 = 0x1011;
 const UNSIGNED8: u64 = 5;
 const UNSIGNED64: u64 = 8;
 

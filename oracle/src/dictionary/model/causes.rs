@@ -1,9 +1,14 @@
 //! Which part of its rule gave an answer of `write` or of the count check: RULES.md 8 to 10 on the
 //! plain objects, as they are before the call. It says only what is counted, and decides nothing.
 
-use super::layout::{ARRAY, Object, STORE_PARAMETERS, VARIABLE, Value, is_mapping, is_string};
+use super::layout::{
+    ARRAY, LARGEST_ROOM, Object, RESTORE_DEFAULTS, STORE_PARAMETERS, VARIABLE, Value, element,
+    is_mapping, is_string,
+};
 use super::step::Write;
+use crate::fault::Fault;
 use crate::original::VISIBLE_STRING;
+use crate::sorts;
 
 const DONE: u64 = 0;
 const OBJECT_NOT_FOUND: u64 = 3;
@@ -26,6 +31,29 @@ const LIMITS: u64 = 0x1F98;
 
 fn find(objects: &[Object], index: u64) -> Option<&Object> {
     objects.iter().find(|object| object.index == index)
+}
+
+/// Of BadValue, by what decoding makes of the data and the part of R3.4 that it breaks.
+pub fn of_bad_value(given: &Write, fault: Option<Fault>, rule: &'static str) -> &'static str {
+    match fault {
+        Some(fault) => sorts::name(fault, &given.data),
+        None if rule == "byte count" => "too many bytes",
+        None => rule,
+    }
+}
+
+/// Where BadValue came with numbers: it is judged before the place.
+pub fn of_numbers(objects: &[Object], given: &Write) -> &'static str {
+    let object = find(objects, given.index.into());
+    let is_there = object.is_some_and(|object| element(object, given.sub_index).is_some());
+    match given.index {
+        STORE_PARAMETERS => "numbers at 1010h",
+        RESTORE_DEFAULTS => "numbers at 1011h",
+        index if is_mapping(index) && given.sub_index == 0 => "numbers for a mapping's count",
+        _ if given.data.len() > LARGEST_ROOM => "numbers for what no room holds",
+        _ if is_there => "numbers where a value is",
+        _ => "numbers where no value is",
+    }
 }
 
 /// Of a refusal by the Rust, of a value that keeps R3.4.

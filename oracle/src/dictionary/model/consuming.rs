@@ -1,6 +1,7 @@
 //! What consuming must give: RULES.md 11 read a second time, on the plain objects. All that the
 //! Rust tells must be what is told here, and all its values those of the objects. What it cannot
-//! say is document 01's: the element of an event, TooLong, the refusals, and where bytes lie.
+//! say is document 01's: the element of an event and its numbers, TooLong, the refusals, and where
+//! bytes lie.
 
 use super::memory::Memory;
 use super::running::{MAP_VERSION, Payload, Run, Told, Word, set_bit};
@@ -123,11 +124,16 @@ fn payloads(given: &Cycle) -> Result<Vec<Payload<'_>>, &'static str> {
     given.payloads.chunks(A_PAYLOAD).map(payload).collect()
 }
 
-/// R11.14.
+/// R11.14. What is said of a field stands where a hand-off has the field's start and length.
 fn event(told: &Told, words: &[Word], payload: u64) -> u64 {
     let [mut element, mut index, mut start, mut length] = [0; 4];
     if told.kind != MAP_VERSION {
         element = words[told.step].element;
+    }
+    match told.said[..] {
+        [place] => start = place,
+        [needed, had] => [start, length] = [needed, had],
+        _ => {}
     }
     if told.handed.is_some() {
         let word = &words[told.step];

@@ -17,8 +17,9 @@ pub const ARRAY: u64 = 1;
 pub const LAST_SHAPE: u64 = 2;
 pub const NO_ACCESS: u64 = 7;
 
-/// Where a save is asked for.
+/// Where a save is asked for, and a restore.
 pub const STORE_PARAMETERS: u16 = 0x1010;
+pub const RESTORE_DEFAULTS: u16 = 0x1011;
 
 /// A fixed type's word is its number, a string's its length; the room's first
 /// bytes are then the string.

@@ -2,9 +2,8 @@
 //! Rust's own run is made, step by step its own too; between two steps is looked at what the last
 //! one did.
 
-use super::running::{
-    CLIENT, COUNT_REFUSED, FRAME, MAP_VERSION, ODD, SERVER, TEXT, TOO_LONG, Told, VALUE,
-};
+use super::running::{CLIENT, COUNT_REFUSED, FRAME, ODD, SERVER, TEXT, TOO_LONG, Told, VALUE};
+use crate::fault;
 use powerlink_rs::frame::basic::MacAddress;
 use powerlink_rs::frame::error::{
     CnErrorCounters, DllError, DllErrorManager, ErrorCounters, ErrorHandler, LoggingErrorHandler,
@@ -57,7 +56,7 @@ impl Node {
         // What a step reports is taken at the step, so that this is the version's.
         for error in take(&mut self.errors.calls) {
             assert_eq!(error, DllError::PdoMapVersion { node_id: NodeId(sender) });
-            told.push(Told { step: 0, kind: MAP_VERSION, handed: None });
+            told.push(Told::of_version());
         }
         told
     }
@@ -138,7 +137,8 @@ impl PdoHandler<'static> for Watch<'_> {
         assert_eq!(errors.is_empty(), ended.is_ok(), "a run stops where an error is reported");
         for error in errors {
             assert_eq!(error, DllError::PdoPayloadShort { node_id: sender });
-            self.tell(cause(entry, payload, there.as_ref()), None);
+            let (kind, said) = cause(entry, payload, there.as_ref());
+            self.tell(kind, None, said);
         }
         if !self.tell_handed() && ended.is_ok() {
             if let (Some(there), Some(field)) = (there, field(entry, payload)) {
@@ -151,8 +151,8 @@ impl PdoHandler<'static> for Watch<'_> {
 }
 
 impl Watch<'_> {
-    fn tell(&mut self, kind: u64, handed: Option<(u16, Vec<u8>)>) {
-        self.told.push(Told { step: self.steps, kind, handed });
+    fn tell(&mut self, kind: u64, handed: Option<(u16, Vec<u8>)>, said: Vec<u64>) {
+        self.told.push(Told { step: self.steps, kind, handed, said });
     }
 
     /// Whether the step handed its field to the server or the client, which is then told.
@@ -161,8 +161,8 @@ impl Watch<'_> {
         let requests = take(&mut core.embedded_sdo_server.requests);
         let responses = take(&mut core.embedded_sdo_client.responses);
         let handed = !requests.is_empty() || !responses.is_empty();
-        requests.into_iter().for_each(|request| self.tell(SERVER, Some(request)));
-        responses.into_iter().for_each(|response| self.tell(CLIENT, Some(response)));
+        requests.into_iter().for_each(|request| self.tell(SERVER, Some(request), vec![]));
+        responses.into_iter().for_each(|response| self.tell(CLIENT, Some(response), vec![]));
         handed
     }
 
@@ -177,14 +177,14 @@ impl Watch<'_> {
             let again = reach::write_internal(od, index, sub_index, count, false);
             if let Err(error) = again {
                 assert!(matches!(error, PowerlinkError::StorageError(_)), "{error:?}");
-                self.tell(COUNT_REFUSED, None);
+                self.tell(COUNT_REFUSED, None, vec![]);
             }
             return;
         }
         if is_string(there) && field.len() > (self.room)(index, sub_index) {
             let put = reach::write_internal(od, index, sub_index, there.clone(), false);
             put.expect("a value of its type was there");
-            self.tell(TOO_LONG, None);
+            self.tell(TOO_LONG, None, vec![]);
         }
     }
 }
@@ -205,14 +205,19 @@ fn field<'a>(entry: &PdoMappingEntry, payload: &'a [u8]) -> Option<&'a [u8]> {
     payload.get(start..start + length)
 }
 
-/// The Rust reports one error for all causes, so that its decoding is asked which one it was.
-fn cause(entry: &PdoMappingEntry, payload: &[u8], there: Option<&ObjectValue>) -> u64 {
-    let Some(field) = field(entry, payload) else { return FRAME };
+/// The Rust reports one error for all causes, so that its decoding is asked which one it was. What is
+/// said besides is not the Rust's: its values have the size of their types, and a text is judged.
+fn cause(entry: &PdoMappingEntry, payload: &[u8], there: Option<&ObjectValue>) -> (u64, Vec<u64>) {
+    let Some(field) = field(entry, payload) else { return (FRAME, vec![]) };
     let there = there.expect("what is missing is passed over");
     match (ObjectValue::deserialize(field, there), there) {
-        (Err(PowerlinkError::BufferTooShort), _) => VALUE,
-        (Err(PowerlinkError::TypeMismatch), ObjectValue::VisibleString(_)) => TEXT,
-        (Err(PowerlinkError::TypeMismatch), ObjectValue::UnicodeString(_)) => ODD,
+        (Err(PowerlinkError::BufferTooShort), _) => {
+            (VALUE, vec![there.serialize().len() as u64, field.len() as u64])
+        }
+        (Err(PowerlinkError::TypeMismatch), ObjectValue::VisibleString(_)) => {
+            (TEXT, vec![fault::place(field) as u64])
+        }
+        (Err(PowerlinkError::TypeMismatch), ObjectValue::UnicodeString(_)) => (ODD, vec![]),
         other => panic!("the Rust stops at {other:?}, which has no cause"),
     }
 }

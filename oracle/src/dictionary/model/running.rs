@@ -1,9 +1,11 @@
 //! A run over one payload: RULES.md R11.2 to R11.10 on the plain objects, written from the rules
 //! alone.
 
-use super::layout::{self, Object, VARIABLE, element, is_mapping, is_string, is_text};
+use super::layout::{self, Object, VARIABLE, element, is_mapping, is_string};
 use super::memory::Memory;
-use crate::original::{UNICODE_STRING, VISIBLE_STRING, size};
+use crate::fault::Fault;
+use crate::original::size;
+use crate::sorts;
 
 /// Kinds of events (R11.14).
 pub const MAP_VERSION: u64 = 1;
@@ -23,13 +25,21 @@ const UNSIGNED64: u64 = 8;
 const WRONG_VERSIONS: u16 = 0x1C80;
 const SHORT_PAYLOADS: u16 = 0x1C81;
 
-/// An event as the Rust can tell it: by the step, counted from 0, that gave it, and where it hands
-/// something off, by the channel and the bytes.
+/// An event as the Rust can tell it: by the step, counted from 0, that gave it, where it hands
+/// something off, by the channel and the bytes, and what is said of a field that does not decode.
 #[derive(Debug, PartialEq, Eq)]
 pub struct Told {
     pub step: usize,
     pub kind: u64,
     pub handed: Option<(u16, Vec<u8>)>,
+    pub said: Vec<u64>,
+}
+
+impl Told {
+    /// That the version is wrong, before any step.
+    pub fn of_version() -> Self {
+        Self { step: 0, kind: MAP_VERSION, handed: None, said: Vec::new() }
+    }
 }
 
 /// One payload of those that a call consumes.
@@ -44,7 +54,9 @@ pub struct Payload<'a> {
 #[derive(Clone, Copy)]
 enum Fate {
     Misaligned,
-    Short(u64),
+    PastThePayload,
+    /// With the fault's sort.
+    Undecodable(Fault, &'static str),
     Handed(u64),
     Missing,
     CountRefused,
@@ -55,9 +67,20 @@ enum Fate {
 }
 
 impl Fate {
+    fn fault(self) -> Option<Fault> {
+        match self {
+            Self::Undecodable(fault, _) => Some(fault),
+            _ => None,
+        }
+    }
+
     fn event(self) -> Option<u64> {
         match self {
-            Self::Short(kind) | Self::Handed(kind) => Some(kind),
+            Self::PastThePayload => Some(FRAME),
+            Self::Undecodable(Fault::Value { .. }, _) => Some(VALUE),
+            Self::Undecodable(Fault::Text { .. }, _) => Some(TEXT),
+            Self::Undecodable(Fault::Odd, _) => Some(ODD),
+            Self::Handed(kind) => Some(kind),
             Self::CountRefused => Some(COUNT_REFUSED),
             Self::TooLong => Some(TOO_LONG),
             Self::Misaligned | Self::Missing | Self::MappingCount => None,
@@ -68,10 +91,8 @@ impl Fate {
     fn name(self) -> &'static str {
         match self {
             Self::Misaligned => "misaligned",
-            Self::Short(FRAME) => "past the payload",
-            Self::Short(VALUE) => "too few bytes",
-            Self::Short(TEXT) => "not UTF-8",
-            Self::Short(_) => "odd",
+            Self::PastThePayload => "past the payload",
+            Self::Undecodable(_, sort) => sort,
             Self::Handed(SERVER) => "to the server",
             Self::Handed(_) => "to the client",
             Self::Missing => "no target",
@@ -176,7 +197,7 @@ impl Run<'_> {
         if !is_right(expected, self.payload.version) {
             self.notes.push("wrong version");
             self.set_bit(WRONG_VERSIONS);
-            return (Vec::new(), vec![Told { step: 0, kind: MAP_VERSION, handed: None }]);
+            return (Vec::new(), vec![Told::of_version()]);
         }
         let Some(words) = self.gathered(channel) else {
             self.notes.push("no list");
@@ -201,14 +222,15 @@ impl Run<'_> {
             if let Some(kind) = fate.event() {
                 let field = self.field(word).unwrap_or_default();
                 let handed = matches!(fate, Fate::Handed(_)).then(|| (word.index, field.to_vec()));
-                told.push(Told { step, kind, handed });
+                let said = fate.fault().map_or(Vec::new(), Fault::numbers);
+                told.push(Told { step, kind, handed, said });
             }
-            if let Fate::Short(kind) = fate {
-                if kind == FRAME {
-                    self.set_bit(SHORT_PAYLOADS);
-                }
-                return told;
+            match fate {
+                Fate::PastThePayload => self.set_bit(SHORT_PAYLOADS),
+                Fate::Undecodable(fault, _) => self.note_fault(word, fault),
+                _ => continue,
             }
+            return told;
         }
         self.notes.push("to the end");
         told
@@ -224,7 +246,7 @@ impl Run<'_> {
         if !word.is_aligned() {
             return Fate::Misaligned;
         }
-        let Some(field) = self.field(word) else { return Fate::Short(FRAME) };
+        let Some(field) = self.field(word) else { return Fate::PastThePayload };
         match word.index {
             0x1200..=0x127F => return Fate::Handed(SERVER),
             0x1280..=0x12FF => return Fate::Handed(CLIENT),
@@ -232,21 +254,27 @@ impl Run<'_> {
         }
         let Some(row) = row(self.objects, word.index) else { return Fate::Missing };
         let object = &self.objects[row];
-        let is_count = object.shape != VARIABLE && word.sub_index == 0;
+        let is_count = self.is_count(word);
         let place = element(object, word.sub_index);
         let kind = match place {
             Some(place) => object.values[place].kind,
             None if is_count => UNSIGNED8,
             None => return Fate::Missing,
         };
-        if let Some(cause) = undecodable(kind, field) {
-            return Fate::Short(cause);
+        if let Some(fault) = Fault::of(kind, field) {
+            return Fate::Undecodable(fault, sorts::name(fault, field));
         }
         match place {
             Some(place) => self.put(word, row, place),
             None if is_mapping(word.index) => Fate::MappingCount,
             None => Fate::CountRefused,
         }
+    }
+
+    /// Of a list; what is not there has none.
+    fn is_count(&self, word: &Word) -> bool {
+        let row = row(self.objects, word.index);
+        word.sub_index == 0 && row.is_some_and(|row| self.objects[row].shape != VARIABLE)
     }
 
     /// R5.7, of a field that decodes.
@@ -275,14 +303,19 @@ impl Run<'_> {
             self.notes.push("a bit set");
         }
     }
-}
 
-/// R11.6.
-fn undecodable(kind: u64, field: &[u8]) -> Option<u64> {
-    match (kind, size(kind)) {
-        (_, Some(size)) => (field.len() < size).then_some(VALUE),
-        (VISIBLE_STRING, _) => (!is_text(field)).then_some(TEXT),
-        (UNICODE_STRING, _) => (!field.len().is_multiple_of(2)).then_some(ODD),
-        _ => None,
+    /// Where its numbers are easily mistaken for others.
+    fn note_fault(&mut self, word: &Word, fault: Fault) {
+        let start = word.start / 8;
+        let note = match fault {
+            Fault::Value { .. } if self.is_count(word) => "no byte for a list's count",
+            Fault::Value { needed, .. } if start + needed <= self.payload.bytes.len() => {
+                "too few bytes, with others behind them"
+            }
+            Fault::Text { place } if place > 255 => "a place above 255",
+            Fault::Text { .. } if start > 0 => "a bad text behind other bytes",
+            _ => return,
+        };
+        self.notes.push(note);
     }
 }

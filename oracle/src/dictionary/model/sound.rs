@@ -24,7 +24,7 @@ pub struct Dictionary {
 pub type Refused = (u64, Option<&'static str>);
 
 /// What a call that is done writes into the memory lent for results. The answer is 0 but for a
-/// check's faults.
+/// check's faults and for a refusal that has numbers.
 #[derive(Default)]
 pub struct Done {
     pub answer: u64,

@@ -3,6 +3,7 @@
 use super::insertion::Insertion;
 use super::layout::{Object, Used};
 use super::memory::Lent;
+use crate::call::SAID;
 
 #[derive(Clone, PartialEq, Eq)]
 pub enum Call {
@@ -182,7 +183,9 @@ impl Call {
             Self::ReadNumber { .. } | Self::FindByName(_) => (1, 0),
             Self::GetConfiguredCns(out) => (1, *out),
             Self::New | Self::Insert(_) | Self::IncrementCounter { .. } => (0, 0),
-            Self::Write(_) | Self::ValidatePdoMapping { .. } => (0, 0),
+            // What is said of data that is no value.
+            Self::Write(_) => (SAID, 0),
+            Self::ValidatePdoMapping { .. } => (0, 0),
             Self::RestorePowerOnValues { .. } | Self::UpdatePdoErrorObject { .. } => (0, 0),
             Self::ConsumePdoPayload(_) | Self::Check(_) | Self::CheckAll(_) => (1, 0),
             Self::ConsumeCycle(_) => (2, 0),

@@ -112,7 +112,7 @@ impl World {
             Call::IncrementCounter { index, sub_index } => {
                 Ok(dictionary.increment_counter(memory, *index, *sub_index))
             }
-            Call::Write(given) => dictionary.write(given, memory),
+            Call::Write(given) => dictionary.write(given, memory, notes),
             Call::ValidatePdoMapping { index, count } => {
                 dictionary.validate_pdo_mapping(*index, *count)
             }

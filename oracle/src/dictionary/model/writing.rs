@@ -1,5 +1,5 @@
 //! What `write` and the count check must give. The Rust decides; what it cannot
-//! say is document 01's: BadValue, TooLong, StoreFull, and where bytes lie.
+//! say is document 01's: BadValue and its numbers, TooLong, StoreFull, and where bytes lie.
 
 use super::causes;
 use super::image::{self, Record};
@@ -8,6 +8,7 @@ use super::memory::Memory;
 use super::rust::Written;
 use super::sound::{Dictionary, Done, Refused};
 use super::step::Write;
+use crate::fault::Fault;
 use crate::original::BAD_VALUE;
 
 const TOO_LONG: u64 = 13;
@@ -15,10 +16,15 @@ const STORE_FULL: u64 = 18;
 const RESTORE_REQUESTED: u64 = 19;
 
 impl Dictionary {
-    pub fn write(&mut self, given: &Write, memory: &mut Memory) -> Result<Done, Refused> {
+    pub fn write(
+        &mut self,
+        given: &Write,
+        memory: &mut Memory,
+        notes: &mut Vec<&'static str>,
+    ) -> Result<Done, Refused> {
         // The Rust has no such value, so that it is not asked.
         if let Some(rule) = no_encoding(given.kind, &given.data) {
-            return Err((BAD_VALUE, Some(rule)));
+            return Ok(self.no_value(given, rule, notes));
         }
         let written = self.rust.write(given);
         let refused = |refusal| (refusal, causes::of_refusal(&self.objects, given, refusal));
@@ -32,6 +38,17 @@ impl Dictionary {
         let equal = object.is_none_or(|object| self.is_equal(object));
         assert!(equal, "the model has the Rust's values after a write at {:X}", given.index);
         done
+    }
+
+    /// BadValue by a part of R3.4; what decoding would refuse too has its numbers.
+    fn no_value(&self, given: &Write, rule: &'static str, notes: &mut Vec<&'static str>) -> Done {
+        let fault = Fault::of(given.kind, &given.data);
+        let numbers = fault.map_or(Vec::new(), Fault::numbers);
+        if !numbers.is_empty() {
+            notes.push(causes::of_numbers(&self.objects, given));
+        }
+        let cause = Some(causes::of_bad_value(given, fault, rule));
+        Done { answer: BAD_VALUE, numbers, cause, ..Done::default() }
     }
 
     /// What the Rust makes of the value is put where the layout has it.

@@ -17,6 +17,7 @@ use crate::dictionary::model::memory::Lent;
 use crate::dictionary::model::step::{Call, Cycle, History, Step};
 use crate::dictionary::shown::tally::{Goal, Tally};
 use crate::random::Random;
+use crate::sorts::BAD_TEXTS;
 
 const UNSIGNED8: u64 = 5;
 const UNSIGNED64: u64 = 8;
@@ -76,7 +77,8 @@ fn lacking(tally: &Tally) -> Vec<String> {
 
 /// What of consuming was not reached; the stored histories are held against it too.
 pub fn not_reached(tally: &Tally) -> Vec<String> {
-    let notes = [CONSUME, CYCLE].map(|call| tally.not_noted(call, &NOTES)).concat();
+    let notes = [&NOTES[..], &BAD_TEXTS].concat();
+    let notes = [CONSUME, CYCLE].map(|call| tally.not_noted(call, &notes)).concat();
     [notes, tally.missed(&ANSWERS)].concat()
 }
 
@@ -101,9 +103,9 @@ const ANSWERS: [Goal; 16] = [
     (BIT, 1, None),
 ];
 
-/// What payloads must come upon, in both calls: what happens before the first word, and each
-/// outcome of R11.5.
-const NOTES: [&str; 19] = [
+/// What payloads must come upon, in both calls: what happens before the first word, each outcome of
+/// R11.5, and fields whose numbers are easily mistaken for others.
+const NOTES: [&str; 22] = [
     "not ready",
     "no channel",
     "wrong version",
@@ -114,7 +116,10 @@ const NOTES: [&str; 19] = [
     "to the client",
     "no target",
     "too few bytes",
-    "not UTF-8",
+    "too few bytes, with others behind them",
+    "no byte for a list's count",
+    "a bad text behind other bytes",
+    "a place above 255",
     "odd",
     "a list's count",
     "a mapping's count",

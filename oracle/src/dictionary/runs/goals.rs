@@ -4,18 +4,26 @@
 use crate::dictionary::model::answers::answer_name;
 use crate::dictionary::model::explained::{THERE, VERDICTS, verdict_name};
 use crate::dictionary::shown::tally::{Goal, Tally};
+use crate::sorts::BAD_TEXTS;
 
 /// What a run did not reach.
 pub fn lacking(tally: &Tally) -> Vec<String> {
     let answers = [&INSERT[..], &WRITE, &SAVE, &COUNT, &RESTORE].concat();
-    [tally.missed(&answers), restores_lacking(tally)].concat()
+    let numbers = tally.not_noted(WRITES, &["numbers for what no room holds"]);
+    [tally.missed(&answers), numbers_lacking(tally), numbers, restores_lacking(tally)].concat()
 }
 
 /// What the stored histories with a store did not reach.
 pub fn lacking_stored(tally: &Tally) -> Vec<String> {
     let mut answers = [&WRITE[..], &SAVE, &COUNT, &RESTORE].concat();
     answers.retain(|goal| !UNSTORED.contains(goal));
-    [tally.missed(&answers), restores_lacking(tally)].concat()
+    [tally.missed(&answers), numbers_lacking(tally), restores_lacking(tally)].concat()
+}
+
+/// Of data that is no text, and of where BadValue has numbers.
+fn numbers_lacking(tally: &Tally) -> Vec<String> {
+    let texts = BAD_TEXTS.map(|name| (WRITES, 2, Some(name)));
+    [tally.missed(&texts), tally.not_noted(WRITES, &NUMBERS)].concat()
 }
 
 fn restores_lacking(tally: &Tally) -> Vec<String> {
@@ -77,8 +85,8 @@ const WRITE: [Goal; 40] = [
     (WRITES, 0, Some("a Record's count accepted")),
     (WRITES, 1, None),
     (WRITES, 2, Some("type")),
-    (WRITES, 2, Some("byte count")),
-    (WRITES, 2, Some("not UTF-8")),
+    (WRITES, 2, Some("too few bytes")),
+    (WRITES, 2, Some("too many bytes")),
     (WRITES, 2, Some("odd")),
     (WRITES, 3, Some("a value")),
     (WRITES, 3, Some("a count of 0")),
@@ -110,6 +118,15 @@ const WRITE: [Goal; 40] = [
     (WRITES, 11, Some("the limit of 1,490 bytes")),
     (WRITES, 13, None),
     (WRITES, 19, None),
+];
+
+/// Where a write of no value, which is judged before its place, has numbers.
+const NUMBERS: [&str; 5] = [
+    "numbers at 1010h",
+    "numbers at 1011h",
+    "numbers for a mapping's count",
+    "numbers where a value is",
+    "numbers where no value is",
 ];
 
 const SAVE: [Goal; 10] = [

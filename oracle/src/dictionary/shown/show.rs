@@ -151,7 +151,7 @@ fn outcome(outcome: &Outcome) -> String {
     let Outcome { answer, numbers, out, events } = outcome;
     let mut line = self::answer(*answer);
     if !numbers.is_empty() {
-        line += &format!(", numbers {numbers:X?}");
+        line += &format!(", numbers [{}]", cells(numbers));
     }
     if !out.is_empty() {
         line += &format!(", output {}", text(out));
@@ -163,6 +163,15 @@ fn outcome(outcome: &Outcome) -> String {
         line += &format!(", events {}", few(written));
     }
     line
+}
+
+/// Numbers in hex, with a dot for each that is as it was lent.
+fn cells(numbers: &[u64]) -> String {
+    let cell = |(place, number): (usize, &u64)| match *number {
+        number if number == number_fill(place) => ".".to_string(),
+        number => format!("{number:X}"),
+    };
+    numbers.iter().enumerate().map(cell).collect::<Vec<String>>().join(" ")
 }
 
 fn strays(given: &Given) -> String {

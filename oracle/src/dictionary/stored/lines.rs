@@ -1,6 +1,7 @@
 //! Calls and the answers that they must give, as the lines that
 //! crates/tables/src/history.rt reads; its first comment is their format.
 
+use crate::call::number_fill;
 use crate::dictionary::model::checked::{NO_SENDER, TOO_FAR};
 use crate::dictionary::model::explained;
 use crate::dictionary::model::insertion::Insertion;
@@ -82,7 +83,8 @@ impl Lines {
         let outcome = wanted.outcome;
         let Outcome { answer, .. } = outcome;
         let is_refused = answer != 0 && !matches!(answer, NO_SENDER..=TOO_FAR);
-        let found = match is_refused {
+        // Of a write only a refusal has numbers.
+        let found = match is_refused && !matches!(call, Call::Write(_)) {
             true => String::new(),
             false => found(&call, &outcome, self.memory()),
         };
@@ -215,13 +217,20 @@ fn listed(numbers: &[u64]) -> String {
     numbers.iter().map(|number| format!(" {number:X}")).collect()
 }
 
-/// What a call that is done answers besides.
+/// The numbers of a write that were set: those of data that is no value.
+fn said(numbers: &[u64]) -> String {
+    let set = numbers.iter().enumerate().filter(|(place, number)| **number != number_fill(*place));
+    listed(&set.map(|(_, number)| *number).collect::<Vec<u64>>())
+}
+
+/// What a call answers besides.
 fn found(call: &Call, outcome: &Outcome, memory: &Memory) -> String {
     let Outcome { numbers, out, events, .. } = outcome;
     match call {
         Call::New | Call::Insert(_) | Call::IncrementCounter { .. } => String::new(),
-        Call::Write(_) | Call::ValidatePdoMapping { .. } => String::new(),
-        Call::RestorePowerOnValues { .. } | Call::UpdatePdoErrorObject { .. } => String::new(),
+        Call::Write(_) => said(numbers),
+        Call::ValidatePdoMapping { .. } | Call::RestorePowerOnValues { .. } => String::new(),
+        Call::UpdatePdoErrorObject { .. } => String::new(),
         Call::ConsumePdoPayload(_) | Call::CheckAll(_) => {
             format!(" {:X}{}", numbers[0], listed(&events[..numbers[0] as usize]))
         }

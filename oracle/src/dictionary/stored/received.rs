@@ -10,6 +10,7 @@ use crate::dictionary::model::consuming::{LEAST_ROOM, LONGEST_PAYLOAD};
 use crate::dictionary::model::layout::*;
 use crate::dictionary::model::step::{Call, Cycle, Received};
 use crate::dictionary::runs::consumed::not_reached;
+use crate::original::VISIBLE_STRING;
 use crate::random::Random;
 
 /// Never changed: the printed list is the same at every run.
@@ -35,6 +36,8 @@ pub fn print() {
         mixture(&mut lines, random);
     }
     damage(&mut lines, random);
+    bad_texts(&mut lines);
+    caption(&mut lines);
     let lacking = not_reached(&lines.tally);
     assert!(lacking.is_empty(), "the lines lack {lacking:?}");
     print!("{}", lines.finish());
@@ -63,6 +66,47 @@ fn spring(lines: &mut Lines, trap: &Trap) {
     }
     let numbers = [0, bytes.len() as u64, (*sender).into(), (*version).into(), 1];
     lines.call(cycle(bytes, &[numbers], LEAST_ROOM));
+}
+
+/// A byte and a text of so many bytes for node 5, and the targets.
+fn byte_and_text(lines: &mut Lines, length: usize) {
+    lines.begin();
+    lines.insert(&bare(0x1400, RECORD, u8s([5, 0])));
+    let text = w(8 * length as u64, 8, 0, 0x6001);
+    lines.insert(&bare(0x1600, ARRAY, vec![w(8, 0, 0, 0x6000), text]));
+    lines.insert(&bare(0x6000, VARIABLE, u8s([0])));
+    lines.insert(&bare(0x6001, VARIABLE, vec![Value::new(VISIBLE_STRING, length, b"")]));
+}
+
+/// Texts that something breaks, each by itself and then all as a cycle: the place is that in the text.
+fn bad_texts(lines: &mut Lines) {
+    const PAYLOADS: [&[u8; 6]; 9] = [
+        b"0ab\xFFcd",
+        b"1\xC0abcd",
+        b"2\xED\xA0\x80ab",
+        b"3a\xE2\x82bc",
+        b"4\xF0\x9F\x98ab",
+        b"5abcd\xC3",
+        b"6abc\xE2\x82",
+        b"7ab\xF4\x8F\xBF",
+        b"8a\xE2\x82\xACb",
+    ];
+    byte_and_text(lines, 5);
+    let mut numbers = Vec::new();
+    for (number, bytes) in (0..).zip(PAYLOADS) {
+        lines.call(payload(bytes, 5, 0, 1, LEAST_ROOM));
+        numbers.push([6 * number, 6, 5, 0, 1]);
+    }
+    lines.read(0x6001, 0);
+    lines.call(cycle(&PAYLOADS.map(|bytes| *bytes).concat(), &numbers, 2 * LEAST_ROOM));
+}
+
+/// A text of 300 bytes of which the last is bad.
+fn caption(lines: &mut Lines) {
+    byte_and_text(lines, 300);
+    let bytes = [vec![b'a'; 300], vec![0xFF]].concat();
+    lines.call(payload(&bytes, 5, 0, 1, LEAST_ROOM));
+    lines.call(cycle(&bytes, &[[0, 301, 5, 0, 1]], LEAST_ROOM));
 }
 
 /// Expected and received: cases 5 and 6, and the ends of both nibbles.

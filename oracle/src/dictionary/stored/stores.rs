@@ -37,6 +37,7 @@ pub fn print() {
     damage(&mut lines, random);
     // With numbers of its own, so that it stays as it is where what stands before it changes.
     recovery::all(&mut lines, &mut Random::new(SEED + 1));
+    no_values(&mut lines);
     let lacking = lacking_stored(&lines.tally);
     assert!(lacking.is_empty(), "the lines lack {lacking:?}");
     print!("{}", lines.finish());
@@ -95,6 +96,32 @@ fn values(random: &mut Random, kind: u64) -> Vec<Vec<u8>> {
         kind => {
             let right = objects::encoding(random, kind, 0);
             vec![right[1..].to_vec(), [right.as_slice(), &[0]].concat(), right]
+        }
+    }
+}
+
+/// Each sort of what is no value, at each sort of place: it is judged before the place.
+fn no_values(lines: &mut Lines) {
+    const TEXTS: [&[u8]; 9] = [
+        b"ab\xFF",
+        b"\xC0",
+        b"abcdefgh\xED\xA0\x80",
+        b"abcdef\xE2\x82\x41",
+        b"\xF0\x9F\x98\x41",
+        b"A\xC3",
+        b"\xE2\x82",
+        b"\xF4\x8F\xBF",
+        b"sav\xFF",
+    ];
+    lines.begin();
+    lines.insert(&bare(0x1600, ARRAY, vec![]));
+    lines.insert(&bare(0x2000, VARIABLE, vec![Value::new(VISIBLE_STRING, 6, b"a")]));
+    for (index, sub_index) in [(0x2000, 0), (0x2001, 0), (0x1010, 1), (0x1011, 1), (0x1600, 0)] {
+        for text in TEXTS {
+            lines.call(write(index, sub_index, VISIBLE_STRING, text));
+        }
+        for (kind, length) in [(UNSIGNED8, 0), (UNSIGNED16, 1), (UNSIGNED16, 3), (8, 1), (15, 5)] {
+            lines.call(write(index, sub_index, kind, &vec![7; length]));
         }
     }
 }
