@@ -2,4 +2,5 @@ pub mod Meaning
 pub mod Standard
 pub mod Codec
 pub mod Fault
+pub mod Order
 pub mod Range

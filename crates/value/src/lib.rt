@@ -1,5 +1,6 @@
 // The 21 value types: what their bits mean, and bytes decoded to a word and encoded from one.
 mod codec;
+mod order;
 
 use answers::Refusal;
 pub use codec::decode_word;
@@ -9,6 +10,7 @@ pub use codec::fits;
 pub use codec::is_exact;
 pub use codec::is_text;
 pub use codec::size_of;
+pub use order::is_ordered;
 ghost use mathlib.Core.Path.{_≡_};
 ghost use Rattle.value.specs.Codec.{refusalOf};
 
