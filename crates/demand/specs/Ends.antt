@@ -10,7 +10,7 @@ use Rattle.mapping.specs.Word.{entryOf, fieldOf}
 use Rattle.value.specs.Codec.{sizeOf, wordAt, textWord, encoding}
 use Rattle.entry.specs.Model.{Val, allObjects, allSlots, allWords, allBytes, rowsOf, slotsOf, wordsOf, rooms}
 use Rattle.entry.specs.Table.{Dict, dict, listCount}
-use Rattle.entry.specs.Rules.{wordOk, valOk, heldOk, headOk, extraOk, isEdition}
+use Rattle.entry.specs.Rules.{wordOk, valOk, heldOk, headOk, extraOk, rangeOk, isEdition}
 use Rattle.entry.specs.Judge.{slotOk, slotsFrom, rowOk, rowFits, rowsFrom, reserved, headerOk, wellFormed}
 use Rattle.entry.specs.Find.{findFrom, subAt}
 use Rattle.entry.specs.Put.{contents, filled, putIn}
@@ -44,7 +44,7 @@ mapped = rig (value 8 0x0010000000006000 ∷ [])
 
 -- the restore puts the default, an Unsigned32, so two bytes are no longer its length
 pub restored : (checkOf mapped 0 ≡ Pass) × (checkOf (restoreOf mapped [] 0x6000 0x6000 .memory) 0 ≡ Element 1 WrongLength)
-unfolding checkOf wellFormed headerOk reserved rowsFrom rowFits rowOk extraOk isEdition slotsFrom slotOk headOk heldOk valOk wordOk textWord judgeAt channelFrom faultFrom wordVerdict endsFrom entryOf fieldOf findFrom subAt listCount sizeOf allSlots allWords allBytes rowsOf slotsOf wordsOf rooms restoreOf rowsFit covers valuesFit fitsRoom chosenAt recordFrom readable rowsRestored valuesRestored restoredBy putIn number encoding bytesOf
+unfolding checkOf wellFormed headerOk reserved rowsFrom rowFits rowOk extraOk rangeOk isEdition slotsFrom slotOk headOk heldOk valOk wordOk textWord judgeAt channelFrom faultFrom wordVerdict endsFrom entryOf fieldOf findFrom subAt listCount sizeOf allSlots allWords allBytes rowsOf slotsOf wordsOf rooms restoreOf rowsFit covers valuesFit fitsRoom chosenAt recordFrom readable rowsRestored valuesRestored restoredBy putIn number encoding bytesOf
 restored = (refl, refl)
 
 -- eight bytes onto the list's own element 2, which maps two bytes onto 6000h
@@ -53,5 +53,5 @@ own = rig (value 8 0x0040000000021600 ∷ value 8 0x0010004000006000 ∷ [])
 
 -- the payload makes element 2 map 6001h, which is not there; it is itself still written whole
 pub rewritten : (checkOf own 0 ≡ Pass) × (checkOf (filled own (consumeOf own (0x01 ∷ 0x60 ∷ 0x00 ∷ 0x00 ∷ 0x40 ∷ 0x00 ∷ 0x10 ∷ 0x00 ∷ 0x2A ∷ 0x00 ∷ []) 5 0 true 254 [] .contents)) 0 ≡ Element 2 NoTarget)
-unfolding checkOf wellFormed headerOk reserved rowsFrom rowFits rowOk extraOk isEdition slotsFrom slotOk headOk heldOk valOk wordOk textWord judgeAt channelFrom faultFrom wordVerdict endsFrom entryOf fieldOf findFrom subAt listCount sizeOf allSlots allWords allBytes rowsOf slotsOf wordsOf rooms consumeOf consumedBy runFrom actOf applied outcomeOf classOf onCount putIn wordAt number over
+unfolding checkOf wellFormed headerOk reserved rowsFrom rowFits rowOk extraOk rangeOk isEdition slotsFrom slotOk headOk heldOk valOk wordOk textWord judgeAt channelFrom faultFrom wordVerdict endsFrom entryOf fieldOf findFrom subAt listCount sizeOf allSlots allWords allBytes rowsOf slotsOf wordsOf rooms consumeOf consumedBy runFrom actOf applied outcomeOf classOf onCount putIn wordAt number over
 rewritten = (refl, refl)

@@ -35,7 +35,7 @@ use Rattle.channel.specs.declared.Checked.{Checked}
 use Rattle.channel.specs.declared.Checked.the-variants.{Pass, Element}
 use Rattle.element.specs.Elements.{wordVerdict}
 use Rattle.channel.specs.Check.{faultFrom, checkOf}
-use Rattle.entry.specs.Rules.{wordOk, valOk, heldOk, headOk, extraOk, isEdition}
+use Rattle.entry.specs.Rules.{wordOk, valOk, heldOk, headOk, extraOk, rangeOk, isEdition}
 use Rattle.entry.specs.Judge.{slotOk, slotsFrom, rowOk, rowFits, rowsFrom, reserved, headerOk, wellFormed}
 
 -- ---- the set-up of R14.2, with the first mapping word as a case has it
@@ -133,10 +133,10 @@ each f (c ∷ cs) = f c ∷ each f cs
 
 -- ---- the theorem
 pub twelve : each answers table ≡ each wants table
-unfolding answers wants each entryOf fieldOf decodeOf wordAt textWord sizeOf number readings markedIn bitAt consumedBy channelFrom runFrom actOf applied outcomeOf classOf onCount findFrom subAt listCount putIn over checkOf wellFormed headerOk reserved rowsFrom rowFits rowOk extraOk isEdition slotsFrom slotOk headOk heldOk valOk wordOk judgeAt faultFrom wordVerdict endsFrom allSlots allWords allBytes rowsOf slotsOf wordsOf rooms
+unfolding answers wants each entryOf fieldOf decodeOf wordAt textWord sizeOf number readings markedIn bitAt consumedBy channelFrom runFrom actOf applied outcomeOf classOf onCount findFrom subAt listCount putIn over checkOf wellFormed headerOk reserved rowsFrom rowFits rowOk extraOk rangeOk isEdition slotsFrom slotOk headOk heldOk valOk wordOk judgeAt faultFrom wordVerdict endsFrom allSlots allWords allBytes rowsOf slotsOf wordsOf rooms
 twelve = refl
 
 -- and case 8's channel passes: the check refuses no right one
 pub mended : checkOf (laid 0x0010000000006000) 0 ≡ Pass
-unfolding entryOf fieldOf textWord sizeOf channelFrom findFrom subAt listCount checkOf wellFormed headerOk reserved rowsFrom rowFits rowOk extraOk isEdition slotsFrom slotOk headOk heldOk valOk wordOk judgeAt faultFrom wordVerdict endsFrom allSlots allWords allBytes rowsOf slotsOf wordsOf rooms
+unfolding entryOf fieldOf textWord sizeOf channelFrom findFrom subAt listCount checkOf wellFormed headerOk reserved rowsFrom rowFits rowOk extraOk rangeOk isEdition slotsFrom slotOk headOk heldOk valOk wordOk judgeAt faultFrom wordVerdict endsFrom allSlots allWords allBytes rowsOf slotsOf wordsOf rooms
 mended = refl

@@ -9,6 +9,7 @@ use Rattle.text.specs.Machine.{judge}
 use Rattle.text.specs.declared.Text.{Text}
 use Rattle.text.specs.declared.Text.the-variants.{Good, Bad}
 use Rattle.value.specs.Codec.{isText, fitsType, takes, textWord}
+use Rattle.value.specs.Order.{ordered}
 use Rattle.entry.specs.declared.Extra.{Extra}
 use Rattle.entry.specs.Model.{Val, Obj, used, allWords, allBytes}
 
@@ -42,9 +43,16 @@ unfoldable pub headOk : ℕ → ℕ → ℕ → ℕ → ℕ → ℕ → Bool
 headOk index kind access count flag len =
     ltb index 65536 && (ltb kind 3 && (ltb access 8 && (leb count 254 && ((not (eqb kind 0) || eqb count 1) && (leb flag 1 && leb len 32)))))
 
--- what a row has beside that, where it has n elements: nothing yet
+-- R5.13: no range, of type 0, or two words of one integer type, of which the first means no more than the second
+unfoldable pub rangeOk : ℕ → ℕ → ℕ → Bool
+rangeOk t low high =
+    cond (eqb t 0)
+    (eqb low 0 && eqb high 0)
+    (leb t 8 && (fitsType t low && (fitsType t high && ordered t low high)))
+
+-- what a row has beside that, where it has n elements
 unfoldable pub extraOk : ℕ → Extra → Bool
-extraOk n e = eqb (e .kept) 0 && (eqb (e .ranged) 0 && (eqb (e .low) 0 && eqb (e .high) 0))
+extraOk n e = eqb (e .kept) 0 && rangeOk (e .ranged) (e .low) (e .high)
 
 -- how many elements
 abbrev pub count : Obj → ℕ

@@ -7,7 +7,7 @@ ghost use lib.ListN.{length, take, drop, getD};
 ghost use Rattle.text.specs.Machine.{judge};
 ghost use Rattle.value.specs.Codec.{isText, takes, textWord};
 ghost use Rattle.entry.specs.Table.{numberOf, valuesOf, usedOf, rowEnd, slotPlace, slotEnd, countAt, defaultAt, nameLenAt, typeAt, startAt, roomAt, dict};
-ghost use Rattle.entry.specs.Rules.{isGood, valOk, tight, headOk, extraOk};
+ghost use Rattle.entry.specs.Rules.{isGood, valOk, tight, headOk, rangeOk, extraOk};
 ghost use Rattle.entry.specs.Judge.{reserved, slotsFrom, rowOk, rowFits, rowsFrom, headerOk, wellFormed, Long};
 use entry::Extra;
 use entry::Sum;
@@ -107,11 +107,30 @@ fn reserved(objects: &[u64]) -> bool
                             & ((objects[9] == 0) & ((objects[10] == 0) & (objects[11] == 0))))))))
 }
 
+// Whether two words are a range of an integer type, or none, of type 0.
+pub fn range_ok(t: u64, low: u64, high: u64) -> bool
+    ensures { λ r. ⌜ r ≡ rangeOk t low high ⌝ }
+{
+    if t == 0 {
+        return (low == 0) & (high == 0);
+    }
+    if 8 < t {
+        return false;
+    }
+    if !value::fits(t, low) {
+        return false;
+    }
+    if !value::fits(t, high) {
+        return false;
+    }
+    value::is_ordered(t, low, high)
+}
+
 // Whether what a row has beside its head keeps the rules, where the object has so many elements.
 fn extra_ok(count: u64, extra: Extra) -> bool
     ensures { λ r. ⌜ r ≡ extraOk count extra ⌝ }
 {
-    (extra.kept == 0) & ((extra.ranged == 0) & ((extra.low == 0) & (extra.high == 0)))
+    (extra.kept == 0) & range_ok(extra.ranged, extra.low, extra.high)
 }
 
 // A slot that is not the default's: its room lies from b on, within the bytes that are used, and its value is right.
