@@ -11,6 +11,7 @@ use tokens::pairs;
 use tokens::room;
 use tokens::sub_at;
 
+// Without a range.
 fn head_at(s: &[u8], at: usize) -> Head {
     let kind = next(s, at);
     let access = next(s, kind);
@@ -20,6 +21,10 @@ fn head_at(s: &[u8], at: usize) -> Head {
         kind: number(s, kind),
         access: number(s, access),
         default: number(s, default),
+        low_type: 0,
+        low: 0,
+        high_type: 0,
+        high: 0,
     }
 }
 
@@ -39,9 +44,26 @@ fn inserted(s: &[u8], at: usize, head: Head, m: Memory) -> Called {
 }
 
 // Four numbers, then the name.
+fn name_after(s: &[u8], at: usize) -> usize {
+    next(s, next(s, next(s, next(s, at))))
+}
+
 pub fn insert_line(s: &[u8], at: usize, m: Memory) -> Called {
-    let name_at = next(s, next(s, next(s, next(s, at))));
-    inserted(s, name_at, head_at(s, at), m)
+    inserted(s, name_after(s, at), head_at(s, at), m)
+}
+
+// The range's four numbers, then what a line without one has.
+pub fn ranged_line(s: &[u8], at: usize, m: Memory) -> Called {
+    let low = next(s, at);
+    let high_type = next(s, low);
+    let high = next(s, high_type);
+    let head_starts = next(s, high);
+    let mut head = head_at(s, head_starts);
+    head.low_type = number(s, at);
+    head.low = number(s, low);
+    head.high_type = number(s, high_type);
+    head.high = number(s, high);
+    inserted(s, name_after(s, head_starts), head, m)
 }
 
 pub fn counter_line(s: &[u8], at: usize, m: Memory) -> Called {

@@ -7,6 +7,7 @@ pub use damaging::Damaged;
 pub use damaging::damage;
 pub use inserting::counter_line;
 pub use inserting::insert_line;
+pub use inserting::ranged_line;
 use memory::Memory;
 pub use storing::bit_line;
 pub use storing::restore_line;

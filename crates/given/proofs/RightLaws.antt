@@ -19,10 +19,10 @@ use Rattle.value.specs.declared.CodecFault.the-variants.{Value}
 use Rattle.value.specs.declared.Word.the-variants.{Takes, Fails}
 use Rattle.value.proofs.CodecLaws.{size-le, text-taken, exact-none, exact-text, exact-fixed}
 use Rattle.entry.specs.Model.{Val, used, size}
-use Rattle.entry.specs.Rules.{isGood, wordOk, valOk, tight, heldOk, valsOk, headOk, extraOk, objOk}
+use Rattle.entry.specs.Rules.{isGood, wordOk, valOk, tight, heldOk, valsOk, headOk, rangeOk, extraOk, objOk}
 use Rattle.entry.proofs.JudgeLaws.{and-true, head-ok}
 use Rattle.entry.proofs.WalkLaws.{and-unit}
-use Rattle.given.specs.Given.{typeIn, roomIn, lengthIn, wordIn, held, roomOf, valIn, given, roomsIn, lengthsIn, countIn, objIn, sized, sizedIn, rightIn, sizeIn, valueOk, valsIn, Values}
+use Rattle.given.specs.Given.{typeIn, roomIn, lengthIn, wordIn, held, roomOf, valIn, given, roomsIn, lengthsIn, countIn, objIn, sized, sizedIn, rangeIn, rightIn, sizeIn, valueOk, valsIn, Values}
 use Rattle.given.specs.declared.Head.{Head}
 use Rattle.given.specs.declared.Size.{Size}
 use Rattle.given.specs.declared.Size.the-variants as sz
@@ -188,16 +188,26 @@ none true true = refl
 none true false = refl
 none false b = refl
 
-judged : (m a b h f n v : Bool) (p q : Size) → p ≡ cond (a && (b && v)) q sz.Bad → cond (m && (a && (b && (h && (f && (n && v)))))) q sz.Bad ≡ cond m (cond f (cond h (cond n p sz.Bad) sz.Bad) sz.Bad) sz.Bad
-judged false a b h f n v p q e = refl
-judged true a b false false n v p q e = rw (none a b)
-judged true a b true false n v p q e = rw (none a b)
-judged true a b false true n v p q e = rw (none a b)
-judged true a b true true false v p q e = rw (none a b)
-judged true a b true true true v p q e = sym e
+-- m the words add up, a and b the encodings, y the range's types agree, h the head, f the default, n the name, x the range, v the values
+judged : (m a b y h f n x v : Bool) (p q : Size) → p ≡ cond (a && (b && v)) q sz.Bad
+    → cond (m && (a && (b && (y && (h && (f && (n && (x && v)))))))) q sz.Bad ≡ cond m (cond f (cond h (cond n (cond (y && x) p sz.Bad) sz.Bad) sz.Bad) sz.Bad) sz.Bad
+judged false a b y h f n x v p q e = refl
+judged true a b false h f n x v p q e = rw (none a b) (bad h f n)
+  where
+    bad : (h f n : Bool) → sz.Bad ≡ cond f (cond h (cond n sz.Bad sz.Bad) sz.Bad) sz.Bad
+    bad h false n = refl
+    bad false true n = refl
+    bad true true false = refl
+    bad true true true = refl
+judged true a b true false false n x v p q e = rw (none a b)
+judged true a b true true false n x v p q e = rw (none a b)
+judged true a b true false true n x v p q e = rw (none a b)
+judged true a b true true true false x v p q e = rw (none a b)
+judged true a b true true true true false v p q e = rw (none a b)
+judged true a b true true true true true v p q e = sym e
 
 pub size-judged : (h : Head) (name vals encodings : List ℕ) → let u = countIn vals in
-    sizeIn h name vals encodings ≡ cond (eqb (3 * u) (length vals)) (cond (leb (h .default) u) (cond (headOk (h .index) (h .kind) (h .access) (u - h .default) (h .default) (length name)) (cond (isGood (judge name)) (valsIn vals encodings (u - h .default) u 0 0 (length name)) sz.Bad) sz.Bad) sz.Bad) sz.Bad
+    sizeIn h name vals encodings ≡ cond (eqb (3 * u) (length vals)) (cond (leb (h .default) u) (cond (headOk (h .index) (h .kind) (h .access) (u - h .default) (h .default) (length name)) (cond (isGood (judge name)) (cond (rangeIn h) (valsIn vals encodings (u - h .default) u 0 0 (length name)) sz.Bad) sz.Bad) sz.Bad) sz.Bad) sz.Bad
 unfolding rightIn extraOk
 size-judged h name vals encodings =
     let u = countIn vals in
@@ -205,7 +215,7 @@ size-judged h name vals encodings =
     let z : c - 0 ≡ c = omega arith in
     let i = rw (zero-add (lengthsIn vals u 0), z) at (vals-right vals encodings c u 0 0 (length name)) in
     rw (size-is h name vals encodings, given-length vals encodings u 0 0)
-    (judged (eqb (3 * u) (length vals)) (eqb (lengthsIn vals u 0) (length encodings)) (sizedIn vals u 0) (headOk (h .index) (h .kind) (h .access) c (h .default) (length name)) (leb (h .default) u) (isGood (judge name)) (valsOk c (given vals encodings u 0 0)) (valsIn vals encodings c u 0 0 (length name)) (sz.Upto (length name + roomsIn vals u 0)) i)
+    (judged (eqb (3 * u) (length vals)) (eqb (lengthsIn vals u 0) (length encodings)) (sizedIn vals u 0) (eqb (h .«low_type») (h .«high_type»)) (headOk (h .index) (h .kind) (h .access) c (h .default) (length name)) (leb (h .default) u) (isGood (judge name)) (rangeOk (h .«low_type») (h .low) (h .high)) (valsOk c (given vals encodings u 0 0)) (valsIn vals encodings c u 0 0 (length name)) (sz.Upto (length name + roomsIn vals u 0)) i)
 
 -- ---- what the act needs
 record Fit (t r n : ℕ) : Type 0 where
@@ -260,7 +270,8 @@ right h name vals encodings e =
     let o = objIn h name vals encodings in
     let a = and-true (eqb (3 * u) (length vals)) _ e in
     let b = and-true (eqb (lengthsIn vals u 0) (length encodings)) _ (a .1) in
-    let c = and-true (sizedIn vals u 0) (objOk o) (b .1) in
+    let y = and-true (sizedIn vals u 0) _ (b .1) in
+    let c = and-true (eqb (h .«low_type») (h .«high_type»)) (objOk o) (y .1) in
     let f = and-true (headOk (h .index) (h .kind) (h .access) (used o - h .default) (h .default) (length name)) _ (c .1) in
     let g = and-true (leb (h .default) (used o)) _ (f .1) in
     let v = and-true (isGood (judge name)) _ (g .1) in
@@ -270,7 +281,7 @@ right h name vals encodings e =
     let w : lengthsIn vals u 0 ≡ length encodings = eqb-true _ _ (b .0) in
     let m : 3 * u ≡ length vals = eqb-true _ _ (a .0) in
     let d : h .default ≤ used o = leb-true _ _ (g .0) in
-    let i = all-fit vals encodings (used o - h .default) u 0 0 (omega arith) (c .0) (x .1) in
+    let i = all-fit vals encodings (used o - h .default) u 0 0 (omega arith) (y .0) (x .1) in
     let few : u ≤ 255 = omega (arith, k .count-small, k .flag-small) in
     record {
       ok = c .1;

@@ -10,8 +10,8 @@ use lib.Dec.{eqb, leb, ltb}
 use Rattle.lists.specs.Numbers.{number}
 use Rattle.value.specs.Codec.{sizeOf, isText}
 use Rattle.entry.specs.declared.Extra.{Extra}
-use Rattle.entry.specs.Model.{Val, Obj, noExtra, size}
-use Rattle.entry.specs.Rules.{valOk, tight, objOk}
+use Rattle.entry.specs.Model.{Val, Obj, size}
+use Rattle.entry.specs.Rules.{rangeOk, valOk, tight, objOk}
 use Rattle.given.specs.declared.Head.{Head}
 use Rattle.given.specs.declared.Size.{Size}
 use Rattle.given.specs.declared.Size.the-variants as sz
@@ -51,9 +51,13 @@ given vals encodings (suc k) j t =
 abbrev pub countIn : List ℕ → ℕ
 countIn vals = length vals / 3
 
--- what it has beside its n elements: nothing yet
+-- what it has beside its n elements: its range
 abbrev pub extraIn : Head → ℕ → Extra
-extraIn h n = noExtra
+extraIn h n = record { kept = 0; ranged = h .«low_type»; low = h .low; high = h .high }
+
+-- R6.7: the ends have one type, and are a range of it, or none
+abbrev pub rangeIn : Head → Bool
+rangeIn h = eqb (h .«low_type») (h .«high_type») && rangeOk (h .«low_type») (h .low) (h .high)
 
 abbrev pub objIn : Head → List ℕ → List ℕ → List ℕ → Obj
 objIn h name vals encodings =
@@ -81,7 +85,7 @@ roomsIn vals (suc k) j = roomIn vals j + roomsIn vals k (suc j)
 unfoldable pub rightIn : Head → List ℕ → List ℕ → List ℕ → Bool
 rightIn h name vals encodings =
     eqb (3 * countIn vals) (length vals)
-    && (eqb (lengthsIn vals (countIn vals) 0) (length encodings) && (sizedIn vals (countIn vals) 0 && objOk (objIn h name vals encodings)))
+    && (eqb (lengthsIn vals (countIn vals) 0) (length encodings) && (sizedIn vals (countIn vals) 0 && (eqb (h .«low_type») (h .«high_type») && objOk (objIn h name vals encodings))))
 
 -- the bytes that it takes, where it is right
 abbrev pub sizeIn : Head → List ℕ → List ℕ → List ℕ → Size

@@ -4,15 +4,20 @@ ghost use mathlib.Core.Bool.{true, false, cond};
 ghost use Prim.Native.Nat.{_+_, _*_, _<_, _≤_};
 ghost use lib.ListN.{length, take, drop};
 ghost use Rattle.value.specs.Codec.{isText};
-ghost use Rattle.given.specs.Given.{typeIn, roomIn, lengthIn, extraIn, valueOk, valsIn, sizeIn};
+ghost use Rattle.given.specs.Given.{typeIn, roomIn, lengthIn, extraIn, rangeIn, valueOk, valsIn, sizeIn};
 use entry::Extra;
 
-// What an insertion is given beside its name and its values. With a default (1, else 0) the last of the values is the default.
+// What an insertion is given beside its name and its values. With a default (1, else 0) the last of the values is the default. A range has
+// two ends of one integer type; all four numbers are 0 where there is none.
 pub struct Head {
     pub index: u16,
     pub kind: u64,
     pub access: u64,
     pub default: u64,
+    pub low_type: u64,
+    pub low: u64,
+    pub high_type: u64,
+    pub high: u64,
 }
 
 // The bytes that a given object takes, or that it is none.
@@ -49,10 +54,17 @@ pub fn extra_in(head: Head, count: u64) -> Extra
 {
     Extra {
         kept: 0,
-        ranged: 0,
-        low: 0,
-        high: 0,
+        ranged: head.low_type,
+        low: head.low,
+        high: head.high,
     }
+}
+
+// The ends of the range have one type, and are a range of it, or none.
+fn range_in(head: Head) -> bool
+    ensures { λ r. ⌜ r ≡ rangeIn head ⌝ }
+{
+    (head.low_type == head.high_type) & judge::range_ok(head.low_type, head.low, head.high)
 }
 
 // How many bytes of its room a value of so many takes.
@@ -133,6 +145,9 @@ pub fn size_in(head: Head, name: &[u8], vals: &[u64], encodings: &[u8]) -> Size
         return Size::Bad;
     }
     if !judge::is_good(name, 0, len) {
+        return Size::Bad;
+    }
+    if !range_in(head) {
         return Size::Bad;
     }
     vals_in(vals, encodings, u - flag, u, len)
