@@ -2,7 +2,7 @@
 -- Assumes nothing.
 use Prim.Native.Nat.{ℕ}
 use Rattle.answers.specs.declared.Refusal.{Refusal}
-use Rattle.answers.specs.declared.Refusal.the-variants.{Malformed, BadValue, ObjectNotFound, SubObjectNotFound, TypeMismatch, ReadOnly, BadSignature, NoStorage, CountNotWritable, MissingEntries, PdoMapOverrun, BufferTooShort, TooLong, PayloadTooLong, NoEventRoom, Occupied, Full, StoreFull}
+use Rattle.answers.specs.declared.Refusal.the-variants.{Malformed, BadValue, ObjectNotFound, SubObjectNotFound, TypeMismatch, ReadOnly, BadSignature, NoStorage, CountNotWritable, MissingEntries, PdoMapOverrun, BufferTooShort, TooLong, PayloadTooLong, NoEventRoom, Occupied, Full, StoreFull, OutOfRange}
 
 abbrev pub refusalNumber : Refusal → ℕ
 refusalNumber Malformed = 1
@@ -23,3 +23,4 @@ refusalNumber NoEventRoom = 15
 refusalNumber Occupied = 16
 refusalNumber Full = 17
 refusalNumber StoreFull = 18
+refusalNumber OutOfRange = 21

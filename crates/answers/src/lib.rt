@@ -21,6 +21,7 @@ pub enum Refusal {
     Occupied,
     Full,
     StoreFull,
+    OutOfRange,
 }
 
 // Of a call that has nothing else to say.
@@ -51,5 +52,6 @@ pub fn number(r: Refusal) -> u64
         Refusal::Occupied => 16,
         Refusal::Full => 17,
         Refusal::StoreFull => 18,
+        Refusal::OutOfRange => 21,
     }
 }

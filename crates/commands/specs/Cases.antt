@@ -33,9 +33,9 @@ unfolding saveOf fits imageOf heads bodies offeredFrom recsIn rangeOf covers toS
 full = refl
 
 -- list 2 has none of it, and list 4 nothing: an empty table
-pub outside : saveOf d (9 ∷ 9 ∷ 9 ∷ []) 2 ≡ afterSave Done (0 ∷ 0 ∷ 9 ∷ [])
+pub elsewhere : saveOf d (9 ∷ 9 ∷ 9 ∷ []) 2 ≡ afterSave Done (0 ∷ 0 ∷ 9 ∷ [])
 unfolding saveOf fits imageOf heads bodies offeredFrom recsIn rangeOf covers toStore offers subIn over bytesOf encoding sizeOf
-outside = refl
+elsewhere = refl
 
 pub nothing : saveOf d (9 ∷ 9 ∷ 9 ∷ []) 4 ≡ afterSave Done (0 ∷ 0 ∷ 9 ∷ [])
 unfolding saveOf fits imageOf heads bodies offeredFrom recsIn rangeOf covers toStore offers subIn over bytesOf encoding sizeOf

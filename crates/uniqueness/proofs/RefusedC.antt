@@ -1,5 +1,6 @@
 -- The same of each call for C: where its answer is a refusal's number, all that was lent is as it was. `loomfinch_to_u64` and
 -- `loomfinch_validate_pdo_mapping` are lent nothing to change. Assumes nothing.
+use mathlib.Core.Logic.{_≢_}
 use mathlib.Core.Path.{_≡_, refl, ap, _∙_}
 use mathlib.Core.Bool.{Bool, true, false, cond}
 use mathlib.Core.List.{List, [], _∷_}
@@ -12,7 +13,7 @@ use Rattle.answers.specs.declared.Answer.the-variants as answer
 use Rattle.lists.specs.Lists.{over}
 use Rattle.answers.specs.Numbers.{refusalNumber}
 use Rattle.answers.specs.declared.Refusal.{Refusal}
-use Rattle.answers.specs.declared.Refusal.the-variants.{Malformed, BadValue, ObjectNotFound, SubObjectNotFound, TypeMismatch, ReadOnly, BadSignature, NoStorage, CountNotWritable, MissingEntries, PdoMapOverrun, BufferTooShort, TooLong, PayloadTooLong, NoEventRoom, Occupied, Full, StoreFull}
+use Rattle.answers.specs.declared.Refusal.the-variants.{Malformed, BadValue, ObjectNotFound, SubObjectNotFound, TypeMismatch, ReadOnly, BadSignature, NoStorage, CountNotWritable, MissingEntries, PdoMapOverrun, BufferTooShort, TooLong, PayloadTooLong, NoEventRoom, Occupied, Full, StoreFull, OutOfRange}
 use Rattle.value.specs.declared.Decoded.{Decoded}
 use Rattle.value.specs.declared.Decoded.the-variants as decoded
 use Rattle.value.specs.declared.Encoded.{Encoded}
@@ -79,26 +80,27 @@ use Rattle.c_checking.specs.Checking.{checkedTold, allNumbers, checkAllNumbers,
 use Rattle.uniqueness.specs.Refusing.{Refuses}
 use Rattle.uniqueness.proofs.Refused.{new-refused, insert-refused, counter-refused, update-refused, cns-refused, write-refused, write-no-value-refused, restore-refused, consume-refused, cycle-refused, check-all-refused, encode-refused}
 
--- ---- a refusal's number is no other answer's
-range : (r : Refusal) → (0 < refusalNumber r) × (refusalNumber r < 19)
-range Malformed = (omega arith, omega arith)
-range BadValue = (omega arith, omega arith)
-range ObjectNotFound = (omega arith, omega arith)
-range SubObjectNotFound = (omega arith, omega arith)
-range TypeMismatch = (omega arith, omega arith)
-range ReadOnly = (omega arith, omega arith)
-range BadSignature = (omega arith, omega arith)
-range NoStorage = (omega arith, omega arith)
-range CountNotWritable = (omega arith, omega arith)
-range MissingEntries = (omega arith, omega arith)
-range PdoMapOverrun = (omega arith, omega arith)
-range BufferTooShort = (omega arith, omega arith)
-range TooLong = (omega arith, omega arith)
-range PayloadTooLong = (omega arith, omega arith)
-range NoEventRoom = (omega arith, omega arith)
-range Occupied = (omega arith, omega arith)
-range Full = (omega arith, omega arith)
-range StoreFull = (omega arith, omega arith)
+-- ---- a refusal's number is no other answer's: neither Done's nor RestoreRequested's, and below those of the check's faults
+range : (r : Refusal) → (0 < refusalNumber r) × (refusalNumber r ≢ 19) × (refusalNumber r < 31)
+range Malformed = (omega arith, (λ e. omega (arith, e)), omega arith)
+range BadValue = (omega arith, (λ e. omega (arith, e)), omega arith)
+range ObjectNotFound = (omega arith, (λ e. omega (arith, e)), omega arith)
+range SubObjectNotFound = (omega arith, (λ e. omega (arith, e)), omega arith)
+range TypeMismatch = (omega arith, (λ e. omega (arith, e)), omega arith)
+range ReadOnly = (omega arith, (λ e. omega (arith, e)), omega arith)
+range BadSignature = (omega arith, (λ e. omega (arith, e)), omega arith)
+range NoStorage = (omega arith, (λ e. omega (arith, e)), omega arith)
+range CountNotWritable = (omega arith, (λ e. omega (arith, e)), omega arith)
+range MissingEntries = (omega arith, (λ e. omega (arith, e)), omega arith)
+range PdoMapOverrun = (omega arith, (λ e. omega (arith, e)), omega arith)
+range BufferTooShort = (omega arith, (λ e. omega (arith, e)), omega arith)
+range TooLong = (omega arith, (λ e. omega (arith, e)), omega arith)
+range PayloadTooLong = (omega arith, (λ e. omega (arith, e)), omega arith)
+range NoEventRoom = (omega arith, (λ e. omega (arith, e)), omega arith)
+range Occupied = (omega arith, (λ e. omega (arith, e)), omega arith)
+range Full = (omega arith, (λ e. omega (arith, e)), omega arith)
+range StoreFull = (omega arith, (λ e. omega (arith, e)), omega arith)
+range OutOfRange = (omega arith, (λ e. omega (arith, e)), omega arith)
 
 no-refusal : {A : Type 0} (r : Refusal) → 0 ≡ refusalNumber r → A
 no-refusal r e = absurd (omega (arith, e, range r .0))
@@ -251,22 +253,22 @@ c-update-refused d x n r e = let k = refused-answer (updateOf d x n .answer) r e
 
 -- ---- the channel check
 no-fault : {A : Type 0} (f : Fault) (r : Refusal) → faultNumber f ≡ refusalNumber r → A
-no-fault fault.NotMapping r e = absurd (omega (arith, e, range r .1))
-no-fault fault.Misaligned r e = absurd (omega (arith, e, range r .1))
-no-fault fault.HandOff r e = absurd (omega (arith, e, range r .1))
-no-fault fault.NoTarget r e = absurd (omega (arith, e, range r .1))
-no-fault fault.CountTarget r e = absurd (omega (arith, e, range r .1))
-no-fault fault.WrongLength r e = absurd (omega (arith, e, range r .1))
+no-fault fault.NotMapping r e = absurd (omega (arith, e, range r .2))
+no-fault fault.Misaligned r e = absurd (omega (arith, e, range r .2))
+no-fault fault.HandOff r e = absurd (omega (arith, e, range r .2))
+no-fault fault.NoTarget r e = absurd (omega (arith, e, range r .2))
+no-fault fault.CountTarget r e = absurd (omega (arith, e, range r .2))
+no-fault fault.WrongLength r e = absurd (omega (arith, e, range r .2))
 
 pub c-check-refused : (d : Dict) (i m : ℕ) → RefusedTold m (checkedTold (checkOf d i) m)
 c-check-refused d i m = go (checkOf d i)
   where
     go : (a : Checked) → RefusedTold m (checkedTold a m)
     go checked.Pass r e = no-refusal r e
-    go checked.NoSender r e = absurd (omega (arith, e, range r .1))
-    go checked.NoList r e = absurd (omega (arith, e, range r .1))
+    go checked.NoSender r e = absurd (omega (arith, e, range r .2))
+    go checked.NoList r e = absurd (omega (arith, e, range r .2))
     go (checked.Element k f) r e = no-fault f r e
-    go checked.TooFar r e = absurd (omega (arith, e, range r .1))
+    go checked.TooFar r e = absurd (omega (arith, e, range r .2))
     go (checked.Refused k) r e = ap (λ a. told a m) e
 
 pub c-check-all-refused : (d : Dict) (out : List ℕ) (m : ℕ) → RefusedWritten out m (checkAllNumbers (checkAllOf d out) m)

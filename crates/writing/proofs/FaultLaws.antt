@@ -9,14 +9,15 @@ use lib.Dec.{eqb, ltb}
 use lib.ListN.{length}
 use Rattle.answers.specs.declared.Answer.{Answer}
 use Rattle.answers.specs.declared.Answer.the-variants as answer
-use Rattle.answers.specs.declared.Refusal.the-variants.{Malformed, TypeMismatch, ReadOnly, BadSignature, NoStorage, CountNotWritable, TooLong}
+use Rattle.answers.specs.declared.Refusal.the-variants.{Malformed, TypeMismatch, ReadOnly, BadSignature, NoStorage, CountNotWritable, TooLong, OutOfRange}
+use Rattle.lists.specs.Numbers.{number}
 use Rattle.value.specs.Codec.{isText, exactlyOf}
 use Rattle.value.specs.Fault.{Tells}
 use Rattle.value.specs.declared.CodecFault.{CodecFault}
 use Rattle.value.specs.declared.Exactness.{Exactness}
 use Rattle.value.specs.declared.Exactness.the-variants as exactly
 use Rattle.value.proofs.FaultLaws.{exactly-tells}
-use Rattle.entry.specs.Table.{Dict, accessAt, typeAt, roomAt}
+use Rattle.entry.specs.Table.{Dict, accessAt, extraAt, typeAt, roomAt}
 use Rattle.entry.specs.Find.{findRow, subAt}
 use Rattle.entry.specs.Judge.{wellFormed}
 use Rattle.entry.specs.declared.Found.{Found}
@@ -31,7 +32,7 @@ use Rattle.writing.specs.declared.Judged.{Judged}
 use Rattle.writing.specs.declared.Judged.the-variants.{Put, Accepted, Save, Restore, NoValue, Refused}
 use Rattle.writing.specs.declared.Wrote.{Wrote}
 use Rattle.writing.specs.declared.Wrote.the-variants as wrote
-use Rattle.writing.specs.Judging.{save, load, signedBy, commandOf, atValue, inPlace, inObject, countFirst, afterCount, judgeValueOf, onlyValue, judgeOf}
+use Rattle.writing.specs.Judging.{save, load, signedBy, commandOf, outside, atValue, inPlace, inObject, countFirst, afterCount, judgeValueOf, onlyValue, judgeOf}
 use Rattle.writing.specs.Writing.{afterWrite, savedAs, writeActOf, writeOf}
 
 -- what is judged of a value has no fault of decoding
@@ -55,15 +56,15 @@ value-decoded d n x sub t s =
     command : (signature : ℕ) (c : Judged) → Decoded c → Decoded (commandOf signature c n sub t s)
     command signature c p = either (signedBy signature sub t s) _ _ (either (ltb n 2) (Refused NoStorage) c tt p) tt
 
-    place : (q : Place) → Decoded (inPlace d x t s q)
-    place NoObject = tt
-    place NoSub = tt
-    place (Count k) = either (isMapping x) Accepted (Refused CountNotWritable) tt tt
-    place (Value p) =
-        either (eqb (typeAt (d .slots) p) t) _ _ (either (isText t && ltb (roomAt (d .slots) p) (length s)) (Refused TooLong) (Put p) tt tt) tt
+    place : (i : ℕ) (q : Place) → Decoded (inPlace d i x t s q)
+    place i NoObject = tt
+    place i NoSub = tt
+    place i (Count k) = either (isMapping x) Accepted (Refused CountNotWritable) tt tt
+    place i (Value p) =
+        either (eqb (typeAt (d .slots) p) t) _ _ (either (outside (extraAt (d .objects) i) t (number s)) (Refused OutOfRange) _ tt (either (isText t && ltb (roomAt (d .slots) p) (length s)) (Refused TooLong) (Put p) tt tt)) tt
 
     row : (f : Found) → Decoded (inObject d x sub t s f)
-    row (At i) = either (eqb (accessAt (d .objects) i) 0 || eqb (accessAt (d .objects) i) 5) (Refused ReadOnly) _ tt (place (subAt (d .objects) i sub))
+    row (At i) = either (eqb (accessAt (d .objects) i) 0 || eqb (accessAt (d .objects) i) 5) (Refused ReadOnly) _ tt (place i (subAt (d .objects) i sub))
     row Nothing = tt
 
     counted : (a : Answer) → Decoded (afterCount a (inObject d x sub t s (findRow (d .objects) x)))

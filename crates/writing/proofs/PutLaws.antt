@@ -10,13 +10,14 @@ use lib.Dec.{eqb, ltb}
 use lib.ListN.{length}
 use Rattle.answers.specs.declared.Answer.{Answer}
 use Rattle.answers.specs.declared.Answer.the-variants as answer
-use Rattle.lists.specs.Numbers.{Bytes}
-use Rattle.answers.specs.declared.Refusal.the-variants.{ReadOnly, TypeMismatch, TooLong, NoStorage, BadSignature, CountNotWritable}
+use Rattle.lists.specs.Numbers.{number, Bytes}
+use Rattle.answers.specs.declared.Refusal.the-variants.{ReadOnly, TypeMismatch, TooLong, OutOfRange, NoStorage, BadSignature, CountNotWritable}
 use Rattle.value.specs.Codec.{isText, exactlyOf, isExact, exact}
 use Rattle.value.specs.declared.Exactness.{Exactness}
 use Rattle.value.specs.declared.Exactness.the-variants as exactly
 use Rattle.value.proofs.CodecLaws.{wordIn, exact-facts}
-use Rattle.entry.specs.Table.{Dict, accessAt, typeAt, roomAt}
+use Rattle.entry.specs.declared.Extra.{Extra}
+use Rattle.entry.specs.Table.{Dict, accessAt, extraAt, typeAt, roomAt}
 use Rattle.entry.specs.Find.{findRow, subAt, placeOf, onRow}
 use Rattle.entry.specs.Judge.{wellFormed}
 use Rattle.entry.specs.Put.{contents, filled}
@@ -29,7 +30,7 @@ use Rattle.entry.proofs.KeepLaws.{Fits, put-element}
 use Rattle.pdo_validator.specs.Counting.{isMapping}
 use Rattle.writing.specs.declared.Judged.{Judged}
 use Rattle.writing.specs.declared.Judged.the-variants.{Put, Accepted, Save, Restore, NoValue, Refused}
-use Rattle.writing.specs.Judging.{save, load, signedBy, commandOf, atValue, inPlace, inObject, countFirst, afterCount, judgeValueOf, onlyValue, judgeOf}
+use Rattle.writing.specs.Judging.{save, load, signedBy, commandOf, outside, atValue, inPlace, inObject, countFirst, afterCount, judgeValueOf, onlyValue, judgeOf}
 use Rattle.writing.specs.Writing.{writeActOf, writeOf}
 
 -- ---- what a put comes from
@@ -37,17 +38,30 @@ pub record Placed (d : Dict) (x sub t : ℕ) (s : List ℕ) (p : ℕ) : Type 0 w
   pub place : placeOf (d .objects) x sub ≡ Value p
   pub typed : typeAt (d .slots) p ≡ t
   pub room : isText t ≡ true → length s ≤ roomAt (d .slots) p
+  pub row : ℕ
+  pub found : findRow (d .objects) x ≡ At row
+  pub inside : outside (extraAt (d .objects) row) t (number s) ≡ false
 
-value-placed : (slots : List ℕ) (q t : ℕ) (s : List ℕ) (p : ℕ) → atValue slots q t s ≡ Put p → (q ≡ p) × (typeAt slots q ≡ t) × (isText t ≡ true → length s ≤ roomAt slots q)
+record PutAt (slots : List ℕ) (x : Extra) (q t : ℕ) (s : List ℕ) (p : ℕ) : Type 0 where
+  same : q ≡ p
+  typed : typeAt slots q ≡ t
+  inside : outside x t (number s) ≡ false
+  room : isText t ≡ true → length s ≤ roomAt slots q
+
+value-placed : (slots : List ℕ) (x : Extra) (q t : ℕ) (s : List ℕ) (p : ℕ) → atValue slots x q t s ≡ Put p → PutAt slots x q t s p
 unfolding atValue
-value-placed slots q t s p e = typed (eqb (typeAt slots q) t) refl e
+value-placed slots x q t s p e = typed (eqb (typeAt slots q) t) refl e
   where
-    roomy : (b : Bool) → (isText t && ltb (roomAt slots q) (length s)) ≡ b → cond b (Refused TooLong) (Put q) ≡ Put p → typeAt slots q ≡ t → (q ≡ p) × (typeAt slots q ≡ t) × (isText t ≡ true → length s ≤ roomAt slots q)
-    roomy true h e k = let z : _≡_ {A = ℕ} 0 1 = cc in absurd (omega arith)
-    roomy false h e k = ((cc), k, λ i. ltb-false (roomAt slots q) (length s) (sym (ap (λ b. b && ltb (roomAt slots q) (length s)) i) ∙ h))
+    roomy : (b : Bool) → (isText t && ltb (roomAt slots q) (length s)) ≡ b → cond b (Refused TooLong) (Put q) ≡ Put p → outside x t (number s) ≡ false → typeAt slots q ≡ t → PutAt slots x q t s p
+    roomy true h e o k = let z : _≡_ {A = ℕ} 0 1 = cc in absurd (omega arith)
+    roomy false h e o k = record { same = cc; typed = k; inside = o; room = λ i. ltb-false (roomAt slots q) (length s) (sym (ap (λ b. b && ltb (roomAt slots q) (length s)) i) ∙ h) }
 
-    typed : (b : Bool) → eqb (typeAt slots q) t ≡ b → cond b (cond (isText t && ltb (roomAt slots q) (length s)) (Refused TooLong) (Put q)) (Refused TypeMismatch) ≡ Put p → (q ≡ p) × (typeAt slots q ≡ t) × (isText t ≡ true → length s ≤ roomAt slots q)
-    typed true h e = roomy (isText t && ltb (roomAt slots q) (length s)) refl e (eqb-true _ _ h)
+    within : (b : Bool) → outside x t (number s) ≡ b → cond b (Refused OutOfRange) (cond (isText t && ltb (roomAt slots q) (length s)) (Refused TooLong) (Put q)) ≡ Put p → typeAt slots q ≡ t → PutAt slots x q t s p
+    within true h e k = let z : _≡_ {A = ℕ} 0 1 = cc in absurd (omega arith)
+    within false h e k = roomy (isText t && ltb (roomAt slots q) (length s)) refl e h k
+
+    typed : (b : Bool) → eqb (typeAt slots q) t ≡ b → cond b (cond (outside x t (number s)) (Refused OutOfRange) (cond (isText t && ltb (roomAt slots q) (length s)) (Refused TooLong) (Put q))) (Refused TypeMismatch) ≡ Put p → PutAt slots x q t s p
+    typed true h e = within (outside x t (number s)) refl e (eqb-true _ _ h)
     typed false h e = let z : _≡_ {A = ℕ} 0 1 = cc in absurd (omega arith)
 
 object-placed : (d : Dict) (x sub t : ℕ) (s : List ℕ) (p : ℕ) → inObject d x sub t s (findRow (d .objects) x) ≡ Put p → Placed d x sub t s p
@@ -57,17 +71,17 @@ object-placed d x sub t s p e = row (findRow (d .objects) x) refl e
     counted true e = let z : _≡_ {A = ℕ} 0 1 = cc in absurd (omega arith)
     counted false e = let z : _≡_ {A = ℕ} 0 1 = cc in absurd (omega arith)
 
-    place : (q : Place) → placeOf (d .objects) x sub ≡ q → inPlace d x t s q ≡ Put p → Placed d x sub t s p
-    place NoObject h e = let z : _≡_ {A = ℕ} 0 1 = cc in absurd (omega arith)
-    place NoSub h e = let z : _≡_ {A = ℕ} 0 1 = cc in absurd (omega arith)
-    place (Count n) h e = counted (isMapping x) e
-    place (Value q) h e =
-        let v = value-placed (d .slots) q t s p e in
-        record { place = h ∙ ap Value (v .0); typed = sym (ap (typeAt (d .slots)) (v .0)) ∙ v .1; room = rw (v .0) at (v .2) }
+    place : (i : ℕ) → findRow (d .objects) x ≡ At i → (q : Place) → placeOf (d .objects) x sub ≡ q → inPlace d i x t s q ≡ Put p → Placed d x sub t s p
+    place i f NoObject h e = let z : _≡_ {A = ℕ} 0 1 = cc in absurd (omega arith)
+    place i f NoSub h e = let z : _≡_ {A = ℕ} 0 1 = cc in absurd (omega arith)
+    place i f (Count n) h e = counted (isMapping x) e
+    place i f (Value q) h e =
+        let v = value-placed (d .slots) (extraAt (d .objects) i) q t s p e in
+        record { place = h ∙ ap Value (v .same); typed = sym (ap (typeAt (d .slots)) (v .same)) ∙ v .typed; room = rw (v .same) at (v .room); row = i; found = f; inside = v .inside }
 
-    allowed : (i : ℕ) → findRow (d .objects) x ≡ At i → (b : Bool) → cond b (Refused ReadOnly) (inPlace d x t s (subAt (d .objects) i sub)) ≡ Put p → Placed d x sub t s p
+    allowed : (i : ℕ) → findRow (d .objects) x ≡ At i → (b : Bool) → cond b (Refused ReadOnly) (inPlace d i x t s (subAt (d .objects) i sub)) ≡ Put p → Placed d x sub t s p
     allowed i f true e = let z : _≡_ {A = ℕ} 0 1 = cc in absurd (omega arith)
-    allowed i f false e = place (subAt (d .objects) i sub) (ap (onRow (d .objects) sub) f) e
+    allowed i f false e = place i f (subAt (d .objects) i sub) (ap (onRow (d .objects) sub) f) e
 
     row : (f : Found) → findRow (d .objects) x ≡ f → inObject d x sub t s f ≡ Put p → Placed d x sub t s p
     row (At i) f e = allowed i f (eqb (accessAt (d .objects) i) 0 || eqb (accessAt (d .objects) i) 5) e

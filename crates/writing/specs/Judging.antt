@@ -1,18 +1,20 @@
 -- What a write comes to, before anything is stored: RULES.md 8.
 -- Assumes nothing.
 use Prim.Native.Nat.{ℕ}
-use mathlib.Core.Bool.{Bool, cond, _&&_, _||_}
+use mathlib.Core.Bool.{Bool, cond, not, _&&_, _||_}
 use mathlib.Core.List.{List, [], _∷_}
 use lib.Dec.{eqb, ltb}
 use lib.ListN.{getD, length}
 use Rattle.answers.specs.declared.Answer.{Answer}
 use Rattle.answers.specs.declared.Answer.the-variants as answer
 use Rattle.lists.specs.Numbers.{number}
-use Rattle.answers.specs.declared.Refusal.the-variants.{BadValue, ObjectNotFound, SubObjectNotFound, TypeMismatch, ReadOnly, BadSignature, NoStorage, CountNotWritable, TooLong}
+use Rattle.answers.specs.declared.Refusal.the-variants.{BadValue, ObjectNotFound, SubObjectNotFound, TypeMismatch, ReadOnly, BadSignature, NoStorage, CountNotWritable, TooLong, OutOfRange}
 use Rattle.value.specs.Codec.{isText, exactlyOf}
 use Rattle.value.specs.declared.Exactness.{Exactness}
 use Rattle.value.specs.declared.Exactness.the-variants as exactly
-use Rattle.entry.specs.Table.{Dict, accessAt, typeAt, roomAt}
+use Rattle.value.specs.Order.{ordered}
+use Rattle.entry.specs.declared.Extra.{Extra}
+use Rattle.entry.specs.Table.{Dict, accessAt, extraAt, typeAt, roomAt}
 use Rattle.entry.specs.Find.{findRow, subAt}
 use Rattle.entry.specs.declared.Found.{Found}
 use Rattle.entry.specs.declared.Found.the-variants.{At, Nothing}
@@ -38,25 +40,32 @@ unfoldable pub commandOf : ℕ → Judged → ℕ → ℕ → ℕ → List ℕ �
 commandOf signature command n sub t s =
     cond (signedBy signature sub t s) (cond (ltb n 2) (Refused NoStorage) command) (Refused BadSignature)
 
--- R8.1, 7 and 8: place, then type, then room
-unfoldable pub atValue : List ℕ → ℕ → ℕ → List ℕ → Judged
-atValue slots p t s =
+-- R8.6: the object has a range of the type, and the word w lies outside it
+unfoldable pub outside : Extra → ℕ → ℕ → Bool
+outside e t w = not (eqb t 0) && (eqb (e .ranged) t && not (ordered t (e .low) w && ordered t w (e .high)))
+
+-- R8.1, 7 to 9: place, then type, then range, then room
+unfoldable pub atValue : List ℕ → Extra → ℕ → ℕ → List ℕ → Judged
+atValue slots e p t s =
     cond (eqb (typeAt slots p) t)
-    (cond (isText t && ltb (roomAt slots p) (length s)) (Refused TooLong) (Put p))
+    (cond (outside e t (number s))
+    (Refused OutOfRange)
+    (cond (isText t && ltb (roomAt slots p) (length s)) (Refused TooLong) (Put p)))
     (Refused TypeMismatch)
 
-abbrev pub inPlace : Dict → ℕ → ℕ → List ℕ → Place → Judged
-inPlace d x t s NoObject = Refused ObjectNotFound
-inPlace d x t s NoSub = Refused SubObjectNotFound
-inPlace d x t s (Count n) = cond (isMapping x) Accepted (Refused CountNotWritable)
-inPlace d x t s (Value p) = atValue (d .slots) p t s
+-- in row i
+abbrev pub inPlace : Dict → ℕ → ℕ → ℕ → List ℕ → Place → Judged
+inPlace d i x t s NoObject = Refused ObjectNotFound
+inPlace d i x t s NoSub = Refused SubObjectNotFound
+inPlace d i x t s (Count n) = cond (isMapping x) Accepted (Refused CountNotWritable)
+inPlace d i x t s (Value p) = atValue (d .slots) (extraAt (d .objects) i) p t s
 
 -- 5 and 6: object, then access, of which ReadOnly is 0 and Constant 5
 abbrev pub inObject : Dict → ℕ → ℕ → ℕ → List ℕ → Found → Judged
 inObject d x sub t s (At i) =
     cond (eqb (accessAt (d .objects) i) 0 || eqb (accessAt (d .objects) i) 5)
     (Refused ReadOnly)
-    (inPlace d x t s (subAt (d .objects) i sub))
+    (inPlace d i x t s (subAt (d .objects) i sub))
 inObject d x sub t s Nothing = Refused ObjectNotFound
 
 -- 4: a mapping's count comes before object and access
@@ -68,7 +77,7 @@ abbrev pub afterCount : Answer → Judged → Judged
 afterCount answer.Done next = next
 afterCount (answer.Refused r) next = Refused r
 
--- 3 to 8, of a value, a dictionary that was judged and a store of n bytes
+-- 3 to 9, of a value, a dictionary that was judged and a store of n bytes
 unfoldable pub judgeValueOf : Dict → ℕ → ℕ → ℕ → ℕ → List ℕ → Judged
 judgeValueOf d n x sub t s =
     cond (eqb x 0x1010)

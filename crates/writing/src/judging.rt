@@ -8,10 +8,13 @@ ghost use Rattle.value.specs.Codec.{exact};
 ghost use Rattle.entry.specs.Find.{findRow};
 ghost use Rattle.entry.specs.Judge.{wellFormed};
 ghost use Rattle.entry.specs.declared.Found.the-variants.{At};
-ghost use Rattle.writing.specs.Judging.{signedBy, commandOf, atValue, inObject, countFirst, judgeValueOf, judgeOf};
+ghost use Rattle.lists.specs.Numbers.{number};
+ghost use Rattle.entry.specs.Rules.{rangeOk};
+ghost use Rattle.writing.specs.Judging.{signedBy, commandOf, outside, atValue, inObject, countFirst, judgeValueOf, judgeOf};
 use crate::Judged;
 use answers::Answer;
 use answers::Refusal;
+use entry::Extra;
 use entry::Found;
 use entry::Place;
 use value::Exactness;
@@ -43,13 +46,29 @@ fn command(signature: u64, given: Judged, store: usize, sub: u8, t: u64, data: &
     given
 }
 
-// At value p: type, then room.
-fn at_value(slots: &[u64], p: usize, t: u64, data: &[u8]) -> Judged
+// Whether a value lies outside an object's range, where that is of its type.
+fn is_outside(extra: Extra, t: u64, data: &[u8]) -> bool
+    requires { ⌜ (rangeOk (extra .ranged) (extra .low) (extra .high) ≡ true) × (exact t (now «data») ≡ true) ⌝ }
+    ensures { λ r. ⌜ r ≡ outside extra t (number (now («data» .entry))) ⌝ }
+{
+    if (t == 0) | (extra.ranged != t) {
+        return false;
+    }
+    let w = lists::number(data, 0, data.len());
+    !(value::is_ordered(t, extra.low, w) & value::is_ordered(t, w, extra.high))
+}
+
+// At value p: type, then range, then room.
+fn at_value(slots: &[u64], extra: Extra, p: usize, t: u64, data: &[u8]) -> Judged
     requires { ⌜ (p < 6144) × (slotEnd p ≤ length (now slots)) ⌝ }
-    ensures { λ r. ⌜ r ≡ atValue (now (slots .entry)) p t (now («data» .entry)) ⌝ }
+    requires { ⌜ (rangeOk (extra .ranged) (extra .low) (extra .high) ≡ true) × (exact t (now «data») ≡ true) ⌝ }
+    ensures { λ r. ⌜ r ≡ atValue (now (slots .entry)) extra p t (now («data» .entry)) ⌝ }
 {
     if entry::type_at(slots, p) != t {
         return Judged::Refused(Refusal::TypeMismatch);
+    }
+    if is_outside(extra, t, data) {
+        return Judged::Refused(Refusal::OutOfRange);
     }
     let room = entry::room_at(slots, p);
     if value::is_text(t) & (room < data.len() as u64) {
@@ -72,6 +91,7 @@ fn in_row(
 ) -> Judged
     requires { ⌜ wellFormed (dict (now objects) (now slots) (now words) (now bytes)) ≡ true ⌝ }
     requires { ⌜ findRow (now objects) index ≡ At i ⌝ }
+    requires { ⌜ exact t (now «data») ≡ true ⌝ }
     ensures { λ r. ⌜ r ≡ inObject (dict (now (objects .entry)) (now (slots .entry)) (now (words .entry)) (now (bytes .entry))) index sub t (now («data» .entry)) (At i) ⌝ }
 {
     let access = entry::access_at(objects, i);
@@ -86,7 +106,7 @@ fn in_row(
         } else {
             Judged::Refused(Refusal::CountNotWritable)
         },
-        Place::Value(p) => at_value(slots, p, t, data),
+        Place::Value(p) => at_value(slots, entry::extra_at(objects, i), p, t, data),
     }
 }
 
@@ -101,6 +121,7 @@ fn in_object(
     data: &[u8],
 ) -> Judged
     requires { ⌜ wellFormed (dict (now objects) (now slots) (now words) (now bytes)) ≡ true ⌝ }
+    requires { ⌜ exact t (now «data») ≡ true ⌝ }
     ensures { λ r. ⌜ r ≡ inObject (dict (now (objects .entry)) (now (slots .entry)) (now (words .entry)) (now (bytes .entry))) index sub t (now («data» .entry)) (findRow (now (objects .entry)) index) ⌝ }
 {
     let Found::At(i) = entry::find(objects, index) else {

@@ -16,7 +16,7 @@ start c = c .before .before .before .before .before .before
 
 find-requires : tie.Need-find-requires
 find-requires c κs =
-    let s = c .before .before .before .before .before in rows-of (D s) (s .pre)
+    let s = c .before .before .before .before .before in rows-of (D s) (s .pre .0)
 
 returns : tie.Need-returns
 returns c =
@@ -28,7 +28,8 @@ in-row-requires : tie.Need-in-row-requires
 in-row-requires c κs =
     let i = c .before in
     let f = i .before .before in
-    (start f .pre, sym (f .find .ensures) ∙ i .i .given .1)
+    let s = start f in
+    (s .pre .0, (sym (f .find .ensures) ∙ i .i .given .1, s .pre .1))
 
 returns-2 : tie.Need-returns-2
 returns-2 c =

@@ -1,6 +1,6 @@
 -- `writing::judging::in_row` meets its contract: each place is a case of `inPlace`. Assumes nothing.
-use mathlib.Core.Path.{_≡_, sym, ap, _∙_}
-use mathlib.Core.Bool.{cond, _||_}
+use mathlib.Core.Path.{_≡_, sym, ap, subst, _∙_}
+use mathlib.Core.Bool.{true, cond, _||_}
 use denote.Ref.{now}
 use lib.Dec.{eqb}
 use Rattle.answers.specs.declared.Refusal.the-variants.{ReadOnly, CountNotWritable}
@@ -10,7 +10,10 @@ use Rattle.entry.specs.declared.Found.the-variants.{At}
 use Rattle.entry.specs.declared.Place.{Place}
 use Rattle.entry.proofs.ValueLaws.{rows-of, RowLies, found-lies, value-lies}
 use Rattle.writing.specs.declared.Judged.the-variants.{Accepted, Refused}
-use Rattle.writing.specs.Judging.{inPlace, inObject}
+use Rattle.entry.specs.declared.Extra.{Extra}
+use Rattle.entry.specs.Rules.{rangeOk}
+use Rattle.writing.specs.Judging.{atValue, inPlace, inObject}
+use Rattle.writing.proofs.WriteLaws.{range-right}
 use borrow.Author.Needs.{needs}
 use Rattle.writing.proofs.judging.in_row.Statement.{statement}
 use Rattle.writing.proofs.judging.in_row.Tie as tie
@@ -22,18 +25,18 @@ abbrev start : tie.After-access-at → tie.Start
 start c = c .before .before .before .before .before .before
 
 lies : (s : tie.Start) → RowLies (D s) (s .args .i)
-lies s = found-lies (D s) (s .pre .0) (s .args .index) (s .args .i) (s .pre .1)
+lies s = found-lies (D s) (s .pre .0) (s .args .index) (s .args .i) (s .pre .1 .0)
 
 tested : (c : tie.After-access-at) → let a = start c .args in (eqb (accessAt (now (a .objects)) (a .i)) 0 || eqb (accessAt (now (a .objects)) (a .i)) 5) ≡ (eqb (c .access-at .result) 0 || eqb (c .access-at .result) 5)
 tested c = ap (λ x. eqb x 0 || eqb x 5) (sym (c .access-at .ensures))
 
 -- access is given, and a place was found
-placed : (c : tie.After-sub-at) (q : Place) → c .sub-at .result ≡ q → let s = start (c .before .before) in let a = s .args in inPlace (D s) (a .index) (a .t) (now (a .«data»)) q ≡ inObject (D s) (a .index) (a .sub) (a .t) (now (a .«data»)) (At (a .i))
+placed : (c : tie.After-sub-at) (q : Place) → c .sub-at .result ≡ q → let s = start (c .before .before) in let a = s .args in inPlace (D s) (a .i) (a .index) (a .t) (now (a .«data»)) q ≡ inObject (D s) (a .index) (a .sub) (a .t) (now (a .«data»)) (At (a .i))
 placed c q e =
     let s = start (c .before .before) in
     let a = s .args in
-    ap (inPlace (D s) (a .index) (a .t) (now (a .«data»))) (sym e ∙ c .sub-at .ensures)
-    ∙ sym (ap (λ b. cond b (Refused ReadOnly) (inPlace (D s) (a .index) (a .t) (now (a .«data»)) (subAt (D s .objects) (a .i) (a .sub)))) (tested (c .before .before) ∙ c .before .if1 .left))
+    ap (inPlace (D s) (a .i) (a .index) (a .t) (now (a .«data»))) (sym e ∙ c .sub-at .ensures)
+    ∙ sym (ap (λ b. cond b (Refused ReadOnly) (inPlace (D s) (a .i) (a .index) (a .t) (now (a .«data»)) (subAt (D s .objects) (a .i) (a .sub)))) (tested (c .before .before) ∙ c .before .if1 .left))
 
 access-at-requires : tie.Need-access-at-requires
 access-at-requires c κs =
@@ -41,19 +44,22 @@ access-at-requires c κs =
 
 returns : tie.Need-returns
 returns c =
-    let s = start (c .before) in sym (ap (λ b. cond b (Refused ReadOnly) (inPlace (D s) (s .args .index) (s .args .t) (now (s .args .«data»)) (subAt (D s .objects) (s .args .i) (s .args .sub)))) (tested (c .before) ∙ c .if1 .taken))
+    let s = start (c .before) in sym (ap (λ b. cond b (Refused ReadOnly) (inPlace (D s) (s .args .i) (s .args .index) (s .args .t) (now (s .args .«data»)) (subAt (D s .objects) (s .args .i) (s .args .sub)))) (tested (c .before) ∙ c .if1 .taken))
 
 sub-at-requires : tie.Need-sub-at-requires
 sub-at-requires c κs =
     let s = start (c .before) in (rows-of (D s) (s .pre .0), lies s .below)
 
+extra-at-requires : tie.Need-extra-at-requires
+extra-at-requires c κs = let l = lies (start (c .before .before .before .before .before)) in (l .small, l .inside)
+
 at-value-requires : tie.Need-at-value-requires
 at-value-requires c κs =
-    let p = c .before in
+    let p = c .before .before in
     let u = p .before .before in
     let s = start (u .before .before) in
-    let f = value-lies (D s) (s .pre .0) (s .args .index) (s .args .sub) _ _ (s .pre .1) (sym (u .sub-at .ensures) ∙ p .p .given .1) in
-    (f .low, f .slot)
+    let f = value-lies (D s) (s .pre .0) (s .args .index) (s .args .sub) _ _ (s .pre .1 .0) (sym (u .sub-at .ensures) ∙ p .p .given .1) in
+    ((f .low, f .slot), (subst (λ (x : Extra). rangeOk (x .ranged) (x .low) (x .high) ≡ true) (sym (c .extra-at .ensures)) (range-right (D s) (s .pre .0) (s .args .i) (lies s .below)), s .pre .1 .1))
 
 returns-2 : tie.Need-returns-2
 returns-2 c =
@@ -77,8 +83,11 @@ returns-5 c =
 
 returns-6 : tie.Need-returns-6
 returns-6 c =
-    let p = c .before .before in
-    c .at-value .ensures ∙ placed (p .before .before) _ (p .p .given .1)
+    let x = c .before in
+    let p = x .before .before in
+    let u = p .before .before in
+    let a = start (u .before .before) .args in
+    c .at-value .ensures ∙ ap (λ e. atValue (now (a .slots)) e (p .p .given .0 .0) (a .t) (now (a .«data»))) (x .extra-at .ensures) ∙ placed u _ (p .p .given .1)
 
 pub in-row-spec : {M : Type 1} → statement M
 in-row-spec =
@@ -92,6 +101,7 @@ in-row-spec =
     (λ c. search needs)
     (λ c κs. search needs)
     (λ c. search needs)
+    extra-at-requires
     at-value-requires
     returns-2
     returns-3

@@ -25,9 +25,6 @@ returns-2 c =
 count-first-requires : tie.Need-count-first-requires
 count-first-requires c κs = c .before .before .before .before .before .before .before .pre
 
-in-object-requires : tie.Need-in-object-requires
-in-object-requires c κs = c .before .before .before .before .before .before .before .before .before .before .pre .0
-
 returns-3 : tie.Need-returns-3
 unfolding judgeValueOf
 returns-3 c =
@@ -59,7 +56,7 @@ judge-value-spec =
     returns-2
     count-first-requires
     (λ c. search needs)
-    in-object-requires
+    (λ c κs. search needs)
     (λ c. search needs)
     returns-3
     returns-4)
