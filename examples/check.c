@@ -1,11 +1,11 @@
 /* Lays a rig with the calls of loomfinch_dictionary.h, checks its channel and consumes a payload: with a move time of two bytes mapped
  * onto two, with four bytes and with one mapped onto two, and with a payload that ends early. Then it writes captions, of which one is
- * no UTF-8. examples/build builds it. */
+ * no UTF-8, and times, of which one lies outside its range. examples/build builds it. */
 #include "loomfinch_dictionary.h"
 
 #include <stdio.h>
 
-enum { OBJECTS = 8, VALUES = 16, BYTES = 64, CAPTION = 0x6100, CAPTION_ROOM = 20 };
+enum { OBJECTS = 8, VALUES = 16, BYTES = 64, CAPTION = 0x6100, CAPTION_ROOM = 20, MOVE_TIME = 0x6300, LONGEST_MOVE = 60000 };
 
 static uint64_t objects[LOOMFINCH_OBJECTS_WORDS(OBJECTS)];
 static uint64_t slots[LOOMFINCH_SLOTS_WORDS(VALUES)];
@@ -15,6 +15,9 @@ static uint8_t bytes[BYTES];
 static struct loomfinch_dictionary rig = LOOMFINCH_DICTIONARY_OF(objects, slots, words, bytes);
 
 #define LENGTH(slice) (sizeof(slice) / sizeof *(slice))
+
+/* The type and the number of each end of a range that there is not. */
+#define NO_RANGE 0, 0, 0, 0
 
 /* No place and no count: what a number holds that no answer has set. */
 static const uint64_t NOT_SET = ~(uint64_t)0;
@@ -35,8 +38,8 @@ static uint64_t insert(uint16_t index, uint64_t kind, uint64_t type, const uint6
         values[3 * k + 2] = written;
         length += written;
     }
-    return loomfinch_dictionary_insert(&rig, index, kind, LOOMFINCH_ACCESS_NONE, 0, (const uint8_t *)"", 0, values, 3 * count,
-                                       encodings, length);
+    return loomfinch_dictionary_insert(&rig, index, kind, LOOMFINCH_ACCESS_NONE, 0, NO_RANGE, (const uint8_t *)"", 0, values,
+                                       3 * count, encodings, length);
 }
 
 /* Channel 0 takes the payloads of node 5: a time at 6000h, in a field of so many bits, and a position at 6200h/3. */
@@ -94,8 +97,8 @@ static int show(uint16_t time_bits, const uint8_t *payload, size_t length) {
 
 static int insert_caption(void) {
     const uint64_t empty[] = {LOOMFINCH_VISIBLE_STRING, CAPTION_ROOM, 0};
-    return loomfinch_dictionary_insert(&rig, CAPTION, LOOMFINCH_VARIABLE, LOOMFINCH_ACCESS_NONE, 0, (const uint8_t *)"Caption", 7,
-                                       empty, LENGTH(empty), bytes, 0) == LOOMFINCH_DONE;
+    return loomfinch_dictionary_insert(&rig, CAPTION, LOOMFINCH_VARIABLE, LOOMFINCH_ACCESS_NONE, 0, NO_RANGE,
+                                       (const uint8_t *)"Caption", 7, empty, LENGTH(empty), bytes, 0) == LOOMFINCH_DONE;
 }
 
 /* Writes a caption, which needs no store, and shows at which byte it is no UTF-8. */
@@ -111,16 +114,36 @@ static void show_caption(const char *form, const uint8_t *caption, size_t length
     printf("\n");
 }
 
+static int insert_move_time(void) {
+    const uint64_t number[] = {LOOMFINCH_UNSIGNED32, 0, 4};
+    const uint8_t zero[4] = {0};
+    return loomfinch_dictionary_insert(&rig, MOVE_TIME, LOOMFINCH_VARIABLE, LOOMFINCH_ACCESS_NONE, 0, LOOMFINCH_UNSIGNED32, 0,
+                                       LOOMFINCH_UNSIGNED32, LONGEST_MOVE, (const uint8_t *)"Move time", 9, number, LENGTH(number),
+                                       zero, sizeof zero) == LOOMFINCH_DONE;
+}
+
+/* Writes a move time, and shows whether its range lets it in. */
+static void show_move_time(uint64_t milliseconds) {
+    uint8_t no_store[1], encoding[4];
+    uint64_t length, place, had;
+    loomfinch_encode(LOOMFINCH_UNSIGNED32, milliseconds, bytes, 0, encoding, sizeof encoding, &length);
+    uint64_t answer = loomfinch_dictionary_write(&rig, no_store, 0, MOVE_TIME, 0, LOOMFINCH_UNSIGNED32, encoding, length, &place, &had);
+    printf("a move of %d ms, where %d is the longest\n  the write says: %s\n", (int)milliseconds, (int)LONGEST_MOVE,
+           loomfinch_answer_name(answer));
+}
+
 int main(void) {
     const uint8_t two_and_a_half_seconds[] = {0xC4, 0x09, 0x10, 0x27, 0x00, 0x00};
     const uint8_t ninety_seconds[] = {0x90, 0x5F, 0x01, 0x00, 0x00, 0x00};
     const uint8_t utf_8[] = {'D', 0xC3, 0xA9, 'c', 'o', 'r'};
     const uint8_t latin_1[] = {'D', 0xE9, 'c', 'o', 'r'};
     if (!show(16, two_and_a_half_seconds, 6) || !show(32, ninety_seconds, 6) || !show(8, two_and_a_half_seconds, 6) ||
-        !show(16, two_and_a_half_seconds, 5) || !insert_caption()) {
+        !show(16, two_and_a_half_seconds, 5) || !insert_caption() || !insert_move_time()) {
         return 1;
     }
     show_caption("UTF-8", utf_8, sizeof utf_8);
     show_caption("Latin-1", latin_1, sizeof latin_1);
+    show_move_time(LONGEST_MOVE);
+    show_move_time(90000);
     return 0;
 }

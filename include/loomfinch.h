@@ -24,9 +24,9 @@ extern "C" {
 
 /* The version of this header and of the library that it belongs to. */
 #define LOOMFINCH_VERSION_MAJOR 0
-#define LOOMFINCH_VERSION_MINOR 2
+#define LOOMFINCH_VERSION_MINOR 3
 #define LOOMFINCH_VERSION_PATCH 0
-#define LOOMFINCH_VERSION "0.2.0"
+#define LOOMFINCH_VERSION "0.3.0"
 
 enum {
     LOOMFINCH_DONE = 0,
@@ -48,7 +48,8 @@ enum {
     LOOMFINCH_OCCUPIED = 16,
     LOOMFINCH_FULL = 17,
     LOOMFINCH_STORE_FULL = 18,
-    LOOMFINCH_RESTORE_REQUESTED = 19 /* no refusal */
+    LOOMFINCH_RESTORE_REQUESTED = 19, /* no refusal */
+    LOOMFINCH_OUT_OF_RANGE = 21
 };
 
 /* The types of values, by their numbers; VisibleString to Domain are strings, which need room. */
@@ -152,14 +153,18 @@ uint64_t loomfinch_new(uint64_t *objects, size_t objects_len);
 /* Inserts an object of a kind and an access, as named above. The values are a Variable's one value or a list's elements, then the
  * default where has_default is 1. Each takes three numbers of vals: its type 0..20, the size of its room (a default's: just its
  * length for types 11..14, else 0), and the byte count of its encoding; the encodings lie back to back.
- * Answers 1; 2 where a rule for objects is broken, has_default is above 1 or has no value, vals_len is no multiple of 3, or the
- * byte counts do not add up to encodings_len; 16 where the index is taken; 17 where the
- * dictionary's bounds or the lent slices have no room for it; in this order.
+ * The range is the least and the greatest number that loomfinch_write puts where the type is the range's; four numbers 0 are none. An
+ * end is its type, 1..8, and the number of its bytes: -1 of Integer8 is 0xFF. The values given here are not held against it.
+ * Answers 1; 2 where a rule for objects is broken, has_default is above 1 or has no value, vals_len is no multiple of 3, the
+ * byte counts do not add up to encodings_len, or of the range the types differ or are no integers', an end is no number of its type,
+ * or low means more than high; 16 where the index is taken; 17 where the dictionary's bounds or the lent slices have no room for it;
+ * in this order.
  * Done: the object is in its place, what comes behind it has moved up, and each other object keeps its name, values and rooms;
  * bytes of the new rooms behind their values are 0. */
 uint64_t loomfinch_insert(uint64_t *objects, size_t objects_len, uint64_t *slots, size_t slots_len, uint64_t *words,
                           size_t words_len, uint8_t *bytes, size_t bytes_len, uint16_t index, uint64_t kind, uint64_t access,
-                          uint64_t has_default, const uint8_t *name, size_t name_len, const uint64_t *vals, size_t vals_len,
+                          uint64_t has_default, uint64_t low_type, uint64_t low, uint64_t high_type, uint64_t high,
+                          const uint8_t *name, size_t name_len, const uint64_t *vals, size_t vals_len,
                           const uint8_t *encodings, size_t encodings_len);
 
 /* Reads a value. Answers 1; 3 for no such object; 4 for no such element; 12 for fewer than 3 numbers; in this order.
@@ -207,8 +212,8 @@ uint64_t loomfinch_increment_counter(const uint64_t *objects, size_t objects_len
  * VisibleString "save" at a sub-index above 0; 8 for no store; then the values of the list that the sub-index names are saved, or
  * 18 where the store cannot hold them. At 1011h likewise with "load", and then 19. Else: 5 for a mapping's count (sub-index 0 of
  * 1600h..16FFh, 1A00h..1AFFh) that is no Unsigned8, and what loomfinch_validate_pdo_mapping answers for it; 3; 6 for access 0
- * and 5; 4; 9 for the count of a list that is no mapping; 5 for another type than the one there; 13 for a string longer than its
- * room.
+ * and 5; 4; 9 for the count of a list that is no mapping; 5 for another type than the one there; 21 for a number outside the
+ * object's range, where that is of its type; 13 for a string longer than its room.
  * 2 for a VisibleString that is not UTF-8 sets *place, and 2 for fewer bytes than the type has *place and *had, as loomfinch_decode
  * does. Else both stay: also where a fixed type's data is too long, and where a UnicodeString's count is odd.
  * Done: the value is put, and bytes in its room behind it stay; a mapping's count is accepted and not kept. A refusal and 19
@@ -339,10 +344,11 @@ static inline const char *loomfinch_answer_name(uint64_t answer) {
         "Done",          "Malformed",      "BadValue",       "ObjectNotFound", "SubObjectNotFound",
         "TypeMismatch",  "ReadOnly",       "BadSignature",   "NoStorage",      "CountNotWritable",
         "MissingEntries", "PdoMapOverrun", "BufferTooShort", "TooLong",        "PayloadTooLong",
-        "NoEventRoom",   "Occupied",       "Full",           "StoreFull",      "RestoreRequested"};
+        "NoEventRoom",   "Occupied",       "Full",           "StoreFull",      "RestoreRequested",
+        "?",             "OutOfRange"};
     static const char *const faults[] = {"NoSender", "NoList",   "NotMapping",  "Misaligned", "HandOff",
                                          "NoTarget", "CountTarget", "WrongLength", "TooFar"};
-    if (answer <= LOOMFINCH_RESTORE_REQUESTED) {
+    if (answer <= LOOMFINCH_OUT_OF_RANGE) {
         return refusals[answer];
     }
     if (answer >= LOOMFINCH_NO_SENDER && answer <= LOOMFINCH_TOO_FAR) {

@@ -35,11 +35,11 @@ static inline uint64_t loomfinch_dictionary_new(struct loomfinch_dictionary *d) 
 }
 
 static inline uint64_t loomfinch_dictionary_insert(struct loomfinch_dictionary *d, uint16_t index, uint64_t kind, uint64_t access,
-                                                   uint64_t has_default, const uint8_t *name, size_t name_len,
-                                                   const uint64_t *vals, size_t vals_len, const uint8_t *encodings,
-                                                   size_t encodings_len) {
-    return loomfinch_insert(LOOMFINCH_LENT(d), index, kind, access, has_default, name, name_len, vals, vals_len, encodings,
-                            encodings_len);
+                                                   uint64_t has_default, uint64_t low_type, uint64_t low, uint64_t high_type,
+                                                   uint64_t high, const uint8_t *name, size_t name_len, const uint64_t *vals,
+                                                   size_t vals_len, const uint8_t *encodings, size_t encodings_len) {
+    return loomfinch_insert(LOOMFINCH_LENT(d), index, kind, access, has_default, low_type, low, high_type, high, name, name_len, vals,
+                            vals_len, encodings, encodings_len);
 }
 
 static inline uint64_t loomfinch_dictionary_read(const struct loomfinch_dictionary *d, uint16_t index, uint8_t sub_index,

@@ -24,8 +24,9 @@ abbrev pub insertedNumber : Inserted → ℕ
 insertedNumber inserted.Done = 0
 insertedNumber (inserted.Refused r) = refusalNumber r
 
-abbrev pub headOf : ℕ → ℕ → ℕ → ℕ → Head
-headOf index kind access default = record { index = index; kind = kind; access = access; default = default }
+abbrev pub headOf : ℕ → ℕ → ℕ → ℕ → ℕ → ℕ → ℕ → ℕ → Head
+headOf index kind access default s low t high =
+    record { index = index; kind = kind; access = access; default = default; «low_type» = s; low = low; «high_type» = t; high = high }
 
 -- a value's type, its word and where its room starts
 abbrev pub storedNumbers : Stored → List ℕ → Lent

@@ -41,18 +41,26 @@ pub extern "C" fn loomfinch_insert(
     kind: u64,
     access: u64,
     has_default: u64,
+    low_type: u64,
+    low: u64,
+    high_type: u64,
+    high: u64,
     name: &[u8],
     vals: &[u64],
     encodings: &[u8],
 ) -> u64
-    ensures answer { λ r. ⌜ r ≡ insertedNumber (answerOf (headOf index kind access «has_default») (now (name .entry)) (now (vals .entry)) (now (encodings .entry)) (dict (now (objects .entry)) (now (slots .entry)) (now (words .entry)) (now (bytes .entry)))) ⌝ }
-    ensures memory { λ _. ⌜ dict (now (objects .exit)) (now (slots .exit)) (now (words .exit)) (now (bytes .exit)) ≡ memoryOf (headOf index kind access «has_default») (now (name .entry)) (now (vals .entry)) (now (encodings .entry)) (dict (now (objects .entry)) (now (slots .entry)) (now (words .entry)) (now (bytes .entry))) ⌝ }
+    ensures answer { λ r. ⌜ r ≡ insertedNumber (answerOf (headOf index kind access «has_default» «low_type» low «high_type» high) (now (name .entry)) (now (vals .entry)) (now (encodings .entry)) (dict (now (objects .entry)) (now (slots .entry)) (now (words .entry)) (now (bytes .entry)))) ⌝ }
+    ensures memory { λ _. ⌜ dict (now (objects .exit)) (now (slots .exit)) (now (words .exit)) (now (bytes .exit)) ≡ memoryOf (headOf index kind access «has_default» «low_type» low «high_type» high) (now (name .entry)) (now (vals .entry)) (now (encodings .entry)) (dict (now (objects .entry)) (now (slots .entry)) (now (words .entry)) (now (bytes .entry))) ⌝ }
 {
     let head = Head {
         index,
         kind,
         access,
         default: has_default,
+        low_type,
+        low,
+        high_type,
+        high,
     };
     inserted(insertion::insert(objects, slots, words, bytes, head, name, vals, encodings))
 }
