@@ -1,0 +1,9 @@
+pub mod PutLaws
+pub mod RowLaws
+pub mod AskLaws
+pub mod ConsumeLaws
+pub mod StoreLaws
+pub mod CheckLaws
+pub mod ClearedLaws
+pub mod IgnoreLaws
+pub mod InsertLaws
