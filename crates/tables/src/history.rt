@@ -2,6 +2,7 @@
 // 300 values and 1,200 bytes, and the store beside it has 1,000 bytes.
 //   N ANSWER                                               an empty dictionary
 //   I INDEX KIND ACCESS DEFAULT NAME VALS BYTES ANSWER     insertion; VALS has four digits a number, BYTES the encodings
+//   J TYPE LOW TYPE HIGH, and behind them what I has       insertion with a range, each end with its type
 //   R INDEX SUB ANSWER [TYPE WORD PART]                    reading, and the part
 //   U TYPE INDEX SUB ANSWER [NUMBER]                       reading a number of a type
 //   F NAME ANSWER [INDEX]                                  finding by name
@@ -44,6 +45,7 @@ use changing_lines::bit_line;
 use changing_lines::counter_line;
 use changing_lines::damage;
 use changing_lines::insert_line;
+use changing_lines::ranged_line;
 use changing_lines::restore_line;
 use changing_lines::write_line;
 use consuming_lines::Turn;
@@ -102,6 +104,7 @@ pub fn take_turn(kind: u8, s: &[u8], at: usize, m: Memory) -> Turn {
     match kind {
         b'N' => turned(s, at, m.new()),
         b'I' => turned(s, at, insert_line(s, at, m)),
+        b'J' => turned(s, at, ranged_line(s, at, m)),
         b'P' => turned(s, at, counter_line(s, at, m)),
         b'W' => told(write_line(s, at, m)),
         b'O' => turned(s, at, restore_line(s, at, m)),
