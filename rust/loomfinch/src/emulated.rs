@@ -207,8 +207,10 @@ pub fn insert(parts: &mut Parts, index: u16, name: &[u8], given: &Description) -
     let index = Number(index.into());
     let (kind, access) = (Number(given.kind), Number(given.access));
     let has_default = Number(given.has_default);
-    let (values, encodings) = (Words(&given.values), Bytes(&given.encodings));
-    let given = [index, kind, access, has_default, Bytes(name), values, encodings];
+    let [low_type, low, high_type, high] = given.range.map(Number);
+    let (name, values, encodings) = (Bytes(name), Words(&given.values), Bytes(&given.encodings));
+    let given =
+        [index, kind, access, has_default, low_type, low, high_type, high, name, values, encodings];
     change(Function::Insert, parts, given)
 }
 

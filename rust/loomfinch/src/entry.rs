@@ -1,6 +1,6 @@
 //! What is inserted: objects with their names, access and rooms.
 
-use crate::value::ObjectValue;
+use crate::value::{ObjectValue, ValueType};
 use std::iter::repeat;
 
 /// An object's values.
@@ -86,7 +86,34 @@ impl AccessType {
     }
 }
 
-/// An object with its name, access, default and rooms, as [`insert`](crate::Dictionary::insert) takes it.
+/// The least and the greatest number that may be written to an object's values of the ends' type, which is one of the integer
+/// types; each end may be written itself.
+#[derive(Debug, Clone, PartialEq)]
+pub struct ValueRange {
+    /// The least number.
+    pub min: ObjectValue,
+    /// The greatest number.
+    pub max: ObjectValue,
+}
+
+impl ValueRange {
+    /// The range of two numbers.
+    pub fn new(min: impl Into<ObjectValue>, max: impl Into<ObjectValue>) -> Self {
+        ValueRange { min: min.into(), max: max.into() }
+    }
+
+    /// The type and the word of each end, as the library takes them.
+    fn numbers(&self) -> [u64; 4] {
+        // A Boolean has the number by which the library knows that there is no range: no type has the one given instead.
+        let type_number = |end: &ObjectValue| match end.value_type() {
+            ValueType::Boolean => u64::MAX,
+            other => other.number().into(),
+        };
+        [type_number(&self.min), self.min.word(), type_number(&self.max), self.max.word()]
+    }
+}
+
+/// An object with its name, access, default, range and rooms, as [`insert`](crate::Dictionary::insert) takes it.
 ///
 /// ```
 /// use loomfinch::{AccessType, Object, ObjectEntry, ObjectValue};
@@ -111,15 +138,19 @@ pub struct ObjectEntry<'n> {
     pub access: Option<AccessType>,
     /// What a restore puts where nothing was saved.
     pub default_value: Option<ObjectValue>,
+    /// What a write is held against: a number of the range's type outside it is refused. It holds for each element of a list,
+    /// never for the count. Payloads, restores and the values given here are not held against it.
+    pub value_range: Option<ValueRange>,
     /// How many bytes each value, in order, has room for, for good. A value behind the last has just the room that it takes.
     /// More rooms than values are refused.
     pub rooms: Vec<usize>,
 }
 
 impl<'n> ObjectEntry<'n> {
-    /// An object without a name, access and default, each value with just the room that it takes.
+    /// An object without a name, access, default and range, each value with just the room that it takes.
     pub fn new(object: Object) -> Self {
-        ObjectEntry { object, name: "", access: None, default_value: None, rooms: Vec::new() }
+        let (access, default_value, value_range) = (None, None, None);
+        ObjectEntry { object, name: "", access, default_value, value_range, rooms: Vec::new() }
     }
 
     /// The object with a name.
@@ -137,6 +168,23 @@ impl<'n> ObjectEntry<'n> {
         ObjectEntry { default_value: default_value.into(), ..self }
     }
 
+    /// The object with a range; `None` is none.
+    ///
+    /// ```
+    /// use loomfinch::{Dictionary, Object, ObjectEntry, ObjectValue, Refusal, ValueRange, Written};
+    ///
+    /// let mut dictionary = Dictionary::new(Default::default());
+    /// let times = Object::Array(vec![ObjectValue::Unsigned32(0); 3]);
+    /// let limit = ValueRange::new(0_u32, 60_000_u32);
+    /// dictionary.insert(0x6200, ObjectEntry::new(times).with_value_range(limit))?;
+    /// assert_eq!(dictionary.write(0x6200, 3, 60_000_u32.into())?, Written::Done);
+    /// assert_eq!(dictionary.write(0x6200, 3, 90_000_u32.into()), Err(Refusal::OutOfRange));
+    /// # Ok::<(), Refusal>(())
+    /// ```
+    pub fn with_value_range(self, value_range: impl Into<Option<ValueRange>>) -> Self {
+        ObjectEntry { value_range: value_range.into(), ..self }
+    }
+
     /// The object with rooms, one for each value, in order.
     pub fn with_rooms(self, rooms: impl Into<Vec<usize>>) -> Self {
         ObjectEntry { rooms: rooms.into(), ..self }
@@ -148,6 +196,8 @@ pub struct Description {
     pub kind: u64,
     pub access: u64,
     pub has_default: u64,
+    /// Of the range's least and of its greatest number the type and the word; 0 for no range.
+    pub range: [u64; 4],
     /// Of each value, the default last: its type, its room and the length of its encoding.
     pub values: Vec<u64>,
     /// The encodings back to back.
@@ -160,6 +210,7 @@ impl Description {
             kind: entry.object.kind() as u64,
             access: AccessType::number(entry.access),
             has_default: entry.default_value.is_some().into(),
+            range: entry.value_range.as_ref().map_or([0; 4], ValueRange::numbers),
             values: Vec::new(),
             encodings: Vec::new(),
         };

@@ -63,6 +63,13 @@ impl<'a> Row<'a> {
         self.bytes(self.words[5], self.words[6])
     }
 
+    /// The type of the object's range and the words of its ends; none where it has no range.
+    pub fn range(self) -> Option<(ValueType, [u64; 2])> {
+        let value_type = u8::try_from(self.words[9]).ok().filter(|number| *number != 0);
+        let value_type = value_type.and_then(ValueType::from_number)?;
+        Some((value_type, [self.words[10], self.words[11]]))
+    }
+
     fn bytes(self, start: u64, len: u64) -> &'a [u8] {
         let (start, len) = (start as usize, len as usize);
         self.parts.bytes.get(start..start.saturating_add(len)).unwrap_or_default()
@@ -96,11 +103,12 @@ impl<'a> Row<'a> {
             .map(move |slot| (self.slot(slot), self.parts.slots.get(SLOT * slot + 2).copied()))
     }
 
-    /// Whether both objects have the same index, kind, access, name, values, rooms and default.
+    /// Whether both objects have the same index, kind, access, range, name, values, rooms and default.
     pub fn same(self, other: Row<'_>) -> bool {
         let columns =
             |row: Row<'_>| [row.words[0], row.words[1], row.words[2], row.words[3], row.words[7]];
         columns(self) == columns(other)
+            && self.range() == other.range()
             && self.name() == other.name()
             && self.contents().eq(other.contents())
     }

@@ -101,7 +101,7 @@ use emulated as sys;
 pub use check::{Checked, Fault};
 pub use codec::{decode, decode_exact, encode};
 pub use dictionary::{Dictionary, ObjectInfo, Written};
-pub use entry::{AccessType, Kind, Object, ObjectEntry};
+pub use entry::{AccessType, Kind, Object, ObjectEntry, ValueRange};
 pub use event::{Cause, Event, EventRecord, Events, Payload, ReceivedPayload, Unwritten};
 pub use explain::{Explanation, Target};
 pub use mapping::PdoMappingEntry;

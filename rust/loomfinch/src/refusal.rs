@@ -5,7 +5,7 @@ use std::fmt;
 
 /// Why a call did nothing: each refusal has a number and a name, and leaves everything as it was.
 ///
-/// The numbers are those of docs/RULES.md, 1 to 18; there will be more, with gaps between them. 19 stands for
+/// The numbers are those of docs/RULES.md, 1 to 18 and 21; there will be more, with gaps between them. 19 stands for
 /// [`Written::RestoreRequested`](crate::Written::RestoreRequested), which is no refusal.
 ///
 /// ```
@@ -23,8 +23,8 @@ use std::fmt;
 pub enum Refusal {
     /// The memory is no dictionary.
     Malformed = 1,
-    /// A value, name, room, list or default breaks a rule for sizes; bad text or too few bytes in writing an
-    /// encoding.
+    /// A value, name, room, list or default breaks a rule for sizes; a range's ends differ in type, are no integers or are
+    /// reversed; bad text or too few bytes in writing an encoding.
     BadValue = 2,
     /// No such index or name.
     ObjectNotFound = 3,
@@ -58,10 +58,12 @@ pub enum Refusal {
     Full = 17,
     /// The store cannot hold what is to be saved.
     StoreFull = 18,
+    /// A number lies outside the object's range.
+    OutOfRange = 21,
 }
 
 /// Every refusal.
-const ALL: [Refusal; 18] = [
+const ALL: [Refusal; 19] = [
     Refusal::Malformed,
     Refusal::BadValue,
     Refusal::ObjectNotFound,
@@ -80,6 +82,7 @@ const ALL: [Refusal; 18] = [
     Refusal::Occupied,
     Refusal::Full,
     Refusal::StoreFull,
+    Refusal::OutOfRange,
 ];
 
 impl Refusal {
@@ -103,7 +106,7 @@ impl Refusal {
         match self {
             Refusal::Malformed => ("Malformed", "the memory is no dictionary"),
             Refusal::BadValue => {
-                ("BadValue", "a value, name, room, list or default breaks a rule for sizes")
+                ("BadValue", "a value, name, room, list, default or range breaks a rule")
             }
             Refusal::ObjectNotFound => ("ObjectNotFound", "no such index or name"),
             Refusal::SubObjectNotFound => ("SubObjectNotFound", "no such sub-index there"),
@@ -127,6 +130,7 @@ impl Refusal {
             Refusal::Occupied => ("Occupied", "the index is taken"),
             Refusal::Full => ("Full", "the dictionary has no room for the object"),
             Refusal::StoreFull => ("StoreFull", "the store cannot hold what is to be saved"),
+            Refusal::OutOfRange => ("OutOfRange", "the number lies outside the object's range"),
         }
     }
 }

@@ -60,8 +60,9 @@ declare! { const:
 }
 
 declare! { mut:
-    loomfinch_insert(index: u16, kind: u64, access: u64, has_default: u64, name: *const u8, name_len: usize,
-        vals: *const u64, vals_len: usize, encodings: *const u8, encodings_len: usize);
+    loomfinch_insert(index: u16, kind: u64, access: u64, has_default: u64, low_type: u64, low: u64, high_type: u64,
+        high: u64, name: *const u8, name_len: usize, vals: *const u64, vals_len: usize, encodings: *const u8,
+        encodings_len: usize);
     loomfinch_increment_counter(index: u16, sub_index: u8);
     loomfinch_write(store: *mut u8, store_len: usize, index: u16, sub_index: u8, type_number: u64,
         data: *const u8, data_len: usize, place: *mut u64, had: *mut u64);
@@ -137,12 +138,17 @@ pub fn new(objects: &mut [u64]) -> u64 {
 }
 
 pub fn insert(parts: &mut Parts, index: u16, name: &[u8], given: &Description) -> u64 {
+    let [low_type, low, high_type, high] = given.range;
     call!(loomfinch_insert(
         parts.as_mut_ptr,
         index,
         given.kind,
         given.access,
         given.has_default,
+        low_type,
+        low,
+        high_type,
+        high,
         name.as_ptr(),
         name.len(),
         given.values.as_ptr(),

@@ -124,11 +124,15 @@ fn every_answer_has_its_name() {
     let header = file("loomfinch.h");
     let names = header.split("loomfinch_answer_name").nth(1).unwrap();
     let names: Vec<&str> = names.split('"').skip(1).step_by(2).collect();
-    let refusals = refusals().map(Refusal::name);
+    let last = refusals().map(Refusal::number).max().unwrap();
+    let answers = (0..=last).map(|number| match number {
+        0 => "Done",
+        19 => "RestoreRequested",
+        _ => Refusal::from_number(number).map_or("?", Refusal::name),
+    });
     let faults = (33..=38).map(|number| Fault::from_number(number).unwrap().name());
-    let mut wanted = vec!["Done"];
-    wanted.extend(refusals);
-    wanted.extend(["RestoreRequested", "NoSender", "NoList"]);
+    let mut wanted: Vec<&str> = answers.collect();
+    wanted.extend(["NoSender", "NoList"]);
     wanted.extend(faults);
     wanted.extend(["TooFar", "?"]);
     assert_eq!(names[..wanted.len()], wanted);

@@ -67,7 +67,7 @@ static uint64_t answer(uint64_t function, const struct argument *a) {
     case NEW:
         return loomfinch_new(W(0));
     case INSERT:
-        return loomfinch_insert(DICTIONARY, (uint16_t)N(4), N(5), N(6), N(7), B(8), W(9), B(10));
+        return loomfinch_insert(DICTIONARY, (uint16_t)N(4), N(5), N(6), N(7), N(8), N(9), N(10), N(11), B(12), W(13), B(14));
     case READ:
         return loomfinch_read(DICTIONARY, (uint16_t)N(4), (uint8_t)N(5), W(6));
     case READ_U8:

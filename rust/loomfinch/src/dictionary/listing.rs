@@ -1,7 +1,7 @@
 //! What is in the dictionary: its objects, its channels, and values read without a call each.
 
 use super::Dictionary;
-use crate::entry::{AccessType, Kind};
+use crate::entry::{AccessType, Kind, ValueRange};
 use crate::layout::{self, Row};
 use crate::refusal::Refusal;
 use crate::types::{NodeId, PDOVersion};
@@ -24,12 +24,23 @@ pub struct ObjectInfo<'a> {
     pub name: &'a str,
     /// How many elements it has; a Variable has one.
     pub elements: usize,
+    range: Option<(ValueType, [u64; 2])>,
+}
+
+impl ObjectInfo<'_> {
+    /// The range that writes are held against; `None` is none.
+    pub fn value_range(&self) -> Option<ValueRange> {
+        let (value_type, ends) = self.range?;
+        let [min, max] = ends.map(|end| ObjectValue::from_word(value_type, end, &[]));
+        Some(ValueRange { min, max })
+    }
 }
 
 impl<'a> From<Row<'a>> for ObjectInfo<'a> {
     fn from(row: Row<'a>) -> Self {
         let (index, kind, access) = (row.index(), row.kind(), row.access());
-        ObjectInfo { index, kind, access, name: text(row.name()), elements: row.elements() }
+        let (name, elements, range) = (text(row.name()), row.elements(), row.range());
+        ObjectInfo { index, kind, access, name, elements, range }
     }
 }
 
@@ -111,7 +122,7 @@ impl Dictionary {
     }
 }
 
-/// Equal are dictionaries with the same objects, values, rooms and defaults, and the same store; how much room is left does
+/// Equal are dictionaries with the same objects, values, ranges, rooms and defaults, and the same store; how much room is left does
 /// not count.
 impl PartialEq for Dictionary {
     fn eq(&self, other: &Self) -> bool {

@@ -100,7 +100,8 @@ impl Dictionary {
     /// Inserts an object at an index. Every other object keeps its name, values and rooms.
     ///
     /// Refuses, in this order, with [`BadValue`](Refusal::BadValue) an object that breaks a rule for sizes: a name over 32
-    /// bytes, more than 254 elements, a room over 1490 bytes, a string longer than its room; with
+    /// bytes, more than 254 elements, a room over 1490 bytes, a string longer than its room; or whose range has ends of two
+    /// types, of no integer type or in the wrong order; with
     /// [`Occupied`](Refusal::Occupied) an index that is taken; with [`Full`](Refusal::Full) an object that the dictionary
     /// has no room for.
     ///

@@ -35,8 +35,9 @@ impl Dictionary {
     /// [`ObjectNotFound`](Refusal::ObjectNotFound); with [`ReadOnly`](Refusal::ReadOnly) where access is ReadOnly or
     /// Constant; with [`SubObjectNotFound`](Refusal::SubObjectNotFound); with
     /// [`CountNotWritable`](Refusal::CountNotWritable) the count of a list that is no mapping; with
-    /// [`TypeMismatch`](Refusal::TypeMismatch) a value of another type; with [`TooLong`](Refusal::TooLong) a string
-    /// longer than its room. At 1010h and 1011h only with [`BadSignature`](Refusal::BadSignature) another value or
+    /// [`TypeMismatch`](Refusal::TypeMismatch) a value of another type; with [`OutOfRange`](Refusal::OutOfRange) a number
+    /// outside the object's range, where that is of its type; with [`TooLong`](Refusal::TooLong) a string longer than its
+    /// room. At 1010h and 1011h only with [`BadSignature`](Refusal::BadSignature) another value or
     /// sub-index 0, with [`NoStorage`](Refusal::NoStorage) for want of a store, and with
     /// [`StoreFull`](Refusal::StoreFull).
     ///

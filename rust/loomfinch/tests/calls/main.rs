@@ -9,6 +9,7 @@ mod inserting;
 mod lasting;
 mod listing;
 mod mapping;
+mod ranges;
 mod reading;
 mod refusing;
 mod rig;

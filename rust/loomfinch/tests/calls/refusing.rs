@@ -46,7 +46,7 @@ fn a_refusal_has_a_number_and_a_name() {
             }
             Err(none) => assert_eq!(none, NoRefusal(number)),
         }
-        assert_eq!(refusal.is_ok(), matches!(number, 1..=18), "{number}");
+        assert_eq!(refusal.is_ok(), matches!(number, 1..=18 | 21), "{number}");
     }
 }
 
