@@ -2,10 +2,10 @@
 //! what a payload changed can be told.
 
 use crate::explain::{self, Element};
-use crate::rig::{Kind, Object, Place, Problem, Rig, Value};
+use crate::rig::{Kind, Object, Place, Problem, Range, Rig, Value};
 use loomfinch::{
     decode, Capacity, Cause, Checked, Dictionary, Event, EventRecord, NodeId, ObjectEntry,
-    ObjectValue, PDOVersion, Refusal, Refused,
+    ObjectValue, PDOVersion, Refusal, Refused, ValueRange,
 };
 use std::collections::HashMap;
 
@@ -243,9 +243,54 @@ fn entry(object: &Object) -> Result<ObjectEntry<'_>, Refused> {
         Kind::Record => loomfinch::Object::Record(values),
     };
     let entry = ObjectEntry::new(inner).with_name(&object.name).with_access(object.access);
-    Ok(entry.with_default_value(default).with_rooms(rooms))
+    let range = object.range.map(value_range).transpose()?;
+    Ok(entry.with_default_value(default).with_value_range(range).with_rooms(rooms))
+}
+
+fn value_range(range: Range) -> Result<ValueRange, Refused> {
+    let [min, max] = range.ends().map(|end| decode(range.of, &end));
+    Ok(ValueRange { min: min?, max: max? })
 }
 
 fn object_value(value: &Value) -> Result<ObjectValue, Refused> {
     decode(value.of, &value.bytes)
+}
+
+#[cfg(test)]
+mod tests {
+    use super::*;
+    use crate::rig;
+    use loomfinch::ValueType;
+    use std::cmp::Ordering;
+
+    /// The least and the greatest numbers of a type, and those about its middle.
+    fn edges(of: ValueType) -> [i128; 7] {
+        let (least, greatest) = rig::bounds(of).unwrap();
+        let middle = (least + greatest) / 2;
+        [least, least + 1, middle - 1, middle, middle + 1, greatest - 1, greatest]
+    }
+
+    #[test]
+    fn what_lies_outside_a_range_is_what_the_library_refuses() {
+        let mut refused = 0;
+        for of in (1..=8).filter_map(ValueType::from_number) {
+            let ends = edges(of).map(|least| edges(of).map(|greatest| (least, greatest)));
+            for (least, greatest) in ends.concat().into_iter().filter(|ends| ends.0 <= ends.1) {
+                let text = format!("6000h Variable {of} range {least} to {greatest}");
+                let rig = rig::parse(text.as_bytes()).unwrap();
+                let range = rig.objects[&0x6000].range.unwrap();
+                let mut console = Console::new(rig).unwrap_or_else(|found| panic!("{found:?}"));
+                for number in edges(of) {
+                    let bytes = number.to_le_bytes()[..of.size().unwrap()].to_vec();
+                    let value = Value { of, bytes, ..Value::empty() };
+                    let written =
+                        console.dictionary.write(0x6000, 0, object_value(&value).unwrap());
+                    let outside = written == Err(Refusal::OutOfRange);
+                    assert_eq!(range.side(&value) != Ordering::Equal, outside, "{text}: {number}");
+                    refused += usize::from(outside);
+                }
+            }
+        }
+        assert_eq!(refused, 8 * 112);
+    }
 }

@@ -16,11 +16,12 @@ use std::io::Cursor;
 #[path = "../tests/common/captures.rs"]
 mod captures;
 
-const RIGS: [&[u8]; 4] = [
+const RIGS: [&[u8]; 5] = [
     include_bytes!("../../../rigs/ramp.rig"),
     include_bytes!("../../../rigs/mended.rig"),
     include_bytes!("../../../rigs/faults.rig"),
     include_bytes!("../../../rigs/captions.rig"),
+    include_bytes!("../../../rigs/limits.rig"),
 ];
 const REHEARSAL: &[u8] = include_bytes!("../../../rigs/rehearsal.pcap");
 

@@ -1,7 +1,7 @@
 //! Plain words: numbers, places, types and values as a person reads them.
 
 use crate::quoting;
-use crate::rig::{is_unsigned, little_endian, Kind, Rig, Value, MANAGING_NODE};
+use crate::rig::{bounds, is_unsigned, little_endian, Kind, Rig, Value, MANAGING_NODE};
 use loomfinch::{PDOVersion, PdoMappingEntry, Target, ValueType};
 
 /// How values are shown.
@@ -42,6 +42,12 @@ pub fn counted(count: usize, thing: &str) -> String {
 pub fn type_with_article(of: ValueType) -> String {
     let vowel = matches!(of.name().as_bytes()[0], b'I' | b'O') || is_unsigned(of);
     format!("{} {}", if vowel { "an" } else { "a" }, of.name())
+}
+
+/// The numbers of an integer type: `a number from 0 to 255`.
+pub fn numbers_of(of: ValueType) -> String {
+    let (least, greatest) = bounds(of).unwrap_or_default();
+    format!("a number from {least} to {greatest}")
 }
 
 pub fn kind_with_article(kind: Kind) -> String {
@@ -101,9 +107,8 @@ pub fn value(value: &Value, style: Style) -> String {
 pub fn as_type(of: ValueType, bytes: &[u8], milliseconds: bool, style: Style) -> String {
     use ValueType::*;
     let number = little_endian(bytes);
-    let timed = style.times && matches!(of, Unsigned16 | Unsigned32);
     match of {
-        _ if is_unsigned(of) && (milliseconds || timed) => time(number, style),
+        _ if is_unsigned(of) && (milliseconds || timed(of, style)) => time(number, style),
         Integer8 | Integer16 | Integer32 | Integer64 => signed(number, bytes.len()).to_string(),
         Real32 => style.decimal(&f32::from_bits(number as u32).to_string()),
         Real64 => style.decimal(&f64::from_bits(number).to_string()),
@@ -117,6 +122,20 @@ pub fn as_type(of: ValueType, bytes: &[u8], milliseconds: bool, style: Style) ->
         IpAddress => joined(bytes, ".", |byte| byte.to_string()),
         _ => number.to_string(),
     }
+}
+
+/// Is a value shown as a time?
+pub fn is_time(value: &Value, style: Style) -> bool {
+    value.milliseconds || timed(value.of, style)
+}
+
+fn timed(of: ValueType, style: Style) -> bool {
+    style.times && matches!(of, ValueType::Unsigned16 | ValueType::Unsigned32)
+}
+
+/// `60000`, or `60000 ms`.
+pub fn amount(number: i128, milliseconds: bool) -> String {
+    format!("{}{}", number, if milliseconds { " ms" } else { "" })
 }
 
 /// A plain number, or a time where it is one.

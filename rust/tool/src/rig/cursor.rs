@@ -89,8 +89,13 @@ impl Cursor {
 
     /// An error at the token that was taken last.
     pub fn problem(&self, text: impl Into<String>) -> Problem {
-        let column = self.tokens.get(self.taken).map_or(self.end, |found| found.1);
-        Problem::at(self.line, column, text)
+        let (line, column) = self.place();
+        Problem::at(line, column, text)
+    }
+
+    /// The line, and the column of the token that was taken last.
+    pub fn place(&self) -> (usize, usize) {
+        (self.line, self.tokens.get(self.taken).map_or(self.end, |found| found.1))
     }
 
     /// An error of the line as a whole, at its beginning.

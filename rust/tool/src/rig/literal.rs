@@ -145,20 +145,13 @@ fn expectation(of: ValueType) -> String {
     use ValueType::*;
     let form = match of {
         Boolean => "true, false or a number from 0 to 255".to_string(),
-        Integer8 | Integer16 | Integer32 | Integer64 => {
-            let half = 1i128 << (8 * of.size().unwrap_or(1) - 1);
-            format!("a number from {} to {}", -half, half - 1)
+        Integer8 | Integer16 | Integer32 | Integer64 | Unsigned8 | Unsigned16 | Unsigned32 => {
+            words::numbers_of(of)
         }
-        Unsigned8 | Unsigned16 | Unsigned32 => {
-            let most = (1u64 << (8 * of.size().unwrap_or(1))) - 1;
-            format!("a number from 0 to {most}")
-        }
-        Unsigned64 => {
-            let most = u64::MAX;
-            format!(
-                "a number from 0 to {most}, a mapping (6000h/0 at 0 length 2) or a mapping word (0010 0000 0000 6000h)"
-            )
-        }
+        Unsigned64 => format!(
+            "{}, a mapping (6000h/0 at 0 length 2) or a mapping word (0010 0000 0000 6000h)",
+            words::numbers_of(of)
+        ),
         Real32 | Real64 => "a decimal number in its range, or its bits as 3F800000h".to_string(),
         VisibleString | UnicodeString => "text in double quotes".to_string(),
         OctetString | Domain => "bytes in brackets, as in [C4 09] or [00 * 32]".to_string(),

@@ -8,6 +8,7 @@ pub mod numbers;
 mod object;
 mod parser;
 mod problem;
+mod range;
 mod types;
 
 #[cfg(test)]
@@ -19,7 +20,8 @@ use std::collections::BTreeMap;
 pub use lexer::hex_bytes;
 pub use parser::parse;
 pub use problem::Problem;
-pub use types::{is_unsigned, Kind};
+pub use range::Range;
+pub use types::{bounds, is_unsigned, Kind};
 
 /// The version of the form that is read.
 pub const FORM: u64 = 1;
@@ -47,6 +49,7 @@ pub struct Object {
     /// A Variable's one value, or a list's elements from 1 on.
     pub values: Vec<Value>,
     pub default: Option<Value>,
+    pub range: Option<Range>,
     /// Where the file describes it.
     pub line: usize,
     pub column: usize,
@@ -118,6 +121,13 @@ impl Value {
     /// The number of an Unsigned type's value.
     pub fn unsigned(&self) -> Option<u64> {
         Some(little_endian(&self.bytes)).filter(|_| is_unsigned(self.of))
+    }
+
+    /// The number that an integer type's value means.
+    pub fn integer(&self) -> Option<i128> {
+        let (least, greatest) = bounds(self.of)?;
+        let number = i128::from(little_endian(&self.bytes));
+        Some(if number > greatest { number - (greatest - least + 1) } else { number })
     }
 }
 

@@ -4,13 +4,14 @@ use super::cursor::Cursor;
 use super::element::{default_value, Parts};
 use super::lexer::Token;
 use super::problem::Problem;
+use super::range;
 use super::types::{access_of_name, Kind};
 use super::{Object, Value, MOST_NAME};
 use crate::words;
 use loomfinch::AccessType;
 
-/// An object's line behind its index.
-pub fn object(cursor: &mut Cursor) -> Result<Object, Problem> {
+/// An object's line behind its index, with the range that it says.
+pub fn object(cursor: &mut Cursor) -> Result<(Object, Option<range::Said>), Problem> {
     let (line, column) = cursor.start();
     let token = cursor.next();
     let kind = match &token {
@@ -21,6 +22,7 @@ pub fn object(cursor: &mut Cursor) -> Result<Object, Problem> {
     let mut name: Option<String> = None;
     let mut access: Option<AccessType> = None;
     let mut default: Option<Value> = None;
+    let mut range: Option<range::Said> = None;
     let mut parts = Parts::default();
     while let Some(token) = cursor.peek().cloned() {
         if let Token::Text(text) = token {
@@ -31,6 +33,8 @@ pub fn object(cursor: &mut Cursor) -> Result<Object, Problem> {
             set(&mut access, found, cursor, "access")?;
         } else if cursor.skip_word("default") {
             set(&mut default, default_value(cursor, parts.value_type())?, cursor, "default")?;
+        } else if cursor.skip_word("range") {
+            set(&mut range, range::said(cursor)?, cursor, "range")?;
         } else if !parts.take(cursor)? {
             return Err(cursor.expected_next(object_parts(kind)));
         } else if kind != Kind::Variable {
@@ -43,13 +47,13 @@ pub fn object(cursor: &mut Cursor) -> Result<Object, Problem> {
     }
     let values = if kind == Kind::Variable { vec![parts.finish(cursor)?] } else { Vec::new() };
     let name = name.unwrap_or_default();
-    Ok(Object { kind, access, name, values, default, line, column })
+    Ok((Object { kind, access, name, values, default, range: None, line, column }, range))
 }
 
 fn object_parts(kind: Kind) -> &'static str {
     match kind {
-        Kind::Variable => "a type, a \"name\", an access, '=', 'room', 'ms' or 'default'",
-        Kind::Array | Kind::Record => "a \"name\", an access or 'default'",
+        Kind::Variable => "a type, a \"name\", an access, '=', 'room', 'ms', 'default' or 'range'",
+        Kind::Array | Kind::Record => "a \"name\", an access, 'default' or 'range'",
     }
 }
 

@@ -5,6 +5,7 @@ use super::lexer::Token;
 use super::numbers;
 use super::object;
 use super::problem::Problem;
+use super::range;
 use super::types::Kind;
 use super::{Object, Rig, Value, FORM, MANAGING_NODE};
 use super::{MOST_BYTES, MOST_ELEMENTS, MOST_OBJECTS, MOST_VALUES};
@@ -64,7 +65,7 @@ struct Reader {
 enum Open {
     #[default]
     Nothing,
-    Object(u16, Object),
+    Object(u16, Box<Object>, Option<range::Said>),
     /// Its own line was wrong: its elements are read, and kept nowhere.
     Broken,
 }
@@ -140,7 +141,7 @@ impl Reader {
     /// Is the object above one that has elements?
     fn has_elements(&self) -> bool {
         match &self.open {
-            Open::Object(_, object) => object.is_list(),
+            Open::Object(_, object, _) => object.is_list(),
             Open::Broken => true,
             Open::Nothing => false,
         }
@@ -156,16 +157,16 @@ impl Reader {
             cursor.problem(text)
         });
         self.problems.extend(again);
-        let object = object::object(cursor)?;
+        let (object, range) = object::object(cursor)?;
         if earlier.is_none() {
-            self.open = Open::Object(index, object);
+            self.open = Open::Object(index, Box::new(object), range);
         }
         Ok(())
     }
 
     fn element(&mut self, cursor: &mut Cursor, from: usize, to: usize) -> Result<(), Problem> {
         let misplaced = match &self.open {
-            Open::Object(_, object) if object.is_list() => None,
+            Open::Object(_, object, _) if object.is_list() => None,
             Open::Object(..) => Some("expected a new object: a Variable has no elements"),
             Open::Nothing => Some("expected an object, as in 1600h Array, before its elements"),
             Open::Broken => return object::element(cursor).map(|_| ()),
@@ -175,14 +176,14 @@ impl Reader {
             return Err(cursor.problem(text));
         }
         let count = match &self.open {
-            Open::Object(_, object) => object.values.len(),
+            Open::Object(_, object, _) => object.values.len(),
             _ => 0,
         };
         let misnumbered = misnumbered(count + 1, from, to).map(|text| cursor.problem(text));
         let rising = from <= to && to <= MOST_ELEMENTS;
         self.problems.extend(misnumbered);
         let value = object::element(cursor);
-        if let Open::Object(_, object) = &mut self.open {
+        if let Open::Object(_, object, _) = &mut self.open {
             // What stands in for an element that is wrong is never used: the file is refused.
             let stand_in = || Value::empty();
             let last = if rising { to } else { count + 1 };
@@ -194,7 +195,7 @@ impl Reader {
     /// Counts an element whose line is wrong, so that the next one's number is not.
     fn stand_in(&mut self, number: usize) {
         match &mut self.open {
-            Open::Object(_, object) if object.values.len() + 1 == number => {
+            Open::Object(_, object, _) if object.values.len() + 1 == number => {
                 object.values.push(Value::empty());
             }
             _ => (),
@@ -208,10 +209,14 @@ impl Reader {
     }
 
     fn finish_object(&mut self) {
-        let (index, object) = match std::mem::take(&mut self.open) {
-            Open::Object(index, object) => (index, object),
+        let (index, mut object, range) = match std::mem::take(&mut self.open) {
+            Open::Object(index, object, range) => (index, object, range),
             Open::Nothing | Open::Broken => return,
         };
+        // What stands in for an element that is wrong has no type that a range could take.
+        if self.problems.iter().all(|problem| problem.line < Some(object.line)) {
+            self.problems.extend(range.and_then(|range| range.settle(&mut object).err()));
+        }
         let before = [self.rig.objects.len(), self.values, self.bytes];
         self.values += object.value_count();
         self.bytes += object.weight();
@@ -230,7 +235,7 @@ impl Reader {
                 self.problems.push(object.problem(text));
             }
         }
-        self.rig.objects.insert(index, object);
+        self.rig.objects.insert(index, *object);
     }
 }
 

@@ -100,7 +100,7 @@ fn errors_name_the_line_and_what_was_expected() {
         ("6000h", "expected Variable, Array or Record, found the end of the line"),
         ("6000h Varible", "expected Variable, Array or Record, found 'Varible'"),
         ("6000h Variable", "expected a type, such as Unsigned16"),
-        ("6000h Variable U16 rww", "expected a type, a \"name\", an access, '=', 'room', 'ms' or 'default', found 'rww'"),
+        ("6000h Variable U16 rww", "expected a type, a \"name\", an access, '=', 'room', 'ms', 'default' or 'range', found 'rww'"),
         ("6000h Variable U16 U8", "expected one type, found a second"),
         ("6000h Variable U16 = 1 = 2", "expected one value, found a second"),
         ("6000h Variable U16 \"a\" \"b\"", "expected one name, found a second"),

@@ -26,6 +26,16 @@ pub fn is_unsigned(of: ValueType) -> bool {
     matches!(of, Unsigned8 | Unsigned16 | Unsigned32 | Unsigned64)
 }
 
+/// The least and the greatest number of an integer type; none of another type.
+pub fn bounds(of: ValueType) -> Option<(i128, i128)> {
+    use ValueType::*;
+    let count = 1i128 << (8 * of.size()?.min(8));
+    match of {
+        Integer8 | Integer16 | Integer32 | Integer64 => Some((-count / 2, count / 2 - 1)),
+        _ => Some((0, count - 1)).filter(|_| is_unsigned(of)),
+    }
+}
+
 /// The access of a long name (ReadWriteStore) or of DS 301's short one (rws).
 pub fn access_of_name(name: &str) -> Option<AccessType> {
     match plain(name).as_str() {
