@@ -21,6 +21,8 @@ pub enum Kind {
     OwnRecord,
     /// The target is ReadOnly or Constant.
     ReadOnlyTarget,
+    /// The field can hold numbers outside the target's range.
+    RangedTarget,
     /// The target is 1010h or 1011h, where a write saves or restores.
     StoreTarget,
     NoChannel,
@@ -165,6 +167,10 @@ fn of_target(rig: &Rig, channel: u8, element: u8, (index, sub_index): (u16, u8))
         }
         _ => (),
     }
+    if let Some(range) = passable_range(rig, (index, sub_index)) {
+        let text = format!("whose range is {range}: payloads are stored outside it all the same");
+        note(Kind::RangedTarget, text);
+    }
     let command = match index {
         0x1010 => "saved",
         0x1011 => "restored",
@@ -175,6 +181,18 @@ fn of_target(rig: &Rig, channel: u8, element: u8, (index, sub_index): (u16, u8))
         format!("which takes a plain value from a payload: nothing is {command}"),
     );
     notes
+}
+
+/// The range that a target's numbers are held against in writing, where its field can hold others.
+fn passable_range(rig: &Rig, (index, sub_index): (u16, u8)) -> Option<String> {
+    let (range, value) = match rig.place(index, sub_index) {
+        Place::Value(object, value) => (object.range?, value),
+        _ => return None,
+    };
+    let [least, greatest] =
+        [range.least, range.greatest].map(|end| words::amount(end, value.milliseconds));
+    let passable = range.of == value.of && range.can_be_passed();
+    Some(format!("{least} to {greatest}")).filter(|_| passable)
 }
 
 /// The first element before this one whose field shares bytes with its own.

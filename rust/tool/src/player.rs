@@ -25,6 +25,30 @@ pub struct Player<'a> {
     asked: BTreeSet<u8>,
     /// Was a frame told?
     told: bool,
+    passed: Passed,
+}
+
+/// The frames that left a value outside its range.
+#[derive(Default)]
+struct Passed {
+    frames: u64,
+    /// The number of the first one's packet, and what is to be said of it.
+    first: Option<(u64, String)>,
+}
+
+impl Passed {
+    fn count(&mut self, packet: u64, told: &Told) {
+        if let Some(text) = told.passed.first() {
+            self.frames += 1;
+            self.first.get_or_insert_with(|| (packet, text.clone()));
+        }
+    }
+
+    fn note(&self) -> Option<String> {
+        let (packet, text) = self.first.as_ref()?;
+        let frames = words::counted(self.frames as usize, "frame");
+        Some(format!("{frames} left a value outside its range, first No. {packet}: {text}"))
+    }
 }
 
 /// A poll frame as it is told.
@@ -56,7 +80,8 @@ pub struct When {
 impl<'a> Player<'a> {
     pub fn new(options: &'a Replay, console: &'a mut Console, requests: Requests) -> Player<'a> {
         let (table, first, asked) = (Table::default(), None, BTreeSet::new());
-        Player { options, console, table, requests, first, asked, told: false }
+        let passed = Passed::default();
+        Player { options, console, table, requests, first, asked, told: false, passed }
     }
 
     pub fn packet(&mut self, packet: &Packet, out: &mut dyn Write) -> io::Result<()> {
@@ -112,6 +137,7 @@ impl<'a> Player<'a> {
         let received = Received { sender, version, ready, payload };
         let told = give(self.console, received, self.options.style);
         self.table.told(sender, packet.number, ready, &told);
+        self.passed.count(packet.number, &told);
         self.tell(packet, &Head { request, sender: Some(sender), poll: Some(poll) }, &told, out)
     }
 
@@ -178,8 +204,10 @@ impl<'a> Player<'a> {
             0 => "an interrupt ended the capture before its first packet".to_string(),
             packet => format!("an interrupt ended the capture after packet {packet}"),
         });
-        let notes: Vec<String> =
-            self.requests.note(&self.asked).into_iter().chain(interrupted).collect();
+        let notes: Vec<String> = [self.passed.note(), self.requests.note(&self.asked), interrupted]
+            .into_iter()
+            .flatten()
+            .collect();
         if self.options.json {
             let json = replay_json::table(&self.table, self.console, &notes);
             writeln!(out, "{}", json.on_one_line())?;

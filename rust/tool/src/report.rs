@@ -8,6 +8,7 @@ use crate::rig::{Rig, Value};
 use crate::trouble::{Incident, Trouble};
 use crate::words::{self, named_place, Style};
 use loomfinch::{Cause, Target, ValueType};
+use std::cmp::Ordering;
 
 /// A payload's story, and what of it a table counts.
 #[derive(Default)]
@@ -21,6 +22,8 @@ pub struct Told {
     pub taken: bool,
     /// What went wrong, in order.
     pub troubles: Vec<Incident>,
+    /// The values that lie outside their range, in words, in order.
+    pub passed: Vec<String>,
 }
 
 /// A line of the story.
@@ -135,6 +138,7 @@ impl Teller<'_> {
                 self.told.written += 1;
                 self.written(&at, change, later);
                 self.cut(&at, step, change);
+                self.passed(change);
             }
             Outcome::PassedOver => {
                 let why = reasons::passed_over(&step.element);
@@ -225,6 +229,32 @@ impl Teller<'_> {
         self.told.line(vec![(change.index, change.sub_index)], format!("  CUT: {why}"));
         let text = format!("{at}: {why}");
         self.told.troubles.push(Incident::of_element(Trouble::Cut, step.element.number, text));
+    }
+
+    /// Tells of a value that a write of it would be refused for.
+    fn passed(&mut self, change: &Change) {
+        let (index, value) = (change.index, &change.after);
+        let range = self.rig.objects.get(&index).and_then(|object| object.range);
+        let (range, number) = match range.zip(value.integer()) {
+            Some(found) => found,
+            None => return,
+        };
+        let (side, end) = match range.side(value) {
+            Ordering::Less => ("below", range.least),
+            Ordering::Greater => ("above", range.greatest),
+            Ordering::Equal => return,
+        };
+        let milliseconds = words::is_time(value, self.style);
+        let text = format!(
+            "{} is {side} the range of {}, {}: consuming ignores ranges, the drive is the master",
+            words::amount(number, milliseconds),
+            words::place(index, change.sub_index),
+            words::amount(end, milliseconds)
+        );
+        let (places, same) = (vec![(index, change.sub_index)], change.before.bytes == value.bytes);
+        let line = format!("  note: {text}");
+        self.told.lines.push(Line { places, changed: false, same, text: line });
+        self.told.passed.push(text);
     }
 
     /// Tells which nodes an error object has noted newly.

@@ -217,6 +217,7 @@ fn the_document_shows_what_is_printed() {
         "$ loomfinch check",
         "$ loomfinch consume",
         "$ loomfinch consume rigs/captions.rig",
+        "$ loomfinch consume rigs/limits.rig",
         "$ loomfinch pair",
     ] {
         let lines = sample("TOOL.md", command);
