@@ -3,7 +3,7 @@
 
 use super::objects::{self, rising};
 use crate::dictionary::model::image::Record;
-use crate::dictionary::model::layout::*;
+use crate::dictionary::model::layout::{self, *};
 use crate::original::{KINDS, UNICODE_STRING, size};
 use crate::random::Random;
 
@@ -52,7 +52,7 @@ pub fn dictionary(random: &mut Random, most_words: usize) -> Vec<Object> {
 }
 
 fn bare(index: u16, shape: u64, values: Vec<Value>) -> Object {
-    Object { index: index.into(), shape, access: NO_ACCESS, name: vec![], values, default: None }
+    layout::bare(index.into(), shape, values)
 }
 
 /// The first, the last, or any.

@@ -39,14 +39,7 @@ pub fn mapping(random: &mut Random, most: usize) -> Object {
     let any = random.word() as u16;
     let index =
         random.pick(&[0x1600, 0x16FF, 0x1A00, 0x1AFF, 0x1600 | any & 0xFF, 0x1A00 | any & 0xFF]);
-    Object {
-        index: index.into(),
-        shape,
-        access: access(random),
-        name: vec![],
-        values,
-        default: None,
-    }
+    Object { access: access(random), ..bare(index.into(), shape, values) }
 }
 
 /// Most times one that neither forbids writing nor is stored.
@@ -84,5 +77,5 @@ pub fn limits(random: &mut Random, mappings: &[Object]) -> Object {
         }
     });
     let values = values.collect();
-    Object { index: LIMITS, shape, access: access(random), name: vec![], values, default: None }
+    Object { access: access(random), ..bare(LIMITS, shape, values) }
 }

@@ -174,8 +174,7 @@ pub fn using(random: &mut Random, used: Used) -> Vec<Object> {
 }
 
 fn empty_list(row: u64) -> Object {
-    let index = 0x1000 + 3 * row;
-    Object { index, shape: 1 + row % 2, access: 7, name: vec![], values: vec![], default: None }
+    bare(0x1000 + 3 * row, 1 + row % 2, vec![])
 }
 
 /// Takes up to so many bytes more: in a room, or in the name where there is no value.

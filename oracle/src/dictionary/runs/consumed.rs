@@ -259,7 +259,7 @@ fn many_events(random: &mut Random) -> History {
 }
 
 fn list(index: u64, values: Vec<Value>) -> Object {
-    Object { index, shape: ARRAY, access: NO_ACCESS, name: vec![], values, default: None }
+    bare(index, ARRAY, values)
 }
 
 /// Records at all 256 channels, of which several have the same node, and the largest dictionary

@@ -81,14 +81,7 @@ fn small(random: &mut Random, sizes: Sizes) -> History {
 /// A list of nodes that are all configured, into just enough bytes, more and fewer.
 fn all_nodes(elements: usize) -> History {
     let node = Value::new(objects::UNSIGNED32, 0, &[1, 0, 0, 0]);
-    let list = Object {
-        index: objects::CONFIGURED_NODES.into(),
-        shape: ARRAY,
-        access: NO_ACCESS,
-        name: Vec::new(),
-        values: vec![node; elements],
-        default: None,
-    };
+    let list = bare(objects::CONFIGURED_NODES.into(), ARRAY, vec![node; elements]);
     let mut steps = vec![call(Call::New), insert(Insertion::of(&list))];
     for lent in [0, 1, elements - 1, elements, elements + 1, 300] {
         steps.push(call(Call::GetConfiguredCns(lent)));

@@ -51,7 +51,7 @@ fn small(random: &mut Random) -> Vec<Object> {
         }
         let default = default.map(|kind| objects::default_of(random, kind, 8));
         let access = random.word() % (NO_ACCESS + 1);
-        Object { index, shape, access, name: b"n".to_vec(), values, default }
+        Object { access, name: b"n".to_vec(), default, ..bare(index, shape, values) }
     };
     vec![
         object(0x0FFF, VARIABLE, &[6], Some(7)),

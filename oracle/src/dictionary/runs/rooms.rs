@@ -32,7 +32,7 @@ pub fn compare(trial: &mut Trial, random: &mut Random) {
 }
 
 fn object(index: u64, shape: u64, values: Vec<Value>, default: Option<Value>) -> Object {
-    Object { index, shape, access: 4, name: vec![], values, default }
+    Object { access: 4, default, ..bare(index, shape, values) }
 }
 
 /// The records of all values, whatever the access.

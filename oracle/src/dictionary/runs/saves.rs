@@ -87,14 +87,7 @@ fn in_lists(random: &mut Random, values: Vec<Value>) -> Vec<Object> {
         let (values, behind) = rest.split_at(count.min(rest.len()));
         rest = behind;
         let (shape, access) = (random.pick(&[ARRAY, LAST_SHAPE]), random.pick(&[2, 4]));
-        objects.push(Object {
-            index,
-            shape,
-            access,
-            name: vec![],
-            values: values.to_vec(),
-            default: None,
-        });
+        objects.push(Object { access, ..bare(index, shape, values.to_vec()) });
         index += random.pick(&[1, 7, 0x500, 0x1000]);
     }
     objects

@@ -74,9 +74,9 @@ fn rich(random: &mut Random) -> [Object; 3] {
     let name = text(random, 9);
     let default = Some(Value::new(VISIBLE_STRING, 4, b"text"));
     [
-        Object { index, shape: LAST_SHAPE, access: 3, name: name.clone(), values, default },
-        Object { index: 0x1FFF, shape: VARIABLE, access: 0, name, values: variable, default: None },
-        Object { index: 0, shape: ARRAY, access: 7, name: vec![], values: vec![], default: None },
+        Object { access: 3, name: name.clone(), default, ..bare(index, LAST_SHAPE, values) },
+        Object { access: 0, name, ..bare(0x1FFF, VARIABLE, variable) },
+        bare(0, ARRAY, vec![]),
     ]
 }
 

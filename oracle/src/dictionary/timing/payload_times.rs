@@ -69,7 +69,7 @@ fn rows(
 }
 
 fn list(index: u64, values: Vec<Value>) -> Object {
-    Object { index, shape: LAST_SHAPE, access: NO_ACCESS, name: vec![], values, default: None }
+    bare(index, LAST_SHAPE, values)
 }
 
 /// So many objects of four numbers each around the channel; records beyond the first come on top,
