@@ -26,6 +26,7 @@ static int start_side;
 // `events`.
 struct call {
     u64 op, index, sub_index, kind, access, has_default;
+    u64 low_type, low, high_type, high;
     u64 name, vals, encodings, numbers, out, events;
     u64 memory[];
 };
@@ -43,8 +44,9 @@ static u64 answer(const struct call *c) {
     case NEW:
         return loomfinch_new(WORDS(slices[0]));
     case INSERT:
-        return loomfinch_insert(DICTIONARY, index, c->kind, c->access, c->has_default, BYTES(name),
-                                WORDS(vals), BYTES(encodings));
+        return loomfinch_insert(DICTIONARY, index, c->kind, c->access, c->has_default, c->low_type,
+                                c->low, c->high_type, c->high, BYTES(name), WORDS(vals),
+                                BYTES(encodings));
     case READ:
         return loomfinch_read(DICTIONARY, index, sub_index, WORDS(numbers));
     case READ_U8:

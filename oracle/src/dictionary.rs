@@ -11,7 +11,7 @@ mod timing;
 use crate::port::Port;
 use crate::random::Random;
 use runs::{
-    bounds, consumed, demand, faults, goals, halves, histories, images, malice, no_values,
+    bounds, consumed, demand, faults, goals, halves, histories, images, malice, no_values, ranged,
     restored, rooms, saves, trial, written,
 };
 
@@ -29,6 +29,7 @@ pub fn compare(port: &mut Port, random: &mut Random) -> (u64, u64) {
     halves::compare(&mut trial, random);
     malice::compare(&mut trial, random);
     no_values::compare(&mut trial, random);
+    ranged::compare(&mut trial, random);
     trial.demand(goals::lacking);
     trial.finish("the dictionary's answers")
 }

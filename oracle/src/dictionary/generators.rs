@@ -11,6 +11,7 @@ pub mod literals;
 pub mod mappings;
 pub mod objects;
 pub mod payloads;
+pub mod ranges;
 pub mod restores;
 pub mod spoil;
 pub mod writes;

@@ -153,8 +153,9 @@ fn calling(call: &Call) -> Vec<u64> {
     };
     let (command, index, sub_index) = place(call);
     let (numbers, out) = call.results();
-    let Insertion { shape, access, has_default, .. } = given;
+    let Insertion { shape, access, has_default, ends, .. } = given;
     let mut words = vec![command, index, sub_index, shape, access, has_default];
+    words.extend(ends);
     let lengths = [given.name.len(), given.numbers.len(), given.encodings.len(), numbers, out];
     words.extend(lengths.map(|length| length as u64));
     words.push(call.event_room() as u64);

@@ -13,6 +13,8 @@ pub mod layout;
 pub mod malformed;
 pub mod memory;
 pub mod node;
+pub mod range;
+pub mod ranged;
 pub mod restoring;
 pub mod running;
 pub mod rust;

@@ -12,6 +12,7 @@ pub mod histories;
 pub mod images;
 pub mod malice;
 pub mod no_values;
+pub mod ranged;
 pub mod restored;
 pub mod rooms;
 pub mod saves;

@@ -64,6 +64,7 @@ pub fn object(random: &mut Random, pool: &Pool, sizes: Sizes) -> Object {
         name: pool.name(random),
         values: (0..elements).map(|_| element(random, sizes.longest, nodes)).collect(),
         default: (random.below(3) == 0).then(|| default(random, sizes.longest)),
+        range: Range::NONE,
     }
 }
 

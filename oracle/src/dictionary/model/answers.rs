@@ -22,6 +22,7 @@ pub fn answer_name(answer: u64) -> &'static str {
         17 => "Full",
         18 => "StoreFull",
         19 => "RestoreRequested",
+        21 => "OutOfRange",
         31 => "NoSender",
         32 => "NoList",
         33 => "NotMapping",

@@ -2,6 +2,7 @@
 
 use super::layout::*;
 use super::memory::Memory;
+use super::range::Range;
 
 /// The arguments as the C call takes them: three numbers a value, all
 /// encodings back to back, the default last.
@@ -11,6 +12,8 @@ pub struct Insertion {
     pub shape: u64,
     pub access: u64,
     pub has_default: u64,
+    /// The range's lower end, its type first, then the upper one.
+    pub ends: [u64; 4],
     pub name: Vec<u8>,
     pub numbers: Vec<u64>,
     pub encodings: Vec<u8>,
@@ -23,6 +26,7 @@ impl Insertion {
             shape: object.shape,
             access: object.access,
             has_default: object.default.is_some().into(),
+            ends: object.range.ends(),
             name: object.name.clone(),
             ..Self::default()
         };
@@ -50,8 +54,9 @@ impl Insertion {
         require(elements <= MOST_ELEMENTS, "elements")?;
         let mut values = self.values(elements)?;
         let default = values.split_off(elements).pop();
+        let range = Range::given(self.ends)?;
         let (shape, access, name) = (self.shape, self.access, self.name.clone());
-        Ok(Object { index: self.index.into(), shape, access, name, values, default })
+        Ok(Object { index: self.index.into(), shape, access, name, values, default, range })
     }
 
     fn values(&self, elements: usize) -> Result<Vec<Value>, &'static str> {

@@ -2,6 +2,7 @@
 //! slices, and what an insertion is given. Written from the rules alone.
 
 use super::memory::{Memory, ROW, SLOT};
+pub use super::range::Range;
 use crate::original::{UNICODE_STRING, VISIBLE_STRING, size};
 
 pub const MOST_OBJECTS: usize = 1024;
@@ -38,6 +39,7 @@ pub struct Object {
     pub name: Vec<u8>,
     pub values: Vec<Value>,
     pub default: Option<Value>,
+    pub range: Range,
 }
 
 /// How much of each slice is used.
@@ -88,9 +90,10 @@ impl Object {
     }
 }
 
-/// Without a name, an access or a default.
+/// Without a name, an access, a default or a range.
 pub fn bare(index: u64, shape: u64, values: Vec<Value>) -> Object {
-    Object { index, shape, access: NO_ACCESS, name: Vec::new(), values, default: None }
+    let (access, range) = (NO_ACCESS, Range::NONE);
+    Object { index, shape, access, name: Vec::new(), values, default: None, range }
 }
 
 impl Used {
@@ -128,6 +131,10 @@ pub fn lay(objects: &[Object], memory: &mut Memory) {
             at.bytes as u64,
             object.name.len() as u64,
             object.default.is_some().into(),
+            0,
+            object.range.kind,
+            object.range.low,
+            object.range.high,
         ];
         lay_row(memory, 1 + at.objects, &row);
         memory.bytes[at.bytes..][..object.name.len()].copy_from_slice(&object.name);
@@ -166,7 +173,8 @@ fn object_at(memory: &Memory, row: &[u64]) -> Object {
     let mut values: Vec<Value> = values.collect();
     let default = values.split_off(elements).pop();
     let name = memory.bytes[column(5)..][..column(6)].to_vec();
-    Object { index: row[0], shape: row[1], access: row[2], name, values, default }
+    let range = Range { kind: row[9], low: row[10], high: row[11] };
+    Object { index: row[0], shape: row[1], access: row[2], name, values, default, range }
 }
 
 fn value_at(memory: &Memory, place: usize) -> Value {

@@ -62,7 +62,22 @@ fn columns(row: &[u64]) -> Verdict {
     require(row[3] <= 254, "254 elements")?;
     require(row[6] <= 32, "name's length")?;
     require(row[7] <= 1, "default's mark")?;
-    require(row[8..].iter().all(|word| *word == 0), "row's zeros")
+    require(row[8] == 0, "row's zero")?;
+    range(row[9], [row[10], row[11]])
+}
+
+/// The type of an object's range, 0 for none, and its ends. Each is moved to the top of 64 bits, where
+/// a signed number's sign is theirs.
+fn range(kind: u64, ends: [u64; 2]) -> Verdict {
+    require(kind <= 8, "range's type")?;
+    if kind == 0 {
+        return require(ends == [0, 0], "ends of no range");
+    }
+    let bits = 8 * size(kind).expect("an integer has a size");
+    require(ends.iter().all(|end| bits == 64 || end >> bits == 0), "range's end over its size")?;
+    let [low, high] = ends.map(|end| end << (64 - bits));
+    let rising = if kind <= 4 { low as i64 <= high as i64 } else { low <= high };
+    require(rising, "range's order")
 }
 
 /// An object's first slot is the number of values of all objects before it.

@@ -40,6 +40,7 @@ impl Dictionary {
             self.objects.iter().for_each(|object| self.rust.insert(object));
             return Err((TOO_LONG, seen.too_long()));
         };
+        self.retyped.extend(retyped(&self.objects, &restored));
         self.objects = restored;
         layout::lay(&self.objects, memory);
         assert!(self.all_equal(), "the model has the Rust's values after a restore");
@@ -58,6 +59,14 @@ impl Dictionary {
         }
         Some(restored)
     }
+}
+
+/// The values whose types differ, by index and place.
+fn retyped(before: &[Object], after: &[Object]) -> impl Iterator<Item = (u64, usize)> {
+    before.iter().zip(after).flat_map(|(before, after)| {
+        let both = before.values.iter().zip(&after.values).enumerate();
+        both.filter(|(_, (old, new))| old.kind != new.kind).map(|(place, _)| (before.index, place))
+    })
 }
 
 fn sub_index(object: &Object, place: usize) -> u8 {

@@ -5,9 +5,11 @@ use super::insertion::Insertion;
 use super::layout::{self, LONGEST_NAME, Object, is_text};
 use super::malformed;
 use super::memory::Memory;
+use super::range::Range;
 use super::rust::Rust;
 use super::step::Width;
 use crate::original::{BAD_VALUE, BUFFER_TOO_SHORT};
+use std::collections::BTreeSet;
 
 const OCCUPIED: u64 = 16;
 const FULL: u64 = 17;
@@ -18,6 +20,8 @@ const FEW: usize = 40;
 pub struct Dictionary {
     pub objects: Vec<Object>,
     pub rust: Rust,
+    /// Indices and places of values whose types a restore changed.
+    pub retyped: BTreeSet<(u64, usize)>,
 }
 
 /// A refusal's number, and which part of its rule gave it.
@@ -49,10 +53,22 @@ impl Done {
 }
 
 impl Dictionary {
+    pub fn new(objects: Vec<Object>, rust: Rust) -> Self {
+        Self { objects, rust, retyped: BTreeSet::new() }
+    }
+
     /// The Rust has no refusal here: it replaces an object, and has no bounds.
-    /// So it is given just what document 01 lets in, each index once.
-    pub fn insert(&mut self, given: &Insertion, memory: &mut Memory) -> Result<Done, Refused> {
-        let object = given.object().map_err(|rule| (BAD_VALUE, Some(rule)))?;
+    /// So it is given just what document 01 lets in, each index once, and without its range.
+    pub fn insert(
+        &mut self,
+        given: &Insertion,
+        memory: &mut Memory,
+        notes: &mut Vec<&'static str>,
+    ) -> Result<Done, Refused> {
+        let object = given.object().map_err(|rule| {
+            notes.extend(self.besides_ends(given, memory));
+            (BAD_VALUE, Some(rule))
+        })?;
         let row = self.objects.partition_point(|other| other.index < object.index);
         if self.objects.get(row).is_some_and(|other| other.index == object.index) {
             return Err(refused(OCCUPIED));
@@ -71,6 +87,15 @@ impl Dictionary {
         layout::lay(&self.objects, memory);
         self.check(memory);
         Ok(Done::because(place))
+    }
+
+    /// What comes behind BadValue, where only the ends of the range are wrong and it holds too.
+    fn besides_ends(&self, given: &Insertion, memory: &Memory) -> Option<&'static str> {
+        let object = Insertion { ends: Range::NONE.ends(), ..given.clone() }.object().ok()?;
+        if self.objects.iter().any(|other| other.index == object.index) {
+            return Some("wrong ends where the index is taken");
+        }
+        Insertion::full(&object, &self.objects, memory).map(|_| "wrong ends where no room is left")
     }
 
     /// The two readings of the rules that this program has must agree.

@@ -6,6 +6,7 @@ use super::explained::Named;
 use super::layout;
 use super::malformed;
 use super::memory::{Lent, Memory, ROW};
+use super::ranged::{LEFT_OUTSIDE, Outside};
 use super::rust::Rust;
 use super::sound::{Dictionary, Done, Refused};
 use super::step::{Call, Outcome, Step};
@@ -74,6 +75,7 @@ impl World {
             events: (0..call.event_room()).map(number_fill).collect(),
         };
         let mut notes = Vec::new();
+        let outside = self.outside();
         let cause = match self.done(call, &mut notes) {
             Ok(done) => {
                 outcome.answer = done.answer;
@@ -87,6 +89,10 @@ impl World {
                 cause
             }
         };
+        if self.outside_besides(outside) {
+            assert!(!matches!(call, Call::Write(_)), "no write puts a value outside its range");
+            notes.push(LEFT_OUTSIDE);
+        }
         self.named.follow(call, &outcome, &mut notes);
         self.between.follow(call, &outcome, &mut notes);
         Wanted { outcome, cause, notes }
@@ -100,7 +106,7 @@ impl World {
         let dictionary = judged(memory, known)?;
         match call {
             Call::New => unreachable!("new judges no dictionary"),
-            Call::Insert(given) => dictionary.insert(given, memory),
+            Call::Insert(given) => dictionary.insert(given, memory, notes),
             Call::Read { index, sub_index, numbers } => {
                 dictionary.read(memory, *index, *sub_index, *numbers)
             }
@@ -139,9 +145,22 @@ impl World {
         }
         layout::lay(&[], &mut self.memory);
         let rust = Rust::of(&[], has_store(&self.memory));
-        let empty = Dictionary { objects: Vec::new(), rust };
-        self.known = Known::Sound(Box::new(empty));
+        self.known = Known::Sound(Box::new(Dictionary::new(Vec::new(), rust)));
         Ok(Done::default())
+    }
+
+    /// The values that lie outside their ranges; none where memory is not known to be a dictionary.
+    fn outside(&self) -> Option<Vec<Outside>> {
+        match &self.known {
+            Known::Sound(dictionary) => Some(dictionary.outside()),
+            _ => None,
+        }
+    }
+
+    /// Whether one lies there that did not before.
+    fn outside_besides(&self, before: Option<Vec<Outside>>) -> bool {
+        let (Some(before), Some(now)) = (before, self.outside()) else { return false };
+        now.iter().any(|value| !before.contains(value))
     }
 
     /// At a history's end: the model never parted from the Rust.
@@ -161,7 +180,7 @@ fn judged<'a>(memory: &Memory, known: &'a mut Known) -> Result<&'a mut Dictionar
             Ok(()) => {
                 let objects = layout::read_off(memory);
                 let rust = Rust::of(&objects, has_store(memory));
-                Known::Sound(Box::new(Dictionary { objects, rust }))
+                Known::Sound(Box::new(Dictionary::new(objects, rust)))
             }
         };
     }

@@ -1,5 +1,6 @@
 //! What `write` and the count check must give. The Rust decides; what it cannot
-//! say is document 01's: BadValue and its numbers, TooLong, StoreFull, and where bytes lie.
+//! say is document 01's: BadValue and its numbers, OutOfRange, TooLong, StoreFull, and where bytes
+//! lie.
 
 use super::causes;
 use super::image::{self, Record};
@@ -25,6 +26,9 @@ impl Dictionary {
         // The Rust has no such value, so that it is not asked.
         if let Some(rule) = no_encoding(given.kind, &given.data) {
             return Ok(self.no_value(given, rule, notes));
+        }
+        if let Some(refused) = self.out_of_range(given, notes) {
+            return Err(refused);
         }
         let written = self.rust.write(given);
         let refused = |refusal| (refusal, causes::of_refusal(&self.objects, given, refusal));

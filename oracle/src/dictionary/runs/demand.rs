@@ -10,6 +10,7 @@ use crate::dictionary::generators::calls;
 use crate::dictionary::generators::checks;
 use crate::dictionary::generators::fields;
 use crate::dictionary::generators::payloads;
+use crate::dictionary::generators::ranges;
 use crate::dictionary::generators::writes;
 use crate::dictionary::link::Given;
 use crate::dictionary::model::insertion::Insertion;
@@ -66,7 +67,11 @@ fn lacking(tally: &Tally) -> Vec<String> {
 }
 
 fn fresh(random: &mut Random) -> Case {
-    let objects = fields::dictionary(random, 4);
+    let mut objects = fields::dictionary(random, 4);
+    // The check looks at no range, and what it passes is stored also outside of one.
+    if random.below(4) == 0 {
+        ranges::give(random, &mut objects);
+    }
     Case { objects, calls: Vec::new(), channels: CHANNELS.to_vec(), seed: random.word() }
 }
 

@@ -3,6 +3,7 @@
 
 use crate::dictionary::model::answers::answer_name;
 use crate::dictionary::model::explained::{THERE, VERDICTS, verdict_name};
+use crate::dictionary::model::ranged::{ABOVE, BELOW, LEFT_OUTSIDE, NOTES as RANGES};
 use crate::dictionary::shown::tally::{Goal, Tally};
 use crate::sorts::BAD_TEXTS;
 
@@ -10,7 +11,9 @@ use crate::sorts::BAD_TEXTS;
 pub fn lacking(tally: &Tally) -> Vec<String> {
     let answers = [&INSERT[..], &WRITE, &SAVE, &COUNT, &RESTORE].concat();
     let numbers = tally.not_noted(WRITES, &["numbers for what no room holds"]);
-    [tally.missed(&answers), numbers_lacking(tally), numbers, restores_lacking(tally)].concat()
+    let ranges = ranges_lacking(tally);
+    [tally.missed(&answers), numbers_lacking(tally), numbers, restores_lacking(tally), ranges]
+        .concat()
 }
 
 /// What the stored histories with a store did not reach.
@@ -26,6 +29,18 @@ fn numbers_lacking(tally: &Tally) -> Vec<String> {
     [tally.missed(&texts), tally.not_noted(WRITES, &NUMBERS)].concat()
 }
 
+/// Of ranges, which the stored histories have none of: each way to be given wrong, to be damaged, to
+/// refuse a write and not to be asked; and each call that leaves a value outside one.
+fn ranges_lacking(tally: &Tally) -> Vec<String> {
+    let given = ENDS.map(|rule| (INSERTS, 2, Some(rule)));
+    let damaged = ROWS.map(|rule| (EVERY, 1, Some(rule)));
+    let refused = [BELOW, ABOVE].concat();
+    let refused: Vec<Goal> = refused.into_iter().map(|side| (WRITES, 21, Some(side))).collect();
+    let left = LEAVING.map(|call| tally.not_noted(call, &[LEFT_OUTSIDE])).concat();
+    let noted = [tally.not_noted(WRITES, &RANGES), tally.not_noted(INSERTS, &BESIDES)].concat();
+    [tally.missed(&given), tally.missed(&damaged), tally.missed(&refused), noted, left].concat()
+}
+
 fn restores_lacking(tally: &Tally) -> Vec<String> {
     [&IMAGES[..], &RESTORED].map(|notes| tally.not_noted(RESTORES, notes)).concat()
 }
@@ -35,6 +50,35 @@ const WRITES: &str = "write";
 const COUNTS: &str = "validate_pdo_mapping";
 const RESTORES: &str = "restore_power_on_values";
 const EXPLAINS: &str = "explain";
+
+/// Under which the causes of Malformed are counted.
+const EVERY: &str = "every call";
+
+/// The calls that look at no range when they put values.
+const LEAVING: [&str; 5] =
+    [INSERTS, RESTORES, "increment_counter", "consume_pdo_payload", "consume_cycle"];
+
+/// The ends of a range that are BadValue to an insertion.
+const ENDS: [&str; 5] = [
+    "ends' types differ",
+    "ends of no type",
+    "ends of no integer type",
+    "end over its size",
+    "ends reversed",
+];
+
+/// What holds too and must come behind that.
+const BESIDES: [&str; 2] =
+    ["wrong ends where the index is taken", "wrong ends where no room is left"];
+
+/// The range of a row that is Malformed.
+const ROWS: [&str; 5] = [
+    "row's zero",
+    "range's type",
+    "ends of no range",
+    "range's end over its size",
+    "range's order",
+];
 
 const INSERT: [Goal; 37] = [
     (INSERTS, 0, Some("the first object")),

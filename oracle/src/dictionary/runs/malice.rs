@@ -68,7 +68,7 @@ fn any_good(random: &mut Random) -> Vec<Object> {
 }
 
 /// Each cell changed by itself, several times.
-fn every_cell(trial: &mut Trial, random: &mut Random, objects: &[Object]) {
+pub fn every_cell(trial: &mut Trial, random: &mut Random, objects: &[Object]) {
     for cell in cells(objects) {
         for _ in 0..if cell.slice == BYTES { 3 } else { 8 } {
             let edits = vec![edit(random, &cell)];
@@ -95,7 +95,7 @@ fn every_length(trial: &mut Trial, random: &mut Random, objects: &[Object]) {
 }
 
 /// The objects laid, then the edits, then every call.
-fn history(random: &mut Random, objects: &[Object], edits: Vec<Step>) -> History {
+pub fn history(random: &mut Random, objects: &[Object], edits: Vec<Step>) -> History {
     let more = random.pick(&[0, 0, 0, 30]);
     let lengths = Used::of(objects).lengths().map(|length| length + more);
     let first = Lent { at_start: random.below(2) == 0, lengths, store: store(random) };

@@ -2,6 +2,7 @@
 
 use crate::dictionary::model::consuming::A_PAYLOAD;
 use crate::dictionary::model::insertion::Insertion;
+use crate::dictionary::model::range::Range;
 use crate::dictionary::model::step::{Call, Cycle, History, Step};
 use std::time::{Duration, Instant};
 
@@ -118,11 +119,12 @@ fn simpler(step: &Step, part: usize) -> Option<Step> {
     match &mut step {
         Step::Call(Call::Insert(given)) => simpler_insertion(given, part)?,
         Step::Lay(objects) => {
-            let object = objects.get_mut(part / 4)?;
-            match part % 4 {
+            let object = objects.get_mut(part / 5)?;
+            match part % 5 {
                 0 => object.name.clear(),
                 1 => object.default = None,
-                2 => object.values.truncate(object.values.len().div_ceil(2)),
+                2 => object.range = Range::NONE,
+                3 => object.values.truncate(object.values.len().div_ceil(2)),
                 _ => object.values.truncate(object.values.len().saturating_sub(1).max(1)),
             }
         }
@@ -172,6 +174,7 @@ fn simpler_insertion(given: &mut Insertion, part: usize) -> Option<()> {
             given.numbers.truncate(3 * (values - dropped));
             given.encodings.truncate(given.encodings.len().saturating_sub(bytes));
         }
+        9 => given.ends = Range::NONE.ends(),
         _ => return None,
     }
     Some(())

@@ -74,11 +74,13 @@ fn lent(Lent { at_start, lengths, store }: &Lent) -> String {
 fn object(object: &Object) -> String {
     let values: Vec<String> = object.values.iter().map(value).collect();
     let default = object.default.as_ref().map_or("none".to_string(), value);
-    let Object { index, shape, access, name, .. } = object;
+    let Object { index, shape, access, name, range, .. } = object;
     format!(
-        "{index:04X}h kind {shape} access {access} name {} values [{}] default {default}",
+        "{index:04X}h kind {shape} access {access} name {} values [{}] default {default} \
+         range (hex) {:X?}",
         text(name),
-        few(values)
+        few(values),
+        range.ends()
     )
 }
 
@@ -132,11 +134,11 @@ fn cycle(name: &str, given: &Cycle) -> String {
 }
 
 fn insertion(given: &Insertion) -> String {
-    let Insertion { index, shape, access, has_default, name, numbers, encodings } = given;
+    let Insertion { index, shape, access, has_default, ends, name, numbers, encodings } = given;
     let values = numbers.chunks(3).map(|value| format!("{value:X?}")).collect();
     format!(
-        "insert {index:04X}h kind {shape:X} access {access:X} default {has_default:X} name {} \
-         vals (hex) [{}] encodings {}",
+        "insert {index:04X}h kind {shape:X} access {access:X} default {has_default:X} \
+         range (hex) {ends:X?} name {} vals (hex) [{}] encodings {}",
         text(name),
         few(values),
         text(encodings)

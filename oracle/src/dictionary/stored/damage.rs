@@ -28,7 +28,7 @@ const RULES: [&str; 30] = [
     "254 elements",
     "name's length",
     "default's mark",
-    "row's zeros",
+    "ends of no range",
     "index order",
     "first slot",
     "values' total",

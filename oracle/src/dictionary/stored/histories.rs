@@ -76,6 +76,7 @@ fn kinds(lines: &mut Lines, random: &mut Random) {
                 name: if length == 5 { twice.clone() } else { text(random, length) },
                 values: kinds.map(|kind| objects::value_of(random, kind, 8)).collect(),
                 default: Some(objects::default_of(random, of_default, 8)),
+                range: Range::NONE,
             };
             lines.insert(&object);
         }
