@@ -1,4 +1,4 @@
-//! Consuming payloads: the mission's story (docs/RULES.md, cases 8 to 11), each event, and cycles.
+//! Consuming payloads: the mission's story (docs/FORMS.md, cases 8 to 11), each event, and cycles.
 
 use crate::rig::{channel, dictionary, maps, record, rig, text, variable, NODE, VERSION};
 use loomfinch::{
