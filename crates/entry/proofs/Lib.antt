@@ -13,3 +13,5 @@ pub mod KeepLaws
 pub mod ChangeLaws
 pub mod EncodeLaws
 pub mod PlaceLaws
+pub mod SameLaws
+pub mod BesideLaws

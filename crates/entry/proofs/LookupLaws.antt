@@ -7,7 +7,7 @@ use native.Mathlib.Nat.{add-zero}
 use native.Mathlib.Omega.{arith}
 use borrow.Author.Tests.{eqb-true, eqb-false, leb-true}
 use lib.Dec.{eqb, leb}
-use Rattle.entry.specs.Table.{Dict, listCount, modelOf, objAt, numberOf, kindAt, countAt, firstAt}
+use Rattle.entry.specs.Table.{Dict, editionOf, listCount, modelOf, objAt, numberOf, kindAt, countAt, firstAt}
 use Rattle.entry.specs.Rules.{count}
 use Rattle.entry.specs.Judge.{usedAt, wellFormed}
 use Rattle.entry.specs.Find.{findRow, subAt, onRow, placeOf, objectOf, objectIn, nth, no-sub, counts, heldAs, subOf, onObject, namedOf, namedAt}
@@ -23,9 +23,9 @@ pub lookup-object : (d : Dict) (x : ℕ) → objectIn d (findRow (d .objects) x)
 lookup-object d x = sym (found d x (numberOf (d .objects)) 0)
 
 -- the place that is found holds the value that the object has under that sub-index
-pub lookup-value : (d : Dict) → wellFormed d ≡ true → (x sub : ℕ) → namedAt d (placeOf (d .objects) x sub) ≡ namedOf x sub (modelOf d)
+pub lookup-value : (d : Dict) → wellFormed d ≡ true → (x sub : ℕ) → namedAt d (placeOf (d .objects) x sub) ≡ namedOf (editionOf (d .objects)) x sub (modelOf d)
 unfolding subAt subOf listCount
-lookup-value d e x sub = go (findRow (d .objects) x) refl ∙ ap (onObject sub) (lookup-object d x)
+lookup-value d e x sub = go (findRow (d .objects) x) refl ∙ ap (onObject (editionOf (d .objects)) sub) (lookup-object d x)
   where
     there : (i k : ℕ) → k < usedAt (d .objects) i → heldAs (nth (objAt d i .values) k) ≡ namedAt d (Value (firstAt (d .objects) i + k))
     there i k l = ap heldAs (value-there d (usedAt (d .objects) i) (firstAt (d .objects) i) k l)
@@ -44,7 +44,7 @@ lookup-value d e x sub = go (findRow (d .objects) x) refl ∙ ap (onObject sub) 
         sym (there i (sub - 1) (omega arith))
     at n i h false false false a b c = refl
 
-    go : (f : Found) → findRow (d .objects) x ≡ f → namedAt d (onRow (d .objects) sub f) ≡ onObject sub (objectIn d f)
+    go : (f : Found) → findRow (d .objects) x ≡ f → namedAt d (onRow (d .objects) sub f) ≡ onObject (editionOf (d .objects)) sub (objectIn d f)
     go (At i) q =
         let r = found-row (d .objects) x (numberOf (d .objects)) 0 i q in
         let c : count (objAt d i) ≡ countAt (d .objects) i = omega (arith, length-vals d (usedAt (d .objects) i) (firstAt (d .objects) i)) in

@@ -14,8 +14,8 @@ use lib.Dec.{eqb, leb, ltb}
 use lib.ListN.{length, take, drop, getD}
 use Rattle.value.specs.Codec.{isText, fitsType, takes, textWord}
 use Rattle.entry.specs.Model.{Obj}
-use Rattle.entry.specs.Table.{listCount, Dict, modelOf, valAt, objAt, numberOf, valuesOf, usedOf, indexAt, kindAt, countAt, firstAt, typeAt, startAt, roomAt}
-use Rattle.entry.specs.Rules.{wordOk, valOk, tight, heldOk}
+use Rattle.entry.specs.Table.{listCount, isMapping, editionOf, keptAt, Dict, modelOf, valAt, objAt, numberOf, valuesOf, usedOf, indexAt, kindAt, countAt, firstAt, typeAt, startAt, roomAt}
+use Rattle.entry.specs.Rules.{extraOk, wordOk, valOk, tight, heldOk}
 use Rattle.entry.specs.Judge.{usedAt, wellFormed}
 use Rattle.entry.specs.Find.{Rows, Elements, findRow, subAt, onRow, placeOf, objectOf, objectIn, nth}
 use Rattle.entry.specs.declared.Found.{Found}
@@ -32,10 +32,14 @@ rows-of d e =
     let h = headed d e in
     record { few = h .few; long = h .rows; firsts = λ i l. omega (arith, row-facts d e i l .values, h .values); rises = rising d e }
 
--- no more elements of a list are used than it has
+-- no more elements of a list are in use than it has
 pub list-count-le : (d : Dict) → wellFormed d ≡ true → (i : ℕ) → i < numberOf (d .objects) → listCount (d .objects) i ≤ countAt (d .objects) i
-unfolding listCount
-list-count-le d e i h = omega arith
+unfolding listCount extraOk
+list-count-le d e i h = go (eqb (editionOf (d .objects)) 2 && isMapping (indexAt (d .objects) i))
+  where
+    go : (b : Bool) → cond b (keptAt (d .objects) i) (countAt (d .objects) i) ≤ countAt (d .objects) i
+    go true = leb-true _ _ (and-true (leb (keptAt (d .objects) i) (countAt (d .objects) i)) _ (row-facts d e i h .extra) .0)
+    go false = omega arith
 
 -- where row i lies
 pub record RowLies (d : Dict) (i : ℕ) : Type 0 where

@@ -7,7 +7,7 @@ use mathlib.Core.Option.{Option, none, some}
 use lib.Dec.{eqb, leb, ltb}
 use lib.ListN.{length}
 use Rattle.entry.specs.Model.{Val, Obj}
-use Rattle.entry.specs.Table.{Dict, numberOf, rowPlace, slotPlace, indexAt, kindAt, countAt, listCount, firstAt, valAt, objAt}
+use Rattle.entry.specs.Table.{Dict, numberOf, rowPlace, slotPlace, indexAt, kindAt, countAt, inUse, listCount, firstAt, valAt, objAt}
 use Rattle.entry.specs.Rules.{count}
 use Rattle.entry.specs.declared.Found.{Found}
 use Rattle.entry.specs.declared.Found.the-variants.{At, Nothing}
@@ -23,7 +23,8 @@ findFrom objects x (suc k) i = cond (eqb (indexAt objects i) x) (At i) (findFrom
 abbrev pub findRow : List ℕ → ℕ → Found
 findRow objects x = findFrom objects x (numberOf objects) 0
 
--- R7.2: "A Variable has sub-index 0 only. A list's sub-index 0 reads its element count as U8, an empty list's too; k reads" element k
+-- R7.2: "A Variable has sub-index 0 only. A list's sub-index 0 reads as U8 how many of its elements are in use, an empty list's too; k
+-- reads" element k
 unfoldable pub subAt : List ℕ → ℕ → ℕ → Place
 subAt objects i sub =
     cond (eqb (kindAt objects i) 0)
@@ -68,25 +69,25 @@ abbrev pub heldAs : Option Val → Named
 heldAs (some v) = holds v
 heldAs none = no-sub
 
--- how many elements of a list are used
-abbrev pub usedElements : Obj → ℕ
-usedElements o = count o
+-- how many elements of a list are in use, in an edition
+abbrev pub usedElements : ℕ → Obj → ℕ
+usedElements edition o = inUse edition (o .index) (o .extra .kept) (count o)
 
 -- R7.2, of an object
-unfoldable pub subOf : Obj → ℕ → Named
-subOf o sub =
+unfoldable pub subOf : ℕ → Obj → ℕ → Named
+subOf edition o sub =
     cond (eqb (o .kind) 0)
     (cond (eqb sub 0) (heldAs (nth (o .values) 0)) no-sub)
     (cond (eqb sub 0)
-    (counts (usedElements o))
+    (counts (usedElements edition o))
     (cond (leb sub (count o)) (heldAs (nth (o .values) (sub - 1))) no-sub))
 
-abbrev pub onObject : ℕ → Option Obj → Named
-onObject sub (some o) = subOf o sub
-onObject sub none = no-object
+abbrev pub onObject : ℕ → ℕ → Option Obj → Named
+onObject edition sub (some o) = subOf edition o sub
+onObject edition sub none = no-object
 
-abbrev pub namedOf : ℕ → ℕ → List Obj → Named
-namedOf x sub os = onObject sub (objectOf x os)
+abbrev pub namedOf : ℕ → ℕ → ℕ → List Obj → Named
+namedOf edition x sub os = onObject edition sub (objectOf x os)
 
 -- what stands at a place of the table
 abbrev pub namedAt : Dict → Place → Named

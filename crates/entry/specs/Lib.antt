@@ -5,3 +5,4 @@ pub mod Judge
 pub mod Find
 pub mod Put
 pub mod Encode
+pub mod Same

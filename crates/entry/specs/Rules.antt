@@ -50,9 +50,9 @@ rangeOk t low high =
     (eqb low 0 && eqb high 0)
     (leb t 8 && (fitsType t low && (fitsType t high && ordered t low high)))
 
--- what a row has beside that, where it has n elements
+-- what a row has beside that, where it has n elements: R5.15, a kept count of no more than these, and a range
 unfoldable pub extraOk : ℕ → Extra → Bool
-extraOk n e = eqb (e .kept) 0 && rangeOk (e .ranged) (e .low) (e .high)
+extraOk n e = leb (e .kept) n && rangeOk (e .ranged) (e .low) (e .high)
 
 -- how many elements
 abbrev pub count : Obj → ℕ
@@ -74,6 +74,6 @@ pub record Few (os : List Obj) : Type 0 where
   pub values : length (allWords os) ≤ 6144
   pub bytes : length (allBytes os) ≤ 32768
 
--- the edition of the rules that a dictionary keeps
+-- R5.15: the edition of the mapping rules that a dictionary keeps
 unfoldable pub isEdition : ℕ → Bool
-isEdition e = eqb e 1
+isEdition e = eqb e 1 || eqb e 2

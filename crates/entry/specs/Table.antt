@@ -2,10 +2,10 @@
 -- Assumes nothing.
 use Prim.Native.Nat.{ℕ, zero, suc, _+_, _*_}
 use mathlib.Core.Path.{_≡_}
-use mathlib.Core.Bool.{cond}
+use mathlib.Core.Bool.{Bool, cond, _&&_, _||_}
 use mathlib.Core.List.{List, [], _∷_}
 use lib.ListN.{take, drop, getD}
-use lib.Dec.{ltb}
+use lib.Dec.{eqb, leb, ltb}
 use Rattle.lists.specs.Lists.{over}
 use Rattle.entry.specs.declared.Extra.{Extra}
 use Rattle.entry.specs.Model.{Val, Obj, allObjects, allSlots, allWords, allBytes}
@@ -45,6 +45,9 @@ firstPlace i = 12 * i + 16
 abbrev pub namePlace : ℕ → ℕ
 namePlace i = 12 * i + 17
 
+abbrev pub keptPlace : ℕ → ℕ
+keptPlace i = 12 * i + 20
+
 abbrev pub slotPlace : ℕ → ℕ
 slotPlace p = 3 * p
 
@@ -79,12 +82,29 @@ nameLenAt objects i = getD objects (12 * i + 18) 0
 abbrev pub defaultAt : List ℕ → ℕ → ℕ
 defaultAt objects i = getD objects (12 * i + 19) 0
 
-abbrev pub extraAt : List ℕ → ℕ → Extra
-extraAt objects i = record { kept = getD objects (12 * i + 20) 0; ranged = getD objects (12 * i + 21) 0; low = getD objects (12 * i + 22) 0; high = getD objects (12 * i + 23) 0 }
+abbrev pub keptAt : List ℕ → ℕ → ℕ
+keptAt objects i = getD objects (keptPlace i) 0
 
--- how many elements of the list in row i are used
+abbrev pub extraAt : List ℕ → ℕ → Extra
+extraAt objects i = record { kept = keptAt objects i; ranged = getD objects (12 * i + 21) 0; low = getD objects (12 * i + 22) 0; high = getD objects (12 * i + 23) 0 }
+
+-- "A mapping index is one of 1600h..16FFh, 1A00h..1AFFh."
+abbrev pub receives : ℕ → Bool
+receives x = leb 0x1600 x && leb x 0x16FF
+
+abbrev pub sends : ℕ → Bool
+sends x = leb 0x1A00 x && leb x 0x1AFF
+
+abbrev pub isMapping : ℕ → Bool
+isMapping x = receives x || sends x
+
+-- R5.15: in edition 2 as many elements of a mapping are in use as its kept count says, else all of them: of index x, of n elements
+abbrev pub inUse : ℕ → ℕ → ℕ → ℕ → ℕ
+inUse edition x kept n = cond (eqb edition 2 && isMapping x) kept n
+
+-- so of the list in row i
 unfoldable pub listCount : List ℕ → ℕ → ℕ
-listCount objects i = countAt objects i
+listCount objects i = inUse (editionOf objects) (indexAt objects i) (keptAt objects i) (countAt objects i)
 
 abbrev pub typeAt : List ℕ → ℕ → ℕ
 typeAt slots p = getD slots (slotPlace p) 0

@@ -2,7 +2,7 @@
 ghost use mathlib.Core.Path.{_≡_};
 ghost use Prim.Native.Nat.{_≤_, _<_};
 ghost use lib.ListN.{length};
-ghost use Rattle.entry.specs.Table.{numberOf, valuesOf, usedOf, rowPlace, rowEnd, slotPlace, slotEnd, indexAt, kindAt, accessAt, countAt, listCount, firstAt, nameAt, nameLenAt, defaultAt, extraAt, typeAt, startAt, roomAt};
+ghost use Rattle.entry.specs.Table.{numberOf, valuesOf, usedOf, editionOf, rowPlace, rowEnd, slotPlace, slotEnd, indexAt, kindAt, accessAt, countAt, isMapping, listCount, firstAt, nameAt, nameLenAt, defaultAt, extraAt, typeAt, startAt, roomAt};
 use crate::Extra;
 
 // The header: how many objects, values (defaults counted) and bytes there are.
@@ -25,6 +25,14 @@ pub fn used_of(objects: &[u64]) -> u64
     ensures { λ r. ⌜ r ≡ usedOf (now (objects .entry)) ⌝ }
 {
     objects[2]
+}
+
+// The edition of the mapping rules.
+pub fn edition_of(objects: &[u64]) -> u64
+    requires { ⌜ 12 ≤ length (now objects) ⌝ }
+    ensures { λ r. ⌜ r ≡ editionOf (now (objects .entry)) ⌝ }
+{
+    objects[3]
 }
 
 // Where row i begins and ends, and where slot p begins.
@@ -122,11 +130,21 @@ pub fn extra_at(objects: &[u64], i: usize) -> Extra
     }
 }
 
-// How many elements of the list in row i are used.
+// An index of mappings, received or sent.
+pub fn is_mapping(index: u64) -> bool
+    ensures { λ r. ⌜ r ≡ isMapping index ⌝ }
+{
+    ((0x1600 <= index) & (index <= 0x16FF)) | ((0x1A00 <= index) & (index <= 0x1AFF))
+}
+
+// How many elements of the list in row i are in use.
 pub fn list_count(objects: &[u64], i: usize) -> u64
     requires { ⌜ (i < 1024) × (rowEnd i ≤ length (now objects)) ⌝ }
     ensures { λ r. ⌜ r ≡ listCount (now (objects .entry)) i ⌝ }
 {
+    if (edition_of(objects) == 2) & is_mapping(index_at(objects, i)) {
+        return objects[12 * i + 20];
+    }
     count_at(objects, i)
 }
 

@@ -214,7 +214,7 @@ size-judged h name vals encodings =
     let c = u - h .default in
     let z : c - 0 ≡ c = omega arith in
     let i = rw (zero-add (lengthsIn vals u 0), z) at (vals-right vals encodings c u 0 0 (length name)) in
-    rw (size-is h name vals encodings, given-length vals encodings u 0 0)
+    rw (size-is h name vals encodings, given-length vals encodings u 0 0, le-leb c c (omega arith))
     (judged (eqb (3 * u) (length vals)) (eqb (lengthsIn vals u 0) (length encodings)) (sizedIn vals u 0) (eqb (h .«low_type») (h .«high_type»)) (headOk (h .index) (h .kind) (h .access) c (h .default) (length name)) (leb (h .default) u) (isGood (judge name)) (rangeOk (h .«low_type») (h .low) (h .high)) (valsOk c (given vals encodings u 0 0)) (valsIn vals encodings c u 0 0 (length name)) (sz.Upto (length name + roomsIn vals u 0)) i)
 
 -- ---- what the act needs

@@ -51,9 +51,9 @@ given vals encodings (suc k) j t =
 abbrev pub countIn : List ℕ → ℕ
 countIn vals = length vals / 3
 
--- what it has beside its n elements: its range
+-- what it has beside its n elements: R6.8, they are all in use; and its range
 abbrev pub extraIn : Head → ℕ → Extra
-extraIn h n = record { kept = 0; ranged = h .«low_type»; low = h .low; high = h .high }
+extraIn h n = record { kept = n; ranged = h .«low_type»; low = h .low; high = h .high }
 
 -- R6.7: the ends have one type, and are a range of it, or none
 abbrev pub rangeIn : Head → Bool

@@ -53,7 +53,7 @@ pub fn extra_in(head: Head, count: u64) -> Extra
     ensures { λ r. ⌜ r ≡ extraIn head count ⌝ }
 {
     Extra {
-        kept: 0,
+        kept: count,
         ranged: head.low_type,
         low: head.low,
         high: head.high,

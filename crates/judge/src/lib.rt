@@ -98,7 +98,8 @@ fn reserved(objects: &[u64]) -> bool
     requires { ⌜ 12 ≤ length (now objects) ⌝ }
     ensures { λ r. ⌜ r ≡ reserved (now (objects .entry)) ⌝ }
 {
-    (objects[3] == 1)
+    let edition = objects[3];
+    ((edition == 1) | (edition == 2))
         & ((objects[4] == 0)
             & ((objects[5] == 0)
                 & ((objects[6] == 0)
@@ -130,7 +131,7 @@ pub fn range_ok(t: u64, low: u64, high: u64) -> bool
 fn extra_ok(count: u64, extra: Extra) -> bool
     ensures { λ r. ⌜ r ≡ extraOk count extra ⌝ }
 {
-    (extra.kept == 0) & range_ok(extra.ranged, extra.low, extra.high)
+    (extra.kept <= count) & range_ok(extra.ranged, extra.low, extra.high)
 }
 
 // A slot that is not the default's: its room lies from b on, within the bytes that are used, and its value is right.

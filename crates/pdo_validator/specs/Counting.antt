@@ -1,6 +1,6 @@
 -- The mapping count: RULES.md 9. Assumes nothing.
 use Prim.Native.Nat.{ℕ, zero, suc}
-use mathlib.Core.Bool.{Bool, cond, not, _&&_, _||_}
+use mathlib.Core.Bool.{cond, not, _||_}
 use mathlib.Core.List.{List}
 use lib.Dec.{eqb, leb, ltb}
 use lib.ListN.{getD}
@@ -8,7 +8,7 @@ use Rattle.answers.specs.declared.Answer.{Answer}
 use Rattle.answers.specs.declared.Answer.the-variants.{Done, Refused}
 use Rattle.answers.specs.declared.Refusal.the-variants.{Malformed, ObjectNotFound, MissingEntries, PdoMapOverrun}
 use Rattle.mapping.specs.Word.{entryOf, endOf}
-use Rattle.entry.specs.Table.{Dict, kindAt, countAt, firstAt, typeAt}
+use Rattle.entry.specs.Table.{Dict, sends, isMapping, kindAt, countAt, firstAt, typeAt}
 use Rattle.entry.specs.Find.{findRow, placeOf}
 use Rattle.entry.specs.Judge.{wellFormed}
 use Rattle.entry.specs.declared.Found.{Found}
@@ -17,16 +17,6 @@ use Rattle.entry.specs.declared.Place.{Place}
 use Rattle.entry.specs.declared.Place.the-variants.{NoObject, NoSub, Count, Value}
 use Rattle.pdo_validator.specs.declared.Mapped.{Mapped}
 use Rattle.pdo_validator.specs.declared.Mapped.the-variants.{Upto, Missing}
-
--- "A mapping index is one of 1600h..16FFh, 1A00h..1AFFh."
-abbrev pub receives : ℕ → Bool
-receives x = leb 0x1600 x && leb x 0x16FF
-
-abbrev pub sends : ℕ → Bool
-sends x = leb 0x1A00 x && leb x 0x1AFF
-
-abbrev pub isMapping : ℕ → Bool
-isMapping x = receives x || sends x
 
 -- R9.3: the U16 there, or 1,490
 abbrev pub u16At : Dict → Place → ℕ

@@ -2,11 +2,11 @@
 ghost use mathlib.Core.Path.{_≡_};
 ghost use mathlib.Core.Bool.{true};
 ghost use Prim.Native.Nat.{_<_};
-ghost use Rattle.entry.specs.Table.{dict, numberOf};
+ghost use Rattle.entry.specs.Table.{dict, numberOf, sends};
 ghost use Rattle.entry.specs.Find.{Elements};
 ghost use Rattle.entry.specs.Judge.{wellFormed};
 ghost use Rattle.entry.specs.declared.Found.the-variants.{At};
-ghost use Rattle.pdo_validator.specs.Counting.{sends, isMapping, limitOf, endsFrom, withinLimit, countOn, countOf, validOf};
+ghost use Rattle.pdo_validator.specs.Counting.{limitOf, endsFrom, withinLimit, countOn, countOf, validOf};
 use answers::Answer;
 use answers::Refusal;
 use entry::Found;
@@ -23,13 +23,6 @@ fn is_sent(index: u16) -> bool
     ensures { λ r. ⌜ r ≡ sends index ⌝ }
 {
     (0x1A00 <= index) & (index <= 0x1AFF)
-}
-
-// An index of mappings, received or sent.
-pub fn is_mapping(index: u16) -> bool
-    ensures { λ r. ⌜ r ≡ isMapping index ⌝ }
-{
-    ((0x1600 <= index) & (index <= 0x16FF)) | is_sent(index)
 }
 
 // The most bytes that a payload may have.
@@ -117,7 +110,7 @@ pub fn judge_count(
     requires { ⌜ wellFormed (dict (now objects) (now slots) (now words) (now bytes)) ≡ true ⌝ }
     ensures { λ r. ⌜ r ≡ countOf (dict (now (objects .entry)) (now (slots .entry)) (now (words .entry)) (now (bytes .entry))) index n ⌝ }
 {
-    if (n == 0) | !is_mapping(index) {
+    if (n == 0) | !entry::is_mapping(index as u64) {
         return Answer::Done;
     }
     let Found::At(i) = entry::find(objects, index) else {

@@ -5,7 +5,7 @@ use mathlib.Core.List.{List, [], _∷_}
 use lib.ListN.{set}
 use Rattle.lists.specs.Lists.{grown, fallen}
 use Rattle.entry.specs.declared.Extra.{Extra}
-use Rattle.entry.specs.Table.{firstPlace, namePlace, slotPlace, startPlace}
+use Rattle.entry.specs.Table.{firstPlace, namePlace, keptPlace, slotPlace, startPlace}
 
 -- u values and g bytes more, or less, before k rows from row i on
 abbrev pub rowsGrown : ℕ → ℕ → ℕ → ℕ → List ℕ → List ℕ
@@ -25,6 +25,10 @@ startsFallen v k g slots = fallen 3 g k (startPlace v) slots
 abbrev pub rowOf : ℕ → ℕ → ℕ → ℕ → ℕ → ℕ → ℕ → ℕ → Extra → List ℕ
 rowOf index kind access count first name len default extra =
     index ∷ kind ∷ access ∷ count ∷ first ∷ name ∷ len ∷ default ∷ extra .kept ∷ extra .ranged ∷ extra .low ∷ extra .high ∷ []
+
+-- n as the kept count of row i
+abbrev pub keptIn : ℕ → ℕ → List ℕ → List ℕ
+keptIn i n objects = set objects (keptPlace i) n
 
 -- the header's totals, and slot p, written
 abbrev pub totalled : ℕ → ℕ → ℕ → List ℕ → List ℕ

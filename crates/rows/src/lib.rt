@@ -7,17 +7,17 @@ ghost use lib.Seq.{slice};
 ghost use Rattle.lists.specs.Lists.{over, grown, spliced};
 ghost use Rattle.entry.specs.Model.{header};
 ghost use Rattle.entry.specs.Table.{valuesOf, usedOf, rowPlace, rowEnd, firstPlace, namePlace, slotPlace, slotEnd, startPlace};
-ghost use Rattle.rows.specs.Rows.{rowOf, rowsGrown, rowsFallen, startsGrown, startsFallen, totalled, slotted};
+ghost use Rattle.rows.specs.Rows.{rowOf, keptIn, rowsGrown, rowsFallen, startsGrown, startsFallen, totalled, slotted};
 use entry::Extra;
 use entry::used_of;
 use entry::values_of;
 
-// The header of a dictionary without objects.
-pub fn lay_header(objects: &mut [u64])
+// The header of a dictionary without objects, of an edition.
+pub fn lay_header(objects: &mut [u64], edition: u64)
     requires { ⌜ rowPlace 0 ≤ length (now objects) ⌝ }
-    ensures { λ _. ⌜ now (objects .exit) ≡ over (now (objects .entry)) 0 (header 1 []) ⌝ }
+    ensures { λ _. ⌜ now (objects .exit) ≡ over (now (objects .entry)) 0 (header edition []) ⌝ }
 {
-    let words = [0, 0, 0, 1, 0, 0, 0, 0, 0, 0, 0, 0];
+    let words = [0, 0, 0, edition, 0, 0, 0, 0, 0, 0, 0, 0];
     lists::lay_words(objects, 0, &words);
 }
 
@@ -59,6 +59,14 @@ pub fn row_of(
         extra.low,
         extra.high,
     ]
+}
+
+// The kept count of row i.
+pub fn set_kept(objects: &mut [u64], i: usize, n: u64)
+    requires { ⌜ (i < 1024) × (rowEnd i ≤ length (now objects)) ⌝ }
+    ensures { λ _. ⌜ now (objects .exit) ≡ keptIn i n (now (objects .entry)) ⌝ }
+{
+    objects[12 * i + 20] = n;
 }
 
 // Slot p.

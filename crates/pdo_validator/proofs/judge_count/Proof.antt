@@ -3,12 +3,12 @@ use mathlib.Core.Path.{_≡_, sym, ap, _∙_}
 use mathlib.Core.Bool.{cond, not, _||_}
 use denote.Ref.{now}
 use Rattle.answers.specs.declared.Answer.the-variants.{Done}
-use Rattle.entry.specs.Table.{Dict, dict}
+use Rattle.entry.specs.Table.{Dict, dict, isMapping}
 use lib.Dec.{eqb}
 use Rattle.entry.specs.Find.{findRow}
 use Rattle.entry.proofs.ValueLaws.{rows-of}
 use Rattle.entry.proofs.ValueLaws.{found-lies}
-use Rattle.pdo_validator.specs.Counting.{isMapping, countOn, countOf}
+use Rattle.pdo_validator.specs.Counting.{countOn, countOf}
 use borrow.Author.Needs.{needs}
 use Rattle.pdo_validator.proofs.judge_count.Statement.{statement}
 use Rattle.pdo_validator.proofs.judge_count.Tie as tie

@@ -4,11 +4,11 @@ use mathlib.Core.Bool.{cond}
 use mathlib.Core.Logic.{⊎-elim}
 use denote.Ref.{now}
 use borrow.Author.Tests.{eq-eqb, ne-eqb}
-use Rattle.entry.specs.Table.{Dict, dict}
+use Rattle.entry.specs.Table.{Dict, dict, sends}
 use Rattle.entry.specs.Find.{placeOf}
 use Rattle.entry.proofs.PlaceLaws.{no-value}
 use Rattle.entry.proofs.ValueLaws.{rows-of, ValueFacts, element-of, element-facts}
-use Rattle.pdo_validator.specs.Counting.{sends, u16At, limitOf}
+use Rattle.pdo_validator.specs.Counting.{u16At, limitOf}
 use native.Mathlib.Omega.{arith}
 use borrow.Author.Needs.{needs}
 use Rattle.pdo_validator.proofs.limit.Statement.{statement}
