@@ -1,13 +1,13 @@
 -- Where a write puts a value, the value is of its type and fits its room; so a write keeps a dictionary well-formed.
 -- Assumes nothing.
-use mathlib.Core.Path.{_≡_, refl, sym, ap, _∙_}
+use mathlib.Core.Path.{_≡_, refl, sym, ap, subst, _∙_}
 use mathlib.Core.Bool.{Bool, true, false, cond, _&&_, _||_}
 use mathlib.Core.List.{List}
 use Prim.Native.Nat.{ℕ, _≤_}
 use native.Mathlib.Omega.{arith}
 use borrow.Author.Tests.{eqb-true, ltb-false}
 use lib.Dec.{eqb, ltb}
-use lib.ListN.{length}
+use lib.ListN.{length, getD}
 use Rattle.answers.specs.declared.Answer.{Answer}
 use Rattle.answers.specs.declared.Answer.the-variants as answer
 use Rattle.lists.specs.Numbers.{number, Bytes}
@@ -17,21 +17,22 @@ use Rattle.value.specs.declared.Exactness.{Exactness}
 use Rattle.value.specs.declared.Exactness.the-variants as exactly
 use Rattle.value.proofs.CodecLaws.{wordIn, exact-facts}
 use Rattle.entry.specs.declared.Extra.{Extra}
-use Rattle.entry.specs.Table.{Dict, accessAt, extraAt, typeAt, roomAt}
+use Rattle.entry.specs.Table.{Dict, editionOf, accessAt, extraAt, typeAt, roomAt, isMapping}
 use Rattle.entry.specs.Find.{findRow, subAt, placeOf, onRow}
 use Rattle.entry.specs.Judge.{wellFormed}
-use Rattle.entry.specs.Put.{contents, filled}
 use Rattle.entry.specs.declared.Found.{Found}
 use Rattle.entry.specs.declared.Found.the-variants.{At, Nothing}
 use Rattle.entry.specs.declared.Place.{Place}
 use Rattle.entry.specs.declared.Place.the-variants.{NoObject, NoSub, Count, Value}
 use Rattle.entry.proofs.ValueLaws.{ValueFacts, element-of, element-facts}
 use Rattle.entry.proofs.KeepLaws.{Fits, put-element}
-use Rattle.pdo_validator.specs.Counting.{isMapping}
 use Rattle.writing.specs.declared.Judged.{Judged}
-use Rattle.writing.specs.declared.Judged.the-variants.{Put, Accepted, Save, Restore, NoValue, Refused}
-use Rattle.writing.specs.Judging.{save, load, signedBy, commandOf, outside, atValue, inPlace, inObject, countFirst, afterCount, judgeValueOf, onlyValue, judgeOf}
-use Rattle.writing.specs.Writing.{writeActOf, writeOf}
+use Rattle.writing.specs.declared.Judged.the-variants.{Put, Accepted, Keep, Save, Restore, NoValue, Refused}
+use Rattle.writing.specs.Judging.{save, load, signedBy, commandOf, outside, atValue, keepOf, inPlace, inObject, countFirst, afterCount, judgeValueOf, onlyValue, judgeOf}
+use Rattle.writing.specs.Writing.{writtenIn, writeActOf, writeOf}
+use Rattle.rows.proofs.KeptLaws.{kept-well-formed}
+use Rattle.writing.proofs.ReachLaws.{reached}
+use Rattle.writing.proofs.CountLaws.{judged-keep}
 
 -- ---- what a put comes from
 pub record Placed (d : Dict) (x sub t : ℕ) (s : List ℕ) (p : ℕ) : Type 0 where
@@ -65,16 +66,18 @@ value-placed slots x q t s p e = typed (eqb (typeAt slots q) t) refl e
     typed false h e = let z : _≡_ {A = ℕ} 0 1 = cc in absurd (omega arith)
 
 object-placed : (d : Dict) (x sub t : ℕ) (s : List ℕ) (p : ℕ) → inObject d x sub t s (findRow (d .objects) x) ≡ Put p → Placed d x sub t s p
+unfolding keepOf
 object-placed d x sub t s p e = row (findRow (d .objects) x) refl e
   where
-    counted : (b : Bool) → cond b Accepted (Refused CountNotWritable) ≡ Put p → Placed d x sub t s p
-    counted true e = let z : _≡_ {A = ℕ} 0 1 = cc in absurd (omega arith)
-    counted false e = let z : _≡_ {A = ℕ} 0 1 = cc in absurd (omega arith)
+    counted : (a b : Bool) (i n : ℕ) → cond a (cond b (Keep i n) Accepted) (Refused CountNotWritable) ≡ Put p → Placed d x sub t s p
+    counted true true i n e = let z : _≡_ {A = ℕ} 0 1 = cc in absurd (omega arith)
+    counted true false i n e = let z : _≡_ {A = ℕ} 0 1 = cc in absurd (omega arith)
+    counted false b i n e = let z : _≡_ {A = ℕ} 0 1 = cc in absurd (omega arith)
 
     place : (i : ℕ) → findRow (d .objects) x ≡ At i → (q : Place) → placeOf (d .objects) x sub ≡ q → inPlace d i x t s q ≡ Put p → Placed d x sub t s p
     place i f NoObject h e = let z : _≡_ {A = ℕ} 0 1 = cc in absurd (omega arith)
     place i f NoSub h e = let z : _≡_ {A = ℕ} 0 1 = cc in absurd (omega arith)
-    place i f (Count n) h e = counted (isMapping x) e
+    place i f (Count n) h e = counted (isMapping x) (eqb (editionOf (d .objects)) 2) i (getD s 0 0) e
     place i f (Value q) h e =
         let v = value-placed (d .slots) (extraAt (d .objects) i) q t s p e in
         record { place = h ∙ ap Value (v .same); typed = sym (ap (typeAt (d .slots)) (v .same)) ∙ v .typed; room = rw (v .same) at (v .room); row = i; found = f; inside = v .inside }
@@ -87,39 +90,8 @@ object-placed d x sub t s p e = row (findRow (d .objects) x) refl e
     row (At i) f e = allowed i f (eqb (accessAt (d .objects) i) 0 || eqb (accessAt (d .objects) i) 5) e
     row Nothing f e = let z : _≡_ {A = ℕ} 0 1 = cc in absurd (omega arith)
 
-no-command : (signature : ℕ) (c : Judged) (n sub t : ℕ) (s : List ℕ) (p : ℕ) → commandOf signature c n sub t s ≡ Put p → c ≡ Put p
-unfolding commandOf
-no-command signature c n sub t s p e = signed (signedBy signature sub t s) e
-  where
-    stored : (b : Bool) → cond b (Refused NoStorage) c ≡ Put p → c ≡ Put p
-    stored true e = let z : _≡_ {A = ℕ} 0 1 = cc in absurd (omega arith)
-    stored false e = e
-
-    signed : (b : Bool) → cond b (cond (ltb n 2) (Refused NoStorage) c) (Refused BadSignature) ≡ Put p → c ≡ Put p
-    signed true e = stored (ltb n 2) e
-    signed false e = let z : _≡_ {A = ℕ} 0 1 = cc in absurd (omega arith)
-
 pub judged-put : (d : Dict) (n x sub t : ℕ) (s : List ℕ) (p : ℕ) → judgeOf d n x sub t s ≡ Put p → (exact t s ≡ true) × Placed d x sub t s p
-unfolding judgeOf judgeValueOf exact
-judged-put d n x sub t s p e = right (exactlyOf t s) refl e
-  where
-    counted : (a : Answer) → afterCount a (inObject d x sub t s (findRow (d .objects) x)) ≡ Put p → Placed d x sub t s p
-    counted answer.Done e = object-placed d x sub t s p e
-    counted (answer.Refused r) e = let z : _≡_ {A = ℕ} 0 1 = cc in absurd (omega arith)
-
-    loads : (b : Bool) → cond b (commandOf load Restore n sub t s) (afterCount (countFirst d x sub t s) (inObject d x sub t s (findRow (d .objects) x))) ≡ Put p → Placed d x sub t s p
-    loads true e = let c = no-command load Restore n sub t s p e in let z : _≡_ {A = ℕ} 0 1 = cc in absurd (omega arith)
-    loads false e = counted (countFirst d x sub t s) e
-
-    saves : (b : Bool) → cond b (commandOf save Save n sub t s) (cond (eqb x 0x1011) (commandOf load Restore n sub t s) (afterCount (countFirst d x sub t s) (inObject d x sub t s (findRow (d .objects) x)))) ≡ Put p → Placed d x sub t s p
-    saves true e = let c = no-command save Save n sub t s p e in let z : _≡_ {A = ℕ} 0 1 = cc in absurd (omega arith)
-    saves false e = loads (eqb x 0x1011) e
-
-    right : (y : Exactness) → exactlyOf t s ≡ y → onlyValue y (judgeValueOf d n x sub t s) ≡ Put p → (exact t s ≡ true) × Placed d x sub t s p
-    right exactly.Value h e = (ap isExact h, saves (eqb x 0x1010) e)
-    right exactly.NoType h e = let z : _≡_ {A = ℕ} 0 1 = cc in absurd (omega arith)
-    right (exactly.Fails f) h e = let z : _≡_ {A = ℕ} 0 1 = cc in absurd (omega arith)
-    right exactly.Many h e = let z : _≡_ {A = ℕ} 0 1 = cc in absurd (omega arith)
+judged-put d n x sub t s p e = let r = reached d n x sub t s (Put p) tt e in (r .exactly, object-placed d x sub t s p (r .object))
 
 -- so it fits
 pub judged-fits : (d : Dict) (n x sub t : ℕ) (s : List ℕ) (p : ℕ) → judgeOf d n x sub t s ≡ Put p → Fits d p s (wordIn t s)
@@ -133,14 +105,14 @@ pub judged-facts : (d : Dict) → wellFormed d ≡ true → (n x sub t : ℕ) (s
 judged-facts d w n x sub t s p e = element-facts d w (element-of d w x sub p (judged-put d n x sub t s p e .1 .place))
 
 -- ---- the theorem: whatever is written, and whatever is answered
-pub write-keeps : (d : Dict) (store : List ℕ) (x sub t : ℕ) (s : List ℕ) → wellFormed d ≡ true → Bytes s
-    → wellFormed (filled d (contents (writeOf d store x sub t s .words) (writeOf d store x sub t s .bytes))) ≡ true
+pub write-keeps : (d : Dict) (store : List ℕ) (x sub t : ℕ) (s : List ℕ) → wellFormed d ≡ true → Bytes s → wellFormed (writtenIn d (writeOf d store x sub t s)) ≡ true
 unfolding writeOf writeActOf
 write-keeps d store x sub t s e b = rw e (go (judgeOf d (length store) x sub t s) refl)
   where
-    go : (j : Judged) → judgeOf d (length store) x sub t s ≡ j → wellFormed (filled d (contents (writeActOf d store sub s j .words) (writeActOf d store sub s j .bytes))) ≡ true
+    go : (j : Judged) → judgeOf d (length store) x sub t s ≡ j → wellFormed (writtenIn d (writeActOf d store sub s j)) ≡ true
     go (Put p) q = put-element d s e (element-of d e x sub p (judged-put d (length store) x sub t s p q .1 .place)) b (wordIn t s) (judged-fits d (length store) x sub t s p q)
     go Accepted q = e
+    go (Keep i n) q = let k = judged-keep d e (length store) x sub t s i n q in kept-well-formed d i n e (k .below) (k .few)
     go Save q = e
     go Restore q = e
     go (NoValue f) q = e

@@ -17,11 +17,11 @@ use Rattle.value.specs.Order.{ordered}
 use Rattle.value.proofs.CodecLaws.{size-le, exact-fixed}
 use Rattle.entry.specs.declared.Extra.{Extra}
 use Rattle.entry.specs.Rules.{rangeOk, extraOk}
-use Rattle.entry.specs.Table.{Dict, numberOf, extraAt, typeAt, roomAt}
+use Rattle.entry.specs.Table.{Dict, keptAt, countAt, numberOf, extraAt, typeAt, roomAt, isMapping}
 use Rattle.entry.specs.Judge.{wellFormed}
 use Rattle.entry.proofs.FactLaws.{row-facts}
 use Rattle.entry.proofs.JudgeLaws.{and-true}
-use Rattle.pdo_validator.specs.Counting.{isMapping, countOf}
+use Rattle.pdo_validator.specs.Counting.{countOf}
 use Rattle.writing.specs.declared.Judged.the-variants.{Put, Refused}
 use Rattle.writing.specs.Judging.{outside, atValue, countFirst}
 
@@ -125,4 +125,4 @@ whole s e = take-all 4 s (omega arith)
 -- ---- a row's range keeps the rule
 pub range-right : (d : Dict) → wellFormed d ≡ true → (i : ℕ) → i < numberOf (d .objects) → let x = extraAt (d .objects) i in rangeOk (x .ranged) (x .low) (x .high) ≡ true
 unfolding extraOk
-range-right d w i h = and-true (eqb (extraAt (d .objects) i .kept) 0) _ (row-facts d w i h .extra) .1
+range-right d w i h = and-true (leb (keptAt (d .objects) i) (countAt (d .objects) i)) _ (row-facts d w i h .extra) .1

@@ -14,15 +14,15 @@ use Rattle.value.specs.declared.Exactness.{Exactness}
 use Rattle.value.specs.declared.Exactness.the-variants as exactly
 use Rattle.value.specs.Order.{ordered}
 use Rattle.entry.specs.declared.Extra.{Extra}
-use Rattle.entry.specs.Table.{Dict, accessAt, extraAt, typeAt, roomAt}
+use Rattle.entry.specs.Table.{Dict, editionOf, accessAt, extraAt, typeAt, roomAt, isMapping}
 use Rattle.entry.specs.Find.{findRow, subAt}
 use Rattle.entry.specs.declared.Found.{Found}
 use Rattle.entry.specs.declared.Found.the-variants.{At, Nothing}
 use Rattle.entry.specs.declared.Place.{Place}
 use Rattle.entry.specs.declared.Place.the-variants.{NoObject, NoSub, Count, Value}
-use Rattle.pdo_validator.specs.Counting.{isMapping, countOf}
+use Rattle.pdo_validator.specs.Counting.{countOf}
 use Rattle.writing.specs.declared.Judged.{Judged}
-use Rattle.writing.specs.declared.Judged.the-variants.{Put, Accepted, Save, Restore, NoValue, Refused}
+use Rattle.writing.specs.declared.Judged.the-variants.{Put, Accepted, Keep, Save, Restore, NoValue, Refused}
 
 -- R8.2: "save" and "load", as the numbers of their bytes
 abbrev pub save : ℕ
@@ -53,11 +53,15 @@ atValue slots e p t s =
     (cond (isText t && ltb (roomAt slots p) (length s)) (Refused TooLong) (Put p)))
     (Refused TypeMismatch)
 
+-- R8.7: a mapping's count in row i is kept in edition 2, and accepted in edition 1
+unfoldable pub keepOf : ℕ → ℕ → ℕ → Judged
+keepOf edition i n = cond (eqb edition 2) (Keep i n) Accepted
+
 -- in row i
 abbrev pub inPlace : Dict → ℕ → ℕ → ℕ → List ℕ → Place → Judged
 inPlace d i x t s NoObject = Refused ObjectNotFound
 inPlace d i x t s NoSub = Refused SubObjectNotFound
-inPlace d i x t s (Count n) = cond (isMapping x) Accepted (Refused CountNotWritable)
+inPlace d i x t s (Count n) = cond (isMapping x) (keepOf (editionOf (d .objects)) i (getD s 0 0)) (Refused CountNotWritable)
 inPlace d i x t s (Value p) = atValue (d .slots) (extraAt (d .objects) i) p t s
 
 -- 5 and 6: object, then access, of which ReadOnly is 0 and Constant 5

@@ -2,15 +2,15 @@
 ghost use mathlib.Core.Path.{_≡_};
 ghost use mathlib.Core.Bool.{true};
 ghost use Prim.Native.Nat.{_<_, _≤_};
-ghost use lib.ListN.{length};
-ghost use Rattle.entry.specs.Table.{dict, slotEnd};
+ghost use lib.ListN.{length, getD};
+ghost use Rattle.entry.specs.Table.{dict, editionOf, slotEnd};
 ghost use Rattle.value.specs.Codec.{exact};
 ghost use Rattle.entry.specs.Find.{findRow};
 ghost use Rattle.entry.specs.Judge.{wellFormed};
 ghost use Rattle.entry.specs.declared.Found.the-variants.{At};
 ghost use Rattle.lists.specs.Numbers.{number};
 ghost use Rattle.entry.specs.Rules.{rangeOk};
-ghost use Rattle.writing.specs.Judging.{signedBy, commandOf, outside, atValue, inObject, countFirst, judgeValueOf, judgeOf};
+ghost use Rattle.writing.specs.Judging.{signedBy, commandOf, outside, atValue, keepOf, inObject, countFirst, judgeValueOf, judgeOf};
 use crate::Judged;
 use answers::Answer;
 use answers::Refusal;
@@ -77,6 +77,27 @@ fn at_value(slots: &[u64], extra: Extra, p: usize, t: u64, data: &[u8]) -> Judge
     Judged::Put(p)
 }
 
+// The first byte, or 0.
+fn first(data: &[u8]) -> u8
+    ensures { λ r. ⌜ r ≡ getD (now («data» .entry)) 0 0 ⌝ }
+{
+    if data.len() == 0 {
+        return 0;
+    }
+    data[0]
+}
+
+// A mapping's count in row i: edition 2 keeps it.
+fn keep(objects: &[u64], i: usize, data: &[u8]) -> Judged
+    requires { ⌜ 12 ≤ length (now objects) ⌝ }
+    ensures { λ r. ⌜ r ≡ keepOf (editionOf (now (objects .entry))) i (getD (now («data» .entry)) 0 0) ⌝ }
+{
+    if entry::edition_of(objects) == 2 {
+        return Judged::Keep(i, first(data));
+    }
+    Judged::Accepted
+}
+
 // In row i: access, then place.
 fn in_row(
     objects: &[u64],
@@ -101,8 +122,8 @@ fn in_row(
     match entry::sub_at(objects, i, sub) {
         Place::NoObject => Judged::Refused(Refusal::ObjectNotFound),
         Place::NoSub => Judged::Refused(Refusal::SubObjectNotFound),
-        Place::Count(_) => if pdo_validator::is_mapping(index) {
-            Judged::Accepted
+        Place::Count(_) => if entry::is_mapping(index as u64) {
+            keep(objects, i, data)
         } else {
             Judged::Refused(Refusal::CountNotWritable)
         },
@@ -145,7 +166,7 @@ fn count_first(
     requires { ⌜ exact t (now «data») ≡ true ⌝ }
     ensures { λ r. ⌜ r ≡ countFirst (dict (now (objects .entry)) (now (slots .entry)) (now (words .entry)) (now (bytes .entry))) index sub t (now («data» .entry)) ⌝ }
 {
-    if (sub == 0) & pdo_validator::is_mapping(index) {
+    if (sub == 0) & entry::is_mapping(index as u64) {
         if t != 5 {
             return Answer::Refused(Refusal::TypeMismatch);
         }

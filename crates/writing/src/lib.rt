@@ -8,11 +8,12 @@ use value::CodecFault;
 pub use writing::write;
 pub use writing::write_judged;
 
-// What a write comes to: a value put at a slot, a count that is accepted and not kept, a command, data that does not decode, or another
-// refusal.
+// What a write comes to: a value put at a slot, a count that is accepted and not kept, one that a row keeps, a command, data that does not
+// decode, or another refusal.
 pub enum Judged {
     Put(usize),
     Accepted,
+    Keep(usize, u8),
     Save,
     Restore,
     NoValue(CodecFault),

@@ -20,7 +20,7 @@ fn saved(a: Saved) -> Wrote
 
 // What `write` does with a dictionary that was judged.
 pub fn write_judged(
-    objects: &[u64],
+    objects: &mut [u64],
     slots: &[u64],
     words: &mut [u64],
     bytes: &mut [u8],
@@ -31,7 +31,7 @@ pub fn write_judged(
     data: &[u8],
 ) -> Wrote
     requires { ⌜ wellFormed (dict (now objects) (now slots) (now words) (now bytes)) ≡ true ⌝ }
-    ensures { λ r. ⌜ afterWrite r (now (words .exit)) (now (bytes .exit)) (now (store .exit)) ≡ writeOf (dict (now (objects .entry)) (now (slots .entry)) (now (words .entry)) (now (bytes .entry))) (now (store .entry)) index sub t (now («data» .entry)) ⌝ }
+    ensures { λ r. ⌜ afterWrite r (now (objects .exit)) (now (words .exit)) (now (bytes .exit)) (now (store .exit)) ≡ writeOf (dict (now (objects .entry)) (now (slots .entry)) (now (words .entry)) (now (bytes .entry))) (now (store .entry)) index sub t (now («data» .entry)) ⌝ }
 {
     let size = store.len();
     match crate::judging::judge_write(objects, slots, words, bytes, size, index, sub, t, data) {
@@ -40,6 +40,10 @@ pub fn write_judged(
             Wrote::Done
         }
         Judged::Accepted => Wrote::Done,
+        Judged::Keep(i, n) => {
+            rows::set_kept(objects, i, n as u64);
+            Wrote::Done
+        }
         Judged::Save => saved(commands::save(objects, slots, words, bytes, sub, store)),
         Judged::Restore => Wrote::RestoreRequested,
         Judged::NoValue(f) => Wrote::NoValue(f),
@@ -49,7 +53,7 @@ pub fn write_judged(
 
 // Writes a value, given as its type and its encoding; at 1010h saves and at 1011h asks for a restore. A refusal changes nothing.
 pub fn write(
-    objects: &[u64],
+    objects: &mut [u64],
     slots: &[u64],
     words: &mut [u64],
     bytes: &mut [u8],
@@ -59,7 +63,7 @@ pub fn write(
     t: u64,
     data: &[u8],
 ) -> Wrote
-    ensures { λ r. ⌜ afterWrite r (now (words .exit)) (now (bytes .exit)) (now (store .exit)) ≡ writeOf (dict (now (objects .entry)) (now (slots .entry)) (now (words .entry)) (now (bytes .entry))) (now (store .entry)) index sub t (now («data» .entry)) ⌝ }
+    ensures { λ r. ⌜ afterWrite r (now (objects .exit)) (now (words .exit)) (now (bytes .exit)) (now (store .exit)) ≡ writeOf (dict (now (objects .entry)) (now (slots .entry)) (now (words .entry)) (now (bytes .entry))) (now (store .entry)) index sub t (now («data» .entry)) ⌝ }
 {
     if !judge::well_formed(objects, slots, words, bytes) {
         return Wrote::Refused(Refusal::Malformed);

@@ -4,8 +4,7 @@ use mathlib.Core.Bool.{_&&_}
 use denote.Ref.{now}
 use borrow.Author.Tests.{eq-eqb, ne-eqb}
 use lib.Dec.{eqb}
-use Rattle.entry.specs.Table.{Dict, dict}
-use Rattle.pdo_validator.specs.Counting.{isMapping}
+use Rattle.entry.specs.Table.{Dict, dict, isMapping}
 use Rattle.writing.proofs.WriteLaws.{count-type, count-there, count-else, one-byte}
 use native.Mathlib.Omega.{arith}
 use borrow.Author.Needs.{needs}

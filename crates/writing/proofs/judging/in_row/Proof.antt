@@ -2,17 +2,20 @@
 use mathlib.Core.Path.{_≡_, sym, ap, subst, _∙_}
 use mathlib.Core.Bool.{true, cond, _||_}
 use denote.Ref.{now}
+use native.Mathlib.Omega.{arith}
 use lib.Dec.{eqb}
+use lib.ListN.{getD}
 use Rattle.answers.specs.declared.Refusal.the-variants.{ReadOnly, CountNotWritable}
-use Rattle.entry.specs.Table.{Dict, dict, accessAt}
+use Rattle.entry.specs.Table.{Dict, dict, editionOf, accessAt}
 use Rattle.entry.specs.Find.{subAt}
 use Rattle.entry.specs.declared.Found.the-variants.{At}
 use Rattle.entry.specs.declared.Place.{Place}
+use Rattle.entry.proofs.JudgeLaws.{headed}
 use Rattle.entry.proofs.ValueLaws.{rows-of, RowLies, found-lies, value-lies}
-use Rattle.writing.specs.declared.Judged.the-variants.{Accepted, Refused}
+use Rattle.writing.specs.declared.Judged.the-variants.{Refused}
 use Rattle.entry.specs.declared.Extra.{Extra}
 use Rattle.entry.specs.Rules.{rangeOk}
-use Rattle.writing.specs.Judging.{atValue, inPlace, inObject}
+use Rattle.writing.specs.Judging.{atValue, keepOf, inPlace, inObject}
 use Rattle.writing.proofs.WriteLaws.{range-right}
 use borrow.Author.Needs.{needs}
 use Rattle.writing.proofs.judging.in_row.Statement.{statement}
@@ -50,6 +53,9 @@ sub-at-requires : tie.Need-sub-at-requires
 sub-at-requires c κs =
     let s = start (c .before) in (rows-of (D s) (s .pre .0), lies s .below)
 
+keep-requires : tie.Need-keep-requires
+keep-requires c κs = let s = start (c .before .before .before .before .before .before) in omega (arith, headed (D s) (s .pre .0) .rows)
+
 extra-at-requires : tie.Need-extra-at-requires
 extra-at-requires c κs = let l = lies (start (c .before .before .before .before .before)) in (l .small, l .inside)
 
@@ -71,15 +77,19 @@ returns-3 c =
 
 returns-4 : tie.Need-returns-4
 returns-4 c =
-    let e = c .before .before in
+    let h = c .before in
+    let e = h .before .before in
     let u = e .before .before in
-    sym (ap (λ b. cond b Accepted (Refused CountNotWritable)) (sym (c .before .is-mapping .ensures) ∙ c .if2 .taken)) ∙ placed u _ (e .enum-told3 .given .1)
+    let a = start (u .before .before) .args in
+    c .keep .ensures
+    ∙ sym (ap (λ b. cond b (keepOf (editionOf (now (a .objects))) (a .i) (getD (now (a .«data»)) 0 0)) (Refused CountNotWritable)) (sym (h .before .is-mapping .ensures) ∙ h .if2 .taken)) ∙ placed u _ (e .enum-told3 .given .1)
 
 returns-5 : tie.Need-returns-5
 returns-5 c =
     let e = c .before .before in
     let u = e .before .before in
-    sym (ap (λ b. cond b Accepted (Refused CountNotWritable)) (sym (c .before .is-mapping .ensures) ∙ c .if2 .left)) ∙ placed u _ (e .enum-told3 .given .1)
+    let a = start (u .before .before) .args in
+    sym (ap (λ b. cond b (keepOf (editionOf (now (a .objects))) (a .i) (getD (now (a .«data»)) 0 0)) (Refused CountNotWritable)) (sym (c .before .is-mapping .ensures) ∙ c .if2 .left)) ∙ placed u _ (e .enum-told3 .given .1)
 
 returns-6 : tie.Need-returns-6
 returns-6 c =
@@ -100,6 +110,7 @@ in-row-spec =
     (λ c. search needs)
     (λ c. search needs)
     (λ c κs. search needs)
+    keep-requires
     (λ c. search needs)
     extra-at-requires
     at-value-requires

@@ -11,10 +11,10 @@ unfolding writeOf
 returns c = simp (sym (c .before .well-formed .ensures) ∙ not-true _ (c .if1 .taken))
 
 write-judged-requires : tie.Need-write-judged-requires
-write-judged-requires c κs = let e = c .before .before .before in sym (e .before .well-formed .ensures) ∙ not-false _ (e .if1 .left)
+write-judged-requires c κs = let e = c .before .before .before .before in sym (e .before .well-formed .ensures) ∙ not-false _ (e .if1 .left)
 
 returns-2 : tie.Need-returns-2
-returns-2 c = c .before .before .before .before .before .before .write-judged .ensures
+returns-2 c = c .before .before .before .before .before .before .before .before .write-judged .ensures
 
 pub write-spec : {M : Type 1} → statement M
 write-spec =
@@ -23,8 +23,10 @@ write-spec =
     (λ c κs. search needs)
     (λ c. search needs)
     (λ c. search needs)
+    (λ c. search needs)
     returns
     write-judged-requires
+    (λ c. search needs)
     (λ c. search needs)
     (λ c. search needs)
     (λ c. search needs)
