@@ -24,7 +24,7 @@ use Rattle.mapping.specs.declared.Field.{Field}
 use Rattle.mapping.specs.declared.Field.the-variants as field
 use Rattle.mapping.specs.declared.PdoMappingEntry.{PdoMappingEntry}
 use Rattle.mapping.proofs.WordLaws.{entry-in-range}
-use Rattle.entry.specs.Table.{kindAt, listCount, firstAt, typeAt, roomAt}
+use Rattle.entry.specs.Table.{kindAt, listCount, firstAt, typeAt, roomAt, isMapping}
 use Rattle.entry.specs.Find.{findRow, placeOf}
 use Rattle.entry.specs.Judge.{wellFormed}
 use Rattle.entry.specs.Put.{Contents}
@@ -34,7 +34,6 @@ use Rattle.entry.specs.declared.Place.{Place}
 use Rattle.entry.specs.declared.Place.the-variants.{NoObject, NoSub, Count, Value}
 use Rattle.entry.proofs.ValueLaws.{found-lies, list-count-le}
 use Rattle.aim.specs.Aims.{between}
-use Rattle.pdo_validator.specs.Counting.{isMapping}
 use Rattle.pdo_step.specs.Outcomes.{part, onCount, onValue, outcomeOf, reach}
 use Rattle.pdo_step.specs.Effects.{causedBy, effectOf}
 use Rattle.pdo_step.proofs.FormLaws.{onPlace, onIndex, onField, outcome-form}

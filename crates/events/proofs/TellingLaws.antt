@@ -27,14 +27,13 @@ use Rattle.event.specs.declared.EventRecord.{EventRecord}
 use Rattle.mapping.specs.Word.{entryOf, fieldOf}
 use Rattle.mapping.specs.declared.Field.{Field}
 use Rattle.mapping.specs.declared.Field.the-variants as field
-use Rattle.entry.specs.Table.{kindAt, firstAt, typeAt, roomAt}
+use Rattle.entry.specs.Table.{kindAt, firstAt, typeAt, roomAt, isMapping}
 use Rattle.entry.specs.Find.{findRow, placeOf}
 use Rattle.entry.specs.Put.{Contents}
 use Rattle.entry.specs.declared.Found.the-variants.{At}
 use Rattle.entry.specs.declared.Place.{Place}
 use Rattle.entry.specs.declared.Place.the-variants.{NoObject, NoSub, Count, Value}
 use Rattle.aim.specs.Aims.{between}
-use Rattle.pdo_validator.specs.Counting.{isMapping}
 use Rattle.pdo_step.specs.Outcomes.{part, onCount, onValue}
 use Rattle.pdo_step.specs.Effects.{causedBy, effectOf}
 use Rattle.pdo_step.specs.declared.Outcome.{Outcome}

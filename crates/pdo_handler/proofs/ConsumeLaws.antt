@@ -7,13 +7,13 @@ use lib.Dec.{eqb, ltb}
 use lib.ListN.{length}
 use Rattle.lists.specs.Numbers.{Bytes}
 use Rattle.answers.specs.declared.Refusal.the-variants.{NoEventRoom, PayloadTooLong}
-use Rattle.entry.specs.Table.{Dict, kindAt, firstAt, typeAt}
+use Rattle.entry.specs.Table.{Dict, editionOf, kindAt, firstAt, typeAt}
 use Rattle.entry.specs.Find.{findRow}
 use Rattle.entry.specs.Judge.{wellFormed}
 use Rattle.entry.specs.Put.{Contents, contents, filled}
 use Rattle.entry.specs.declared.Found.{Found}
 use Rattle.entry.specs.declared.Found.the-variants.{At, Nothing}
-use Rattle.pdo_step.specs.Effects.{effectOf}
+use Rattle.pdo_step.specs.Effects.{effectOf, setsBit}
 use Rattle.pdo_step.specs.Steps.{applied}
 use Rattle.pdo_step.proofs.OutcomeLaws.{step-keeps, step-bytes}
 use Rattle.pdo_step.proofs.MarkLaws.{mark-keeps, mark-bytes}
@@ -33,7 +33,7 @@ marked-sane f c x s = record { well = mark-keeps (held f c) (s .well) (s .bytes)
 module _ (f : Frame) (b : Bytes (f .payload)) where
   pub act-sane : (c : Contents) (w : ℕ) → Sane f c → Sane f (actOf f c (decided f w))
   unfolding actOf
-  act-sane c w s = go (effectOf (decided f w) .bit)
+  act-sane c w s = go (setsBit (editionOf (f .objects)) (decided f w))
     where
       go : (x : Bool) → Sane f (cond x (marked f c 0x1C81) (applied (f .slots) (f .payload) c (decided f w)))
       go true = marked-sane f c 0x1C81 s

@@ -16,59 +16,59 @@ use Rattle.lists.proofs.ListLaws.{over-none, over-first}
 use Rattle.event.specs.declared.Event.{Event}
 use Rattle.event.specs.Record.{eventNumber, recordAt}
 use Rattle.event.proofs.RecordLaws.{number-some}
-use Rattle.entry.specs.Table.{Dict, typeAt}
+use Rattle.entry.specs.Table.{Dict, editionOf, typeAt}
 use Rattle.entry.specs.Judge.{wellFormed}
 use Rattle.entry.specs.Put.{Contents, contents, filled}
 use Rattle.pdo_step.specs.declared.Outcome.{Outcome}
 use Rattle.pdo_step.specs.declared.Outcome.the-variants as outcome
 use Rattle.pdo_step.specs.Outcomes.{outcomeOf}
-use Rattle.pdo_step.specs.Effects.{effectOf}
+use Rattle.pdo_step.specs.Effects.{effectOf, setsBit}
 use Rattle.pdo_step.specs.Steps.{applied}
 use Rattle.pdo_step.proofs.OutcomeLaws.{step-keeps}
 use Rattle.pdo_run.specs.Run.{recorded, codeOf, Frame, frame, decided, marked, actOf, Ran, ran, behind, runFrom, logged, finished, notedLog, notedCount}
 
 -- ---- the act: the bit, or the put
-pub act-marked : (f : Frame) (c : Contents) (o : Outcome) → effectOf o .bit ≡ true → actOf f c o ≡ marked f c 0x1C81
+pub act-marked : (f : Frame) (c : Contents) (o : Outcome) → setsBit (editionOf (f .objects)) o ≡ true → actOf f c o ≡ marked f c 0x1C81
 unfolding actOf
 act-marked f c o e = rw e
 
-pub act-put : (f : Frame) (c : Contents) (o : Outcome) → effectOf o .bit ≡ false → actOf f c o ≡ applied (f .slots) (f .payload) c o
+pub act-put : (f : Frame) (c : Contents) (o : Outcome) → setsBit (editionOf (f .objects)) o ≡ false → actOf f c o ≡ applied (f .slots) (f .payload) c o
 unfolding actOf
 act-put f c o e = rw e
 
 -- an outcome with a bit puts nothing
-pub marked-idle : (slots payload : List ℕ) (c : Contents) (o : Outcome) → effectOf o .bit ≡ true → applied slots payload c o ≡ c
+pub marked-idle : (edition : ℕ) (slots payload : List ℕ) (c : Contents) (o : Outcome) → setsBit edition o ≡ true → applied slots payload c o ≡ c
 unfolding applied
-marked-idle slots payload c outcome.Misaligned e = refl
-marked-idle slots payload c outcome.Short e = refl
-marked-idle slots payload c (outcome.Server x start n) e = refl
-marked-idle slots payload c (outcome.Client x start n) e = refl
-marked-idle slots payload c outcome.NoTarget e = refl
-marked-idle slots payload c outcome.Count e = refl
-marked-idle slots payload c outcome.CountRefused e = refl
-marked-idle slots payload c (outcome.Undecodable f) e = refl
-marked-idle slots payload c outcome.TooLong e = refl
-marked-idle slots payload c (outcome.Stored p start n) e = let z : _≡_ {A = ℕ} 0 1 = cc in absurd (omega arith)
+marked-idle edition slots payload c outcome.Misaligned e = refl
+marked-idle edition slots payload c outcome.Short e = refl
+marked-idle edition slots payload c (outcome.Server x start n) e = refl
+marked-idle edition slots payload c (outcome.Client x start n) e = refl
+marked-idle edition slots payload c outcome.NoTarget e = refl
+marked-idle edition slots payload c outcome.Count e = refl
+marked-idle edition slots payload c outcome.CountRefused e = refl
+marked-idle edition slots payload c (outcome.Undecodable f) e = refl
+marked-idle edition slots payload c outcome.TooLong e = refl
+marked-idle edition slots payload c (outcome.Stored p start n) e = let z : _≡_ {A = ℕ} 0 1 = cc in absurd (omega arith)
 
 -- and it stops the run
-goes-on : (o : Outcome) → effectOf o .stops ≡ false → effectOf o .bit ≡ false
-goes-on outcome.Misaligned s = refl
-goes-on outcome.Short s = let z : _≡_ {A = ℕ} 0 1 = cc in absurd (omega arith)
-goes-on (outcome.Server x start n) s = refl
-goes-on (outcome.Client x start n) s = refl
-goes-on outcome.NoTarget s = refl
-goes-on outcome.Count s = refl
-goes-on outcome.CountRefused s = refl
-goes-on (outcome.Undecodable f) s = refl
-goes-on outcome.TooLong s = refl
-goes-on (outcome.Stored p start n) s = refl
+goes-on : (edition : ℕ) (o : Outcome) → effectOf o .stops ≡ false → setsBit edition o ≡ false
+goes-on edition outcome.Misaligned s = refl
+goes-on edition outcome.Short s = let z : _≡_ {A = ℕ} 0 1 = cc in absurd (omega arith)
+goes-on edition (outcome.Server x start n) s = refl
+goes-on edition (outcome.Client x start n) s = refl
+goes-on edition outcome.NoTarget s = refl
+goes-on edition outcome.Count s = refl
+goes-on edition outcome.CountRefused s = refl
+goes-on edition (outcome.Undecodable f) s = let z : _≡_ {A = ℕ} 0 1 = cc in absurd (omega arith)
+goes-on edition outcome.TooLong s = refl
+goes-on edition (outcome.Stored p start n) s = refl
 
 -- a word that does not stop the run keeps the dictionary well-formed
 pub act-keeps : (d : Dict) (payload : List ℕ) (sender i w : ℕ) → wellFormed d ≡ true → Bytes payload → (o : Outcome) → o ≡ outcomeOf (d .objects) (d .slots) payload w → effectOf o .stops ≡ false
     → wellFormed (filled d (actOf (frame (d .objects) (d .slots) payload sender i) (contents (d .words) (d .bytes)) o)) ≡ true
 unfolding actOf
 act-keeps d payload sender i w e b o q s =
-    rw (goes-on o s) (subst (λ (x : Outcome). wellFormed (filled d (applied (d .slots) payload (contents (d .words) (d .bytes)) x)) ≡ true) (sym q) (step-keeps d payload w e b))
+    rw (goes-on (editionOf (d .objects)) o s) (subst (λ (x : Outcome). wellFormed (filled d (applied (d .slots) payload (contents (d .words) (d .bytes)) x)) ≡ true) (sym q) (step-keeps d payload w e b))
 
 -- ---- the run, one word at a time
 module _ (f : Frame) (p : ℕ) (list : List ℕ) (j : ℕ) (c : Contents) where

@@ -9,13 +9,13 @@ use Rattle.lists.specs.Lists.{over}
 use Rattle.event.specs.declared.Event.{Event}
 use Rattle.event.specs.declared.EventRecord.{EventRecord}
 use Rattle.event.specs.Record.{eventNumber, recordAt}
-use Rattle.entry.specs.Table.{Dict, dict, kindAt, listCount, firstAt, typeAt}
+use Rattle.entry.specs.Table.{Dict, dict, editionOf, kindAt, listCount, firstAt, typeAt}
 use Rattle.entry.specs.declared.Found.{Found}
 use Rattle.entry.specs.declared.Found.the-variants.{At, Nothing}
 use Rattle.entry.specs.Put.{Contents, contents}
 use Rattle.pdo_step.specs.declared.Outcome.{Outcome}
 use Rattle.pdo_step.specs.Outcomes.{outcomeOf}
-use Rattle.pdo_step.specs.Effects.{effectOf}
+use Rattle.pdo_step.specs.Effects.{effectOf, setsBit}
 use Rattle.pdo_step.specs.Steps.{applied}
 use Rattle.pdo_step.specs.Bits.{markedIn}
 use Rattle.pdo_run.specs.declared.Turn.{Turn}
@@ -33,8 +33,8 @@ codeOf i k (some v) = eventNumber (recordAt i k v)
 abbrev pub turn : ℕ → Bool → Bool → Turn
 turn e b s = record { event = e; bit = b; stops = s }
 
-abbrev pub turnOf : ℕ → ℕ → Outcome → Turn
-turnOf i k o = let e = effectOf o in turn (codeOf i k (e .event)) (e .bit) (e .stops)
+abbrev pub turnOf : ℕ → ℕ → ℕ → Outcome → Turn
+turnOf edition i k o = let e = effectOf o in turn (codeOf i k (e .event)) (setsBit edition o) (e .stops)
 
 -- ---- what the words are held against: the dictionary's shape, the payload, its sender and its number
 pub record Frame : Type 0 where
@@ -59,7 +59,7 @@ marked f c x = contents (c .words) (markedIn (f .objects) (f .slots) (c .words) 
 
 -- R11.5: the bit, or the act
 unfoldable pub actOf : Frame → Contents → Outcome → Contents
-actOf f c o = cond (effectOf o .bit) (marked f c 0x1C81) (applied (f .slots) (f .payload) c o)
+actOf f c o = cond (setsBit (editionOf (f .objects)) o) (marked f c 0x1C81) (applied (f .slots) (f .payload) c o)
 
 -- what is left of a run: the contents, and its events
 pub record Ran : Type 0 where

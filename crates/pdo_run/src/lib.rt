@@ -4,13 +4,13 @@ ghost use mathlib.Core.Bool.{true, false};
 ghost use mathlib.Core.Option.{some};
 ghost use Prim.Native.Nat.{ℕ, _+_, _<_, _≤_};
 ghost use lib.ListN.{length, take, drop};
-ghost use Rattle.entry.specs.Table.{dict, numberOf, valuesOf};
+ghost use Rattle.entry.specs.Table.{dict, editionOf, numberOf, valuesOf};
 ghost use Rattle.entry.specs.Find.{findRow};
 ghost use Rattle.entry.specs.Judge.{wellFormed};
 ghost use Rattle.entry.specs.Put.{contents};
 ghost use Rattle.pdo_run.specs.Run.{codeOf, turn, turnOf, frame, actOf, runFrom, runIn, runOn, logged, finished, notedLog, notedCount};
 ghost use Rattle.pdo_step.specs.Outcomes.{reach, outcomeOf};
-ghost use Rattle.pdo_step.specs.Effects.{causedBy};
+ghost use Rattle.pdo_step.specs.Effects.{causedBy, isShort};
 ghost use Rattle.value.specs.Fault.{firstTold, secondTold};
 ghost use Rattle.event.specs.declared.Event.the-variants.{PayloadShort};
 use entry::Found;
@@ -57,10 +57,21 @@ fn fault_event(number: u64, k: u64, f: CodecFault) -> u64
     }
 }
 
+// Whether a field that does not decode sets the sender's bit in 1C81h: in edition 2, where bytes are missing.
+fn is_short(edition: u64, f: CodecFault) -> bool
+    ensures { λ r. ⌜ r ≡ isShort edition f ⌝ }
+{
+    match f {
+        CodecFault::Value { needed: _, had: _ } => edition == 2,
+        CodecFault::Text { at: _ } => false,
+        CodecFault::Odd => false,
+    }
+}
+
 // The turn of element k.
-fn turn_of(number: u64, k: u64, o: Outcome) -> Turn
+fn turn_of(edition: u64, number: u64, k: u64, o: Outcome) -> Turn
     requires { ⌜ (number < 1024) × (k < 256) × (reach o < 8192) ⌝ }
-    ensures { λ r. ⌜ r ≡ turnOf number k o ⌝ }
+    ensures { λ r. ⌜ r ≡ turnOf edition number k o ⌝ }
 {
     match o {
         Outcome::Misaligned => goes_on(0),
@@ -70,7 +81,7 @@ fn turn_of(number: u64, k: u64, o: Outcome) -> Turn
         Outcome::NoTarget => goes_on(0),
         Outcome::Count => goes_on(0),
         Outcome::CountRefused => goes_on(packed(number, 8, k, 0, 0, 0)),
-        Outcome::Undecodable(f) => ends(fault_event(number, k, f), false),
+        Outcome::Undecodable(f) => ends(fault_event(number, k, f), is_short(edition, f)),
         Outcome::TooLong => goes_on(packed(number, 9, k, 0, 0, 0)),
         Outcome::Stored {
             p: _,
@@ -106,11 +117,11 @@ fn act_on(
 ) -> Turn
     requires { ⌜ wellFormed (dict (now objects) (now slots) (now words) (now bytes)) ≡ true ⌝ }
     requires { ⌜ (length (now payload) ≤ 1490) × (number < 1024) × (k < 256) ⌝ }
-    ensures turn { λ r. ⌜ r ≡ turnOf number k (outcomeOf (now (objects .entry)) (now (slots .entry)) (now (payload .entry)) word) ⌝ }
+    ensures turn { λ r. ⌜ r ≡ turnOf (editionOf (now (objects .entry))) number k (outcomeOf (now (objects .entry)) (now (slots .entry)) (now (payload .entry)) word) ⌝ }
     ensures held { λ _. ⌜ contents (now (words .exit)) (now (bytes .exit)) ≡ actOf (frame (now (objects .entry)) (now (slots .entry)) (now (payload .entry)) sender number) (contents (now (words .entry)) (now (bytes .entry))) (outcomeOf (now (objects .entry)) (now (slots .entry)) (now (payload .entry)) word) ⌝ }
 {
     let o = pdo_step::step(objects, slots, words, bytes, payload, word);
-    let t = turn_of(number, k, o);
+    let t = turn_of(entry::edition_of(objects), number, k, o);
     if t.bit {
         pdo_step::set_bit(objects, slots, words, bytes, 0x1C81, sender);
     }

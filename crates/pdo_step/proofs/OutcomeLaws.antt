@@ -19,7 +19,7 @@ use Rattle.mapping.specs.declared.PdoMappingEntry.{PdoMappingEntry}
 use Rattle.mapping.specs.declared.Field.{Field}
 use Rattle.mapping.specs.declared.Field.the-variants as field
 use Rattle.mapping.proofs.WordLaws.{whole-field, entry-in-range}
-use Rattle.entry.specs.Table.{Dict, typeAt, startAt, roomAt}
+use Rattle.entry.specs.Table.{Dict, typeAt, startAt, roomAt, isMapping}
 use Rattle.entry.specs.Find.{placeOf}
 use Rattle.entry.specs.Judge.{wellFormed}
 use Rattle.entry.specs.declared.Place.{Place}
@@ -29,7 +29,6 @@ use Rattle.entry.specs.Put.{contents, filled, putIn}
 use Rattle.entry.proofs.PutLaws.{put-text, put-fixed}
 use Rattle.entry.proofs.KeepLaws.{Fits, put-element}
 use Rattle.aim.specs.Aims.{between}
-use Rattle.pdo_validator.specs.Counting.{isMapping}
 use Rattle.pdo_step.specs.declared.Outcome.{Outcome}
 use Rattle.pdo_step.specs.declared.Outcome.the-variants as outcome
 use Rattle.pdo_step.specs.Outcomes.{part, onCount, onValue, outcomeOf, Shape, reach}

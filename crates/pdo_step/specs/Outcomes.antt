@@ -12,13 +12,12 @@ use Rattle.value.specs.declared.Word.the-variants.{Takes, Fails}
 use Rattle.value.specs.declared.CodecFault.the-variants as fault
 use Rattle.mapping.specs.declared.Field.{Field}
 use Rattle.mapping.specs.declared.Field.the-variants as field
-use Rattle.entry.specs.Table.{slotEnd, typeAt, roomAt}
+use Rattle.entry.specs.Table.{slotEnd, typeAt, roomAt, isMapping}
 use Rattle.entry.specs.Find.{Rows, placeOf}
 use Rattle.entry.specs.declared.Place.the-variants.{Value}
 use Rattle.aim.specs.Aims.{aimOf, classOf}
 use Rattle.aim.specs.declared.Class.{Class}
 use Rattle.aim.specs.declared.Class.the-variants as class
-use Rattle.pdo_validator.specs.Counting.{isMapping}
 use Rattle.pdo_step.specs.declared.Outcome.{Outcome}
 use Rattle.pdo_step.specs.declared.Outcome.the-variants as outcome
 

@@ -19,7 +19,7 @@ fn at_count(index: u16, len: usize) -> Outcome
     if len == 0 {
         return Outcome::Undecodable(CodecFault::Value { needed: 1, had: 0 });
     }
-    if pdo_validator::is_mapping(index) {
+    if entry::is_mapping(index as u64) {
         return Outcome::Count;
     }
     Outcome::CountRefused

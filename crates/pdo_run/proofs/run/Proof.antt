@@ -5,7 +5,7 @@ use Prim.Native.Nat.{_+_, _-_, _≤_, _<_}
 use denote.Ref.{now}
 use lib.ListN.{length, drop, getD}
 use Rattle.lists.specs.Numbers.{Bytes}
-use Rattle.entry.specs.Table.{Dict, dict, typeAt}
+use Rattle.entry.specs.Table.{Dict, dict, typeAt, editionOf}
 use Rattle.entry.specs.Judge.{wellFormed}
 use Rattle.entry.specs.Put.{Contents, contents}
 use Rattle.entry.proofs.ValueLaws.{ValueFacts, every-value}
@@ -60,7 +60,7 @@ roomy i = let l = i .before in omega (arith, i .loop-test .taken, begin l .pre .
 abbrev here : tie.In-loop Inv-loop μ-loop → Outcome
 here i = let s = begin (i .before) in decided (F s) (getD (now (s .args .list)) (i .before .loop .j) 0)
 
-told : (a : tie.After-act-on Inv-loop μ-loop) → let i = turn a in a .act-on .result ≡ turnOf (begin (i .before) .args .number) (i .before .loop .j + 1) (here i)
+told : (a : tie.After-act-on Inv-loop μ-loop) → let i = turn a in a .act-on .result ≡ turnOf (editionOf (now (begin (i .before) .args .objects))) (begin (i .before) .args .number) (i .before .loop .j + 1) (here i)
 told a = a .act-on .ensures .0
 
 stop : (a : tie.After-act-on Inv-loop μ-loop) → a .act-on .result .stops ≡ effectOf (here (turn a)) .stops
