@@ -134,6 +134,7 @@ write-bytes d store x sub t s w bs b = rw w (go (judgeOf d (length store) x sub 
     go : (j : Judged) → judgeOf d (length store) x sub t s ≡ j → Bytes (writing.writeActOf d store sub s j .bytes)
     go (judged.Put p) q = put p q (isText (typeAt (d .slots) p)) refl
     go judged.Accepted q = b
+    go (judged.Keep i n) q = b
     go judged.Save q = b
     go judged.Restore q = b
     go (judged.NoValue f) q = b

@@ -10,7 +10,7 @@ use lib.Dec.{eqb}
 use lib.ListN.{length, drop, length-drop}
 use lib.Seq.{length-take-le}
 use Rattle.entry.specs.Model.{Val, Obj}
-use Rattle.entry.specs.Table.{Dict, modelOf, valAt, valsFrom, objAt, numberOf, kindAt, countAt, firstAt, defaultAt, typeAt, startAt, roomAt}
+use Rattle.entry.specs.Table.{Dict, dict, modelOf, valAt, valsFrom, objAt, numberOf, kindAt, countAt, firstAt, defaultAt, typeAt, startAt, roomAt}
 use Rattle.entry.specs.Find.{findRow, objectOf, objectIn, nth}
 use Rattle.entry.specs.Judge.{wellFormed}
 use Rattle.entry.specs.Put.{Contents, contents, filled}
@@ -27,11 +27,51 @@ use Rattle.given.specs.Given.{objIn}
 use Rattle.placing.specs.Place.{inserted}
 use Rattle.insertion.specs.Insert.{below, taken, answerOf, memoryAfter, memoryOf}
 use Rattle.insertion.proofs.AnswerLaws.{done-by, stays, others-stay}
+use Rattle.answers.specs.declared.Refusal.the-variants.{Malformed}
+use Rattle.rows.specs.Rows.{keptIn}
+use Rattle.rows.proofs.KeptLaws.{kept-rows}
+use Rattle.entry.proofs.SameLaws.{kind-same, count-same, first-same, row-same}
+use Rattle.writing.specs.declared.Judged.{Judged}
+use Rattle.writing.specs.declared.Judged.the-variants as judged
+use Rattle.writing.specs.declared.Wrote.the-variants as wrote
+use Rattle.writing.specs.Judging.{judgeOf}
+use Rattle.writing.specs.Writing.{afterWrite, writtenIn, writeActOf, writeOf}
 use Rattle.demand.specs.Lasting.{SameRow, Shaped}
 
 -- ---- the same rows and slots
 pub filled-shaped : (d : Dict) (c : Contents) → Shaped d (filled d c)
 filled-shaped d c x r f = record { row = r; found = f; kind = refl; count = refl; types = λ k h. refl; rooms = λ k h. refl }
+
+-- another count kept in a row: the same rows are found, with the same elements
+kept-shaped : (d : Dict) (i n : ℕ) → Shaped d (dict (keptIn i n (d .objects)) (d .slots) (d .words) (d .bytes))
+kept-shaped d i n x r f =
+    let s = kept-rows i n (d .objects) in
+    let p = first-same s r in
+    record {
+      row = r;
+      found = row-same s x ∙ f;
+      kind = kind-same s r;
+      count = count-same s r;
+      types = λ k h. ap (λ q. typeAt (d .slots) (q + k)) p;
+      rooms = λ k h. ap (λ q. roomAt (d .slots) (q + k)) p;
+    }
+
+pub write-shaped : (d : Dict) (store : List ℕ) (x sub t : ℕ) (s : List ℕ) → Shaped d (writtenIn d (writeOf d store x sub t s))
+unfolding writeOf writeActOf
+write-shaped d store x sub t s = formed (wellFormed d)
+  where
+    acted : (j : Judged) → Shaped d (writtenIn d (writeActOf d store sub s j))
+    acted (judged.Put p) = filled-shaped d _
+    acted judged.Accepted = filled-shaped d (contents (d .words) (d .bytes))
+    acted (judged.Keep i n) = kept-shaped d i n
+    acted judged.Save = filled-shaped d (contents (d .words) (d .bytes))
+    acted judged.Restore = filled-shaped d (contents (d .words) (d .bytes))
+    acted (judged.NoValue f) = filled-shaped d (contents (d .words) (d .bytes))
+    acted (judged.Refused r) = filled-shaped d (contents (d .words) (d .bytes))
+
+    formed : (b : Bool) → Shaped d (writtenIn d (cond b (writeActOf d store sub s (judgeOf d (length store) x sub t s)) (afterWrite (wrote.Refused Malformed) (d .objects) (d .words) (d .bytes) store)))
+    formed true = acted (judgeOf d (length store) x sub t s)
+    formed false = filled-shaped d (contents (d .words) (d .bytes))
 
 pub shaped-trans : (d d′ d″ : Dict) → Shaped d d′ → Shaped d′ d″ → Shaped d d″
 shaped-trans d d′ d″ a b x r f =
@@ -106,6 +146,15 @@ module _ (h : Head) (name vals encodings : List ℕ) (d : Dict) where
       go true q = again (eqb-true (h .index) x q) (answerOf h name vals encodings d) refl
       go false q = others-stay h name vals encodings d x (eqb-false (h .index) x q) ∙ e
 
+  -- and the same
+  pub insert-same : (x r r′ : ℕ) → findRow (d .objects) x ≡ At r → findRow (memoryOf h name vals encodings d .objects) x ≡ At r′ → objAt (memoryOf h name vals encodings d) r′ ≡ objAt d r
+  insert-same x r r′ f q =
+      let d′ = memoryOf h name vals encodings d in
+      let there : objectIn d (findRow (d .objects) x) ≡ some (objAt d r) = ap (objectIn d) f in
+      let e = lookup-object d′ x ∙ object-stays x (objAt d r) (sym (lookup-object d x) ∙ there) in
+      let s : some (objAt d′ r′) ≡ some (objAt d r) = sym (ap (objectIn d′) q) ∙ e in
+      cc
+
   pub insert-shaped : wellFormed d ≡ true → Shaped d (memoryOf h name vals encodings d)
   insert-shaped w x r f =
       let d′ = memoryOf h name vals encodings d in
@@ -113,10 +162,7 @@ module _ (h : Head) (name vals encodings : List ℕ) (d : Dict) where
       go (findRow (d′ .objects) x) refl (lookup-object d′ x ∙ object-stays x (objAt d r) (sym (lookup-object d x) ∙ there))
     where
       go : (g : Found) → findRow (memoryOf h name vals encodings d .objects) x ≡ g → objectIn (memoryOf h name vals encodings d) (findRow (memoryOf h name vals encodings d .objects) x) ≡ some (objAt d r) → SameRow d (memoryOf h name vals encodings d) x r
-      go (At r′) q e =
-          let d′ = memoryOf h name vals encodings d in
-          let s : some (objAt d′ r′) ≡ some (objAt d r) = sym (ap (objectIn d′) q) ∙ e in
-          same-row d d′ w (stays h name vals encodings d w) x r r′ f q (cc)
+      go (At r′) q e = same-row d (memoryOf h name vals encodings d) w (stays h name vals encodings d w) x r r′ f q (insert-same x r r′ f q)
       go Nothing q e =
           let s : none ≡ some (objAt d r) = sym (ap (objectIn (memoryOf h name vals encodings d)) q) ∙ e in
           let z : _≡_ {A = ℕ} 0 1 = cc in absurd (omega arith)

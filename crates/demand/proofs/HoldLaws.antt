@@ -29,7 +29,7 @@ use Rattle.demand.specs.Demand.{Admitted, Written}
 use Rattle.demand.specs.Lasting.{Shaped, SameWords, Keeps, Call, look, insert, write, increment-counter, update-pdo-error-object, consume-pdo-payload, consume-cycle, restore, left, leftBy, Given, AllGiven, Kept, Shaping, AllShaping}
 use Rattle.demand.proofs.DemandLaws.{passed}
 use Rattle.demand.proofs.LastLaws.{pass-lasts, shaped-keeps}
-use Rattle.demand.proofs.CallLaws.{filled-shaped, shaped-trans, insert-shaped}
+use Rattle.demand.proofs.CallLaws.{filled-shaped, write-shaped, shaped-trans, insert-shaped}
 use Rattle.demand.proofs.BytesLaws.{insert-bytes, write-bytes, consume-bytes, cycle-bytes}
 
 -- ---- each call keeps the dictionary well-formed and of bytes, a restore too
@@ -62,7 +62,7 @@ refused-stays d s first last n = go (wellFormed d) (rowsFit d s first last (numb
 pub call-shaped : (c : Call) (d : Dict) → Shaping c d → wellFormed d ≡ true → Shaped d (left c d)
 call-shaped look d s w = filled-shaped d (contents (d .words) (d .bytes))
 call-shaped (insert h name vals encodings) d s w = insert-shaped h name vals encodings d w
-call-shaped (write store x sub t v) d s w = filled-shaped d _
+call-shaped (write store x sub t v) d s w = write-shaped d store x sub t v
 call-shaped (increment-counter x sub) d s w = filled-shaped d _
 call-shaped (update-pdo-error-object x n) d s w = filled-shaped d _
 call-shaped (consume-pdo-payload payload sender version ready room log) d s w = filled-shaped d _

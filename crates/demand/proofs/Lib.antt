@@ -11,6 +11,7 @@ pub mod ReasonLaws
 pub mod ExplainLaws
 pub mod LastLaws
 pub mod CallLaws
+pub mod KeptLaws
 pub mod CycleLaws
 pub mod BytesLaws
 pub mod HoldLaws

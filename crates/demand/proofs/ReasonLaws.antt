@@ -27,13 +27,12 @@ use Rattle.mapping.specs.Word.{entryOf, fieldOf, endOf}
 use Rattle.mapping.specs.declared.Field.{Field}
 use Rattle.mapping.specs.declared.Field.the-variants as field
 use Rattle.mapping.proofs.WordLaws.{whole-field, entry-in-range}
-use Rattle.entry.specs.Table.{Dict, typeAt, roomAt}
+use Rattle.entry.specs.Table.{Dict, typeAt, roomAt, isMapping}
 use Rattle.entry.specs.Find.{placeOf}
 use Rattle.entry.specs.Put.{Contents}
 use Rattle.entry.specs.Encode.{encodingIn}
 use Rattle.entry.specs.declared.Place.{Place}
 use Rattle.entry.specs.declared.Place.the-variants.{NoObject, NoSub, Count, Value}
-use Rattle.pdo_validator.specs.Counting.{isMapping}
 use Rattle.aim.specs.Aims.{aimOf, between}
 use Rattle.aim.proofs.RangeLaws.{joined-range, no-server, no-client}
 use Rattle.aim.proofs.ClassLaws.{value-class}

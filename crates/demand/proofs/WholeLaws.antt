@@ -16,12 +16,11 @@ use Rattle.value.specs.declared.CodecFault.the-variants as cause
 use Rattle.value.proofs.CodecLaws.{encoding-fixed}
 use Rattle.mapping.specs.Word.{entryOf, fieldOf}
 use Rattle.mapping.specs.declared.Field.the-variants as field
-use Rattle.entry.specs.Table.{typeAt, roomAt}
+use Rattle.entry.specs.Table.{typeAt, roomAt, isMapping}
 use Rattle.entry.specs.Find.{placeOf}
 use Rattle.entry.specs.Put.{Contents}
 use Rattle.entry.specs.declared.Place.{Place}
 use Rattle.entry.specs.declared.Place.the-variants.{NoObject, NoSub, Count, Value}
-use Rattle.pdo_validator.specs.Counting.{isMapping}
 use Rattle.aim.specs.Aims.{between}
 use Rattle.aim.proofs.RangeLaws.{joined-range}
 use Rattle.pdo_step.specs.declared.Outcome.the-variants as outcome

@@ -6,7 +6,7 @@ use mathlib.Core.List.{List, [], _∷_}
 use lib.ListN.{getD}
 use Rattle.lists.specs.Numbers.{Bytes}
 use Rattle.mapping.specs.Word.{entryOf}
-use Rattle.entry.specs.Table.{Dict, kindAt, countAt, listCount, firstAt, typeAt, roomAt}
+use Rattle.entry.specs.Table.{Dict, kindAt, countAt, keptAt, listCount, firstAt, typeAt, roomAt}
 use Rattle.entry.specs.Find.{findRow, placeOf}
 use Rattle.entry.specs.Judge.{wellFormed}
 use Rattle.entry.specs.Put.{contents, filled}
@@ -15,7 +15,7 @@ use Rattle.entry.specs.declared.Place.the-variants.{Value}
 use Rattle.given.specs.declared.Head.{Head}
 use Rattle.insertion.specs.Insert.{memoryOf}
 use Rattle.counter.specs.Counter.{counterOf}
-use Rattle.writing.specs.Writing.{writeOf}
+use Rattle.writing.specs.Writing.{writtenIn, writeOf}
 use Rattle.restoring.specs.declared.Restored.the-variants.{Done}
 use Rattle.restoring.specs.Restore.{restoreOf}
 use Rattle.pdo_run.specs.Run.{listIn}
@@ -34,6 +34,10 @@ pub record SameRow (d d′ : Dict) (x r : ℕ) : Type 0 where
 
 abbrev pub Shaped : Dict → Dict → Type 0
 Shaped d d′ = (x r : ℕ) → findRow (d .objects) x ≡ At r → SameRow d d′ x r
+
+-- R8.7: of an object that stays, the kept count does
+abbrev pub SameKept : Dict → Dict → Type 0
+SameKept d d′ = (x r r′ : ℕ) → findRow (d .objects) x ≡ At r → findRow (d′ .objects) x ≡ At r′ → keptAt (d′ .objects) r′ ≡ keptAt (d .objects) r
 
 -- R12.10: "They change when their contents differ". Of the two records the claim needs the list 1600h+i alone.
 abbrev pub SameWords : Dict → Dict → ℕ → Type 0
@@ -72,7 +76,7 @@ pub data Call : Type 0 where
 abbrev pub left : Call → Dict → Dict
 left look d = d
 left (insert h name vals encodings) d = memoryOf h name vals encodings d
-left (write store x sub t s) d = filled d (contents (writeOf d store x sub t s .words) (writeOf d store x sub t s .bytes))
+left (write store x sub t s) d = writtenIn d (writeOf d store x sub t s)
 left (increment-counter x sub) d = filled d (contents (counterOf d x sub .words) (d .bytes))
 left (update-pdo-error-object x n) d = filled d (contents (d .words) (updateOf d x n .bytes))
 left (consume-pdo-payload payload sender version ready room log) d = filled d (consumeOf d payload sender version ready room log .contents)
@@ -117,3 +121,14 @@ Shaping (restore s first last) d = restoreOf d s first last .answer ≡ Done →
 abbrev pub AllShaping : List Call → Dict → Type 0
 AllShaping [] d = Unit {0}
 AllShaping (c ∷ cs) d = Shaping c d × AllShaping cs (left c d)
+
+-- R8.7: "Only a write keeps a count"
+abbrev pub IsWrite : Call → Type 0
+IsWrite look = ⊥
+IsWrite (insert h name vals encodings) = ⊥
+IsWrite (write store x sub t s) = Unit {0}
+IsWrite (increment-counter x sub) = ⊥
+IsWrite (update-pdo-error-object x n) = ⊥
+IsWrite (consume-pdo-payload payload sender version ready room log) = ⊥
+IsWrite (consume-cycle delivered ps log) = ⊥
+IsWrite (restore s first last) = ⊥

@@ -1,10 +1,10 @@
 -- The twelve cases, one table under one theorem: RULES.md 14. Assumes nothing.
-use Prim.Native.Nat.{ℕ}
+use Prim.Native.Nat.{ℕ, _-_}
 use mathlib.Core.Path.{_≡_, refl}
 use mathlib.Core.Bool.{Bool, true, false}
 use mathlib.Core.List.{List, [], _∷_}
 use lib.IntN.{negsuc}
-use lib.ListN.{set}
+use lib.ListN.{length, set}
 use Rattle.lists.specs.Numbers.{number}
 use Rattle.lists.specs.Lists.{over}
 use Rattle.text.specs.Machine.{judgeAt}
@@ -15,7 +15,7 @@ use Rattle.value.specs.declared.Decoded.the-variants.{Value}
 use Rattle.value.specs.declared.ObjectValue.the-variants.{Integer16}
 use Rattle.value.specs.Meaning.{readings}
 use Rattle.value.specs.Codec.{sizeOf, wordAt, textWord, decodeOf}
-use Rattle.entry.specs.Model.{Val, Obj, noExtra, allObjects, allSlots, allWords, allBytes, rowsOf, slotsOf, wordsOf, rooms}
+use Rattle.entry.specs.Model.{Val, Obj, plainly, allObjects, allSlots, allWords, allBytes, rowsOf, slotsOf, wordsOf, rooms}
 use Rattle.entry.specs.Table.{Dict, dict, listCount}
 use Rattle.entry.specs.Find.{findFrom, subAt}
 use Rattle.entry.specs.Put.{contents, putIn}
@@ -44,7 +44,7 @@ value t w = record { type = t; word = w; room = [] }
 
 -- no name, access absent
 abbrev pub object : ℕ → ℕ → ℕ → List Val → Obj
-object x kind default vs = record { index = x; kind = kind; access = 7; default = default; extra = noExtra; name = []; values = vs }
+object x kind default vs = record { index = x; kind = kind; access = 7; default = default; extra = plainly (length vs - default); name = []; values = vs }
 
 abbrev zeros : List ℕ
 zeros = 0 ∷ 0 ∷ 0 ∷ 0 ∷ 0 ∷ 0 ∷ 0 ∷ 0 ∷ 0 ∷ 0 ∷ 0 ∷ 0 ∷ 0 ∷ 0 ∷ 0 ∷ 0 ∷ 0 ∷ 0 ∷ 0 ∷ 0 ∷ 0 ∷ 0 ∷ 0 ∷ 0 ∷ 0 ∷ 0 ∷ 0 ∷ 0 ∷ 0 ∷ 0 ∷ 0 ∷ 0 ∷ []

@@ -17,9 +17,10 @@ use Rattle.element.specs.Explain.{ofPlace, ofList}
 use Rattle.element.specs.Elements.{wordVerdict}
 use Rattle.channel.specs.declared.Checked.{Checked}
 use Rattle.channel.specs.Check.{faultFrom, lastOf, onList, senderFor, hasSender}
+use Rattle.editions.proofs.SharedLaws.{u8-same, match-same}
 use Rattle.ranges.specs.Alike.{Alike}
-use Rattle.ranges.proofs.RowLaws.{kind-same, first-same, list-same, row-same, sub-same, place-same}
-use Rattle.ranges.proofs.ConsumeLaws.{u8-same, match-same}
+use Rattle.entry.proofs.SameLaws.{kind-same, first-same, row-same}
+use Rattle.ranges.proofs.RowLaws.{list-same, sub-same, place-same}
 
 verdict-same : {a b : List ℕ} → Alike a b → (s : List ℕ) (w : ℕ) → wordVerdict a s w ≡ wordVerdict b s w
 unfolding wordVerdict
@@ -33,19 +34,19 @@ fault-same h s p (w ∷ ws) j last = rw (verdict-same h s w) (rw (fault-same h s
 on-list-same : {a b : List ℕ} → Alike a b → (s w y : List ℕ) (f : Found) → onList (dict a s w y) f ≡ onList (dict b s w y) f
 on-list-same h s w y Nothing = refl
 on-list-same {a} {b} h s w y (At r) =
-    rw (kind-same h r)
-    (rw (list-same h r) (rw (first-same h r) (rw (fault-same h s (firstAt b r) (listIn b w r) 0 (lastOf (dict b s w y) r)) refl)))
+    rw (kind-same (h .rows) r)
+    (rw (list-same h r) (rw (first-same (h .rows) r) (rw (fault-same h s (firstAt b r) (listIn b w r) 0 (lastOf (dict b s w y) r)) refl)))
 
 has-sender-same : {a b : List ℕ} → Alike a b → (s w y : List ℕ) (i : ℕ) (f : Found) → hasSender (dict a s w y) i f ≡ hasSender (dict b s w y) i f
-has-sender-same h s w y i (At v) = rw (match-same h s w y (senderFor v)) refl
+has-sender-same h s w y i (At v) = rw (match-same (h .rows) s w y (senderFor v)) refl
 has-sender-same h s w y i Nothing = refl
 
 pub sender-same : {a b : List ℕ} → Alike a b → (s w y : List ℕ) (i : ℕ)
     → hasSender (dict a s w y) i (u8At (dict a s w y) (commIndex i) 1) ≡ hasSender (dict b s w y) i (u8At (dict b s w y) (commIndex i) 1)
-sender-same {a} {b} h s w y i = rw (u8-same h s w y (commIndex i) 1) (has-sender-same h s w y i (u8At (dict b s w y) (commIndex i) 1))
+sender-same {a} {b} h s w y i = rw (u8-same (h .rows) s w y (commIndex i) 1) (has-sender-same h s w y i (u8At (dict b s w y) (commIndex i) 1))
 
 pub checked-list-same : {a b : List ℕ} → Alike a b → (s w y : List ℕ) (x : ℕ) → onList (dict a s w y) (findRow a x) ≡ onList (dict b s w y) (findRow b x)
-checked-list-same {a} {b} h s w y x = rw (row-same h x) (on-list-same h s w y (findRow b x))
+checked-list-same {a} {b} h s w y x = rw (row-same (h .rows) x) (on-list-same h s w y (findRow b x))
 
 -- ---- explaining
 of-place-same : {a b : List ℕ} → Alike a b → (s w y : List ℕ) (q : Place) → ofPlace (dict a s w y) q ≡ ofPlace (dict b s w y) q
@@ -56,7 +57,7 @@ of-place-same h s w y (Value p) = let e = entryOf (getD w p 0) in rw (place-same
 
 of-list-same : {a b : List ℕ} → Alike a b → (s w y : List ℕ) (k : ℕ) (f : Found) → ofList (dict a s w y) k f ≡ ofList (dict b s w y) k f
 of-list-same h s w y k Nothing = refl
-of-list-same {a} {b} h s w y k (At r) = rw (kind-same h r) (rw (sub-same h r k) (rw (of-place-same h s w y (subAt b r k)) refl))
+of-list-same {a} {b} h s w y k (At r) = rw (kind-same (h .rows) r) (rw (sub-same h r k) (rw (of-place-same h s w y (subAt b r k)) refl))
 
 pub explained-same : {a b : List ℕ} → Alike a b → (s w y : List ℕ) (k x : ℕ) → ofList (dict a s w y) k (findRow a x) ≡ ofList (dict b s w y) k (findRow b x)
-explained-same {a} {b} h s w y k x = rw (row-same h x) (of-list-same h s w y k (findRow b x))
+explained-same {a} {b} h s w y k x = rw (row-same (h .rows) x) (of-list-same h s w y k (findRow b x))

@@ -19,17 +19,15 @@ use Rattle.pdo_run.specs.Run.{frame, actOf, runFrom, listIn, runOn}
 use Rattle.pdo_handler.specs.Consume.{onChannel, consumedBy, receivedBy}
 use Rattle.pdo_cycle.specs.Payloads.{senderOf, versionOf, readyOf, payloadOf}
 use Rattle.pdo_cycle.specs.Cycle.{delivery, receivedAt, cycleFrom}
+use Rattle.editions.proofs.SharedLaws.{u8-same, match-same, outcome-same}
 use Rattle.ranges.specs.Alike.{Alike}
-use Rattle.ranges.proofs.RowLaws.{kind-same, first-same, list-same, row-same, place-same}
+use Rattle.entry.proofs.SameLaws.{kind-same, first-same, row-same}
+use Rattle.ranges.proofs.RowLaws.{list-same, place-same}
 use Rattle.ranges.proofs.AskLaws.{marked-same}
-
-pub outcome-same : {a b : List ℕ} → Alike a b → (s payload : List ℕ) (w : ℕ) → outcomeOf a s payload w ≡ outcomeOf b s payload w
-unfolding outcomeOf
-outcome-same h s payload w = rw (place-same h (entryOf w .index) (entryOf w .«sub_index»)) refl
 
 act-same : {a b : List ℕ} → Alike a b → (s payload : List ℕ) (sender m : ℕ) (c : Contents) (o : Outcome) → actOf (frame a s payload sender m) c o ≡ actOf (frame b s payload sender m) c o
 unfolding actOf
-act-same h s payload sender m c o = rw (marked-same h s (c .words) (c .bytes) 0x1C81 sender) refl
+act-same h s payload sender m c o = rw (h .edition) (rw (marked-same h s (c .words) (c .bytes) 0x1C81 sender) refl)
 
 run-same : {a b : List ℕ} → Alike a b → (s payload : List ℕ) (sender m p : ℕ) (ws : List ℕ) (j : ℕ) (c : Contents)
     → runFrom (frame a s payload sender m) p ws j c ≡ runFrom (frame b s payload sender m) p ws j c
@@ -37,7 +35,7 @@ unfolding runFrom
 run-same h s payload sender m p [] j c = refl
 run-same {a} {b} h s payload sender m p (w ∷ ws) j c =
     let o = outcomeOf b s payload w in
-    rw (outcome-same h s payload w)
+    rw (outcome-same (h .rows) s payload w)
     (rw (act-same h s payload sender m c o)
     (rw (run-same h s payload sender m p ws (j + 1) (actOf (frame b s payload sender m) c o)) (rw (run-same h s payload sender m p ws (j + 1) c) refl)))
 
@@ -45,39 +43,22 @@ run-on-same : {a b : List ℕ} → Alike a b → (s payload : List ℕ) (sender 
     → runOn (frame a s payload sender m) c f ≡ runOn (frame b s payload sender m) c f
 run-on-same h s payload sender m c Nothing = refl
 run-on-same {a} {b} h s payload sender m c (At r) =
-    rw (kind-same h r)
-    (rw (first-same h r) (rw (list-same h r) (rw (run-same h s payload sender m (firstAt b r) (listIn b (c .words) r) 0 c) refl)))
-
-u8-in-same : (a b s w y : List ℕ) (q : Place) → u8In (dict a s w y) q ≡ u8In (dict b s w y) q
-u8-in-same a b s w y NoObject = refl
-u8-in-same a b s w y NoSub = refl
-u8-in-same a b s w y (Count n) = refl
-u8-in-same a b s w y (Value p) = refl
-
-pub u8-same : {a b : List ℕ} → Alike a b → (s w y : List ℕ) (x sub : ℕ) → u8At (dict a s w y) x sub ≡ u8At (dict b s w y) x sub
-u8-same {a} {b} h s w y x sub = u8-in-same a b s w y (placeOf a x sub) ∙ ap (u8In (dict b s w y)) (place-same h x sub)
-
-channel-same : {a b : List ℕ} → Alike a b → (s w y : List ℕ) (sender n i : ℕ) → channelFrom (dict a s w y) sender n i ≡ channelFrom (dict b s w y) sender n i
-unfolding channelFrom
-channel-same h s w y sender zero i = refl
-channel-same h s w y sender (suc n) i = rw (u8-same h s w y (commIndex i) 1) (rw (channel-same h s w y sender n (suc i)) refl)
-
-pub match-same : {a b : List ℕ} → Alike a b → (s w y : List ℕ) (sender : ℕ) → firstMatch (dict a s w y) sender ≡ firstMatch (dict b s w y) sender
-match-same h s w y sender = channel-same h s w y sender 256 0
+    rw (kind-same (h .rows) r)
+    (rw (first-same (h .rows) r) (rw (list-same h r) (rw (run-same h s payload sender m (firstAt b r) (listIn b (c .words) r) 0 c) refl)))
 
 on-channel-same : {a b : List ℕ} → Alike a b → (s payload : List ℕ) (sender m : ℕ) (c : Contents) (version : ℕ) (f : Found)
     → onChannel (frame a s payload sender m) c version f ≡ onChannel (frame b s payload sender m) c version f
 on-channel-same h s payload sender m c version Nothing = refl
 on-channel-same {a} {b} h s payload sender m c version (At i) =
-    rw (u8-same h s (c .words) (c .bytes) (commIndex i) 2)
-    (rw (row-same h (0x1600 + i))
+    rw (u8-same (h .rows) s (c .words) (c .bytes) (commIndex i) 2)
+    (rw (row-same (h .rows) (0x1600 + i))
     (rw (run-on-same h s payload sender m c (findRow b (0x1600 + i))) (rw (marked-same h s (c .words) (c .bytes) 0x1C80 sender) refl)))
 
 consumed-same : {a b : List ℕ} → Alike a b → (s payload : List ℕ) (sender m : ℕ) (c : Contents) (version : ℕ)
     → consumedBy (frame a s payload sender m) c version ≡ consumedBy (frame b s payload sender m) c version
 unfolding consumedBy
 consumed-same {a} {b} h s payload sender m c version =
-    rw (match-same h s (c .words) (c .bytes) sender)
+    rw (match-same (h .rows) s (c .words) (c .bytes) sender)
     (on-channel-same h s payload sender m c version (firstMatch (dict b s (c .words) (c .bytes)) sender))
 
 pub received-same : {a b : List ℕ} → Alike a b → (s payload : List ℕ) (sender m : ℕ) (c : Contents) (version : ℕ) (ready : Bool)

@@ -33,7 +33,7 @@ use Rattle.element.specs.Explain.{explainOf}
 use Rattle.channel.specs.Check.{checkOf}
 use Rattle.channel.specs.All.{onComm, linesFrom, checkAllOf}
 use Rattle.ranges.specs.Alike.{cleared, rowed, rangeless}
-use Rattle.ranges.proofs.RowLaws.{row-same}
+use Rattle.entry.proofs.SameLaws.{row-same}
 use Rattle.ranges.proofs.AskLaws.{read-same, counter-same, mapping-count-same, name-from-same, nodes-same, marked-same}
 use Rattle.ranges.proofs.ConsumeLaws.{received-same, cycle-same}
 use Rattle.ranges.proofs.StoreLaws.{offered-same, rows-fit-same, rows-restored-same}
@@ -51,7 +51,7 @@ name-ignores d w name =
     let h = cleared-alike (d .objects) in
     rw w
     (rw (rangeless-well-formed d w)
-    (rw (sym (h .number)) (rw (name-from-same h (d .slots) (d .words) (d .bytes) name (numberOf (d .objects)) 0) refl)))
+    (rw (sym (h .rows .number)) (rw (name-from-same h (d .slots) (d .words) (d .bytes) name (numberOf (d .objects)) 0) refl)))
 
 pub nodes-ignore : (d : Dict) → wellFormed d ≡ true → (out : List ℕ) → cnsOf d out ≡ cnsOf (rangeless d) out
 unfolding cnsOf
@@ -117,7 +117,7 @@ restore-ignores d w s first last =
     let n = numberOf (d .objects) in
     rw w
     (rw (rangeless-well-formed d w)
-    (rw (sym (h .number))
+    (rw (sym (h .rows .number))
     (rw (rows-fit-same d b h s first last n 0)
     (either-way (rowsFit (rangeless d) s first last n 0) (afterRestore Done (rowsRestored d s first last n 0)) (afterRestore (Refused TooLong) d) (afterRestore Done (rowsRestored (rangeless d) s first last n 0)) (afterRestore (Refused TooLong) (rangeless d)) b (refl, rows-restored-same d b h s first last n 0) (refl, refl)))))
 
@@ -138,7 +138,7 @@ lines-ignore : (d : Dict) → wellFormed d ≡ true → (n i : ℕ) → linesFro
 unfolding linesFrom
 lines-ignore d w zero i = refl
 lines-ignore d w (suc n) i =
-    rw (row-same (cleared-alike (d .objects)) (commIndex i))
+    rw (row-same (cleared-alike (d .objects) .rows) (commIndex i))
     (rw (lines-ignore d w n (i + 1)) (line-ignores d w i (linesFrom (rangeless d) n (i + 1)) (findRow (cleared 0 (d .objects)) (commIndex i))))
 
 pub check-all-ignores : (d : Dict) → wellFormed d ≡ true → (out : List ℕ) → checkAllOf d out ≡ checkAllOf (rangeless d) out

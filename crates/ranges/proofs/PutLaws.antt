@@ -18,7 +18,7 @@ use Rattle.entry.specs.Judge.{wellFormed}
 use Rattle.entry.specs.declared.Found.the-variants.{At}
 use Rattle.entry.proofs.JudgeLaws.{and-true}
 use Rattle.writing.specs.declared.Judged.{Judged}
-use Rattle.writing.specs.declared.Judged.the-variants.{Put, Accepted, Save, Restore, NoValue, Refused}
+use Rattle.writing.specs.declared.Judged.the-variants.{Put, Accepted, Keep, Save, Restore, NoValue, Refused}
 use Rattle.writing.specs.declared.Wrote.the-variants as wrote
 use Rattle.writing.specs.Judging.{outside, judgeOf}
 use Rattle.writing.specs.Writing.{afterWrite, writeActOf, writeOf}
@@ -45,10 +45,11 @@ pub written-in-range : (d : Dict) (store : List ℕ) (x sub t : ℕ) (s : List �
 unfolding writeOf writeActOf
 written-in-range d store x sub t s i f one r changed = go (wellFormed d) (judgeOf d (length store) x sub t s) refl changed
   where
-    go : (b : Bool) (j : Judged) → judgeOf d (length store) x sub t s ≡ j → ((cond b (writeActOf d store sub s j) (afterWrite (wrote.Refused Malformed) (d .words) (d .bytes) store)) .words ≡ d .words → ⊥) → Between t (number s) (extraAt (d .objects) i)
+    go : (b : Bool) (j : Judged) → judgeOf d (length store) x sub t s ≡ j → ((cond b (writeActOf d store sub s j) (afterWrite (wrote.Refused Malformed) (d .objects) (d .words) (d .bytes) store)) .words ≡ d .words → ⊥) → Between t (number s) (extraAt (d .objects) i)
     go false j e c = absurd (c refl)
     go true (Put p) e c = put-in-range d (length store) x sub t s p i e f one r
     go true Accepted e c = absurd (c refl)
+    go true (Keep k m) e c = absurd (c refl)
     go true Save e c = absurd (c refl)
     go true Restore e c = absurd (c refl)
     go true (NoValue g) e c = absurd (c refl)

@@ -14,17 +14,17 @@ use Rattle.fitting.specs.declared.Choice.{Choice}
 use Rattle.fitting.specs.declared.Choice.the-variants.{Keep, Stored, Default}
 use Rattle.restoring.specs.Restore.{restoredBy, valuesRestored, rowsRestored}
 use Rattle.ranges.specs.Alike.{Alike, rowed}
-use Rattle.ranges.proofs.RowLaws.{index-same, kind-same, access-same, count-same, first-same, default-same}
+use Rattle.entry.proofs.SameLaws.{index-same, kind-same, access-same, count-same, first-same, default-same}
 
 -- ---- a save
 offers-same : {a b : List ℕ} → Alike a b → (first last i : ℕ) → offers a first last i ≡ offers b first last i
 unfolding offers toStore
-offers-same h first last i = rw (index-same h i) (rw (access-same h i) (rw (count-same h i) refl))
+offers-same h first last i = rw (index-same (h .rows) i) (rw (access-same (h .rows) i) (rw (count-same (h .rows) i) refl))
 
 records-same : {a b : List ℕ} → Alike a b → (s w y : List ℕ) (i n k : ℕ) → recsIn (dict a s w y) i n k ≡ recsIn (dict b s w y) i n k
 unfolding recsIn
 records-same h s w y i zero k = refl
-records-same h s w y i (suc n) k = rw (index-same h i) (rw (kind-same h i) (rw (first-same h i) (rw (records-same h s w y i n (suc k)) refl)))
+records-same h s w y i (suc n) k = rw (index-same (h .rows) i) (rw (kind-same (h .rows) i) (rw (first-same (h .rows) i) (rw (records-same h s w y i n (suc k)) refl)))
 
 from-offered : {a b : List ℕ} → Alike a b → (s w y : List ℕ) (first last n i : ℕ) → offeredFrom (dict a s w y) first last n i ≡ offeredFrom (dict b s w y) first last n i
 unfolding offeredFrom
@@ -34,16 +34,16 @@ from-offered {a} {b} h s w y first last (suc n) i =
 
 pub offered-same : {a b : List ℕ} → Alike a b → (s w y : List ℕ) (first last : ℕ) → offeredIn (dict a s w y) first last ≡ offeredIn (dict b s w y) first last
 offered-same {a} {b} h s w y first last =
-    from-offered h s w y first last (numberOf a) 0 ∙ ap (λ n. offeredFrom (dict b s w y) first last n 0) (h .number)
+    from-offered h s w y first last (numberOf a) 0 ∙ ap (λ n. offeredFrom (dict b s w y) first last n 0) (h .rows .number)
 
 -- ---- a restore: what is chosen, and whether it fits
 choice-same : (d : Dict) (b : List ℕ) → Alike (d .objects) b → (i k : ℕ) (f : Found) → choiceOf d i k f ≡ choiceOf (rowed d b) i k f
 choice-same d b h i k (At a) = refl
-choice-same d b h i k Nothing = rw (default-same h i) (rw (kind-same h i) (rw (first-same h i) (rw (count-same h i) refl)))
+choice-same d b h i k Nothing = rw (default-same (h .rows) i) (rw (kind-same (h .rows) i) (rw (first-same (h .rows) i) (rw (count-same (h .rows) i) refl)))
 
 chosen-same : (d : Dict) (b : List ℕ) → Alike (d .objects) b → (s : List ℕ) (i k : ℕ) → chosenAt d s i k ≡ chosenAt (rowed d b) s i k
 unfolding chosenAt
-chosen-same d b h s i k = rw (index-same h i) (rw (kind-same h i) (choice-same d b h i k (recordOf s (keyAt b i k))))
+chosen-same d b h s i k = rw (index-same (h .rows) i) (rw (kind-same (h .rows) i) (choice-same d b h i k (recordOf s (keyAt b i k))))
 
 fits-same : (d : Dict) (b s : List ℕ) (p : ℕ) (c : Choice) → fitsRoom d s p c ≡ fitsRoom (rowed d b) s p c
 unfolding fitsRoom
@@ -56,15 +56,15 @@ unfolding valuesFit
 values-fit-same d b h s i zero k = refl
 values-fit-same d b h s i (suc n) k =
     rw (chosen-same d b h s i k)
-    (rw (first-same h i)
+    (rw (first-same (h .rows) i)
     (rw (fits-same d b s (slotIn b i k) (chosenAt (rowed d b) s i k)) (rw (values-fit-same d b h s i n (suc k)) refl)))
 
 pub rows-fit-same : (d : Dict) (b : List ℕ) → Alike (d .objects) b → (s : List ℕ) (first last n i : ℕ) → rowsFit d s first last n i ≡ rowsFit (rowed d b) s first last n i
 unfolding rowsFit
 rows-fit-same d b h s first last zero i = refl
 rows-fit-same d b h s first last (suc n) i =
-    rw (index-same h i)
-    (rw (count-same h i) (rw (values-fit-same d b h s i (countAt b i) 0) (rw (rows-fit-same d b h s first last n (suc i)) refl)))
+    rw (index-same (h .rows) i)
+    (rw (count-same (h .rows) i) (rw (values-fit-same d b h s i (countAt b i) 0) (rw (rows-fit-same d b h s first last n (suc i)) refl)))
 
 -- ---- what it puts: the same under other rows, and never a row
 pub rows-stay-by : (d : Dict) (s : List ℕ) (p : ℕ) (c : Choice) → restoredBy d s p c .objects ≡ d .objects
@@ -100,7 +100,7 @@ values-restored-same d b h s i (suc n) k =
     ∙ ap (λ x. valuesRestored x s i n (suc k)) (restored-by-same d b s p c ∙ step)
   where
     step : restoredBy (rowed d b) s (slotIn (d .objects) i k) (chosenAt d s i k) ≡ restoredBy (rowed d b) s (slotIn b i k) (chosenAt (rowed d b) s i k)
-    step = rw (chosen-same d b h s i k) (rw (first-same h i) refl)
+    step = rw (chosen-same d b h s i k) (rw (first-same (h .rows) i) refl)
 
 abbrev row-restored : Dict → List ℕ → ℕ → ℕ → ℕ → Dict
 row-restored d s first last i = cond (inRange first last (indexAt (d .objects) i)) (valuesRestored d s i (countAt (d .objects) i) 0) d
@@ -113,7 +113,7 @@ row-stays d s first last i = go (inRange first last (indexAt (d .objects) i))
     go false = refl
 
 row-restored-same : (d : Dict) (b : List ℕ) → Alike (d .objects) b → (s : List ℕ) (first last i : ℕ) → rowed (row-restored d s first last i) b ≡ row-restored (rowed d b) s first last i
-row-restored-same d b h s first last i = go (inRange first last (indexAt (d .objects) i)) ∙ rw (index-same h i) (rw (count-same h i) refl)
+row-restored-same d b h s first last i = go (inRange first last (indexAt (d .objects) i)) ∙ rw (index-same (h .rows) i) (rw (count-same (h .rows) i) refl)
   where
     go : (q : Bool) → rowed (cond q (valuesRestored d s i (countAt (d .objects) i) 0) d) b ≡ cond q (valuesRestored (rowed d b) s i (countAt (d .objects) i) 0) (rowed d b)
     go true = values-restored-same d b h s i (countAt (d .objects) i) 0

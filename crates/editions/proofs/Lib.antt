@@ -1,0 +1,2 @@
+pub mod SharedLaws
+pub mod CountLaws
