@@ -15,11 +15,11 @@ use od::Number;
 use od::Stored;
 
 #[no_mangle]
-pub extern "C" fn loomfinch_new(objects: &mut [u64]) -> u64
-    ensures answer { λ r. ⌜ r ≡ answerNumber (newOf (now (objects .entry)) .answer) ⌝ }
-    ensures memory { λ _. ⌜ now (objects .exit) ≡ newOf (now (objects .entry)) .objects ⌝ }
+pub extern "C" fn loomfinch_new(objects: &mut [u64], edition: u64) -> u64
+    ensures answer { λ r. ⌜ r ≡ answerNumber (newOf edition (now (objects .entry)) .answer) ⌝ }
+    ensures memory { λ _. ⌜ now (objects .exit) ≡ newOf edition (now (objects .entry)) .objects ⌝ }
 {
-    number_of(od::new(objects))
+    number_of(od::new(objects, edition))
 }
 
 fn inserted(a: Inserted) -> u64

@@ -28,7 +28,7 @@ fn wrote(a: Wrote, place: &mut u64, had: &mut u64) -> u64
 
 #[no_mangle]
 pub extern "C" fn loomfinch_write(
-    objects: &[u64],
+    objects: &mut [u64],
     slots: &[u64],
     words: &mut [u64],
     bytes: &mut [u8],
@@ -41,6 +41,7 @@ pub extern "C" fn loomfinch_write(
     had: &mut u64,
 ) -> u64
     ensures answer { λ r. ⌜ r ≡ wroteNumber (writeOf (dict (now (objects .entry)) (now (slots .entry)) (now (words .entry)) (now (bytes .entry))) (now (store .entry)) index «sub_index» «type_number» (now («data» .entry)) .answer) ⌝ }
+    ensures objects { λ _. ⌜ now (objects .exit) ≡ writeOf (dict (now (objects .entry)) (now (slots .entry)) (now (words .entry)) (now (bytes .entry))) (now (store .entry)) index «sub_index» «type_number» (now («data» .entry)) .objects ⌝ }
     ensures words { λ _. ⌜ now (words .exit) ≡ writeOf (dict (now (objects .entry)) (now (slots .entry)) (now (words .entry)) (now (bytes .entry))) (now (store .entry)) index «sub_index» «type_number» (now («data» .entry)) .words ⌝ }
     ensures bytes { λ _. ⌜ now (bytes .exit) ≡ writeOf (dict (now (objects .entry)) (now (slots .entry)) (now (words .entry)) (now (bytes .entry))) (now (store .entry)) index «sub_index» «type_number» (now («data» .entry)) .bytes ⌝ }
     ensures store { λ _. ⌜ now (store .exit) ≡ writeOf (dict (now (objects .entry)) (now (slots .entry)) (now (words .entry)) (now (bytes .entry))) (now (store .entry)) index «sub_index» «type_number» (now («data» .entry)) .store ⌝ }

@@ -15,6 +15,7 @@ use Rattle.value.specs.declared.Encoded.the-variants as encoded
 use Rattle.value.specs.Codec as codec
 use Rattle.value.specs.Codec.{sayable, encoding, encodeOf}
 use Rattle.entry.specs.Table.{Dict, numberOf}
+use Rattle.entry.specs.Rules.{isEdition}
 use Rattle.entry.specs.Judge.{wellFormed}
 use Rattle.entry.specs.Put.{contents}
 use Rattle.given.specs.declared.Head.{Head}
@@ -68,8 +69,11 @@ either answer said same true x y p q = p
 either answer said same false x y p q = q
 
 -- ---- the dictionary
-pub new-refused : (objects : List ℕ) → Refuses Made Answer (λ y. y .answer) answer.Refused (λ a. made a objects) (newOf objects)
-new-refused objects = join (ltb (length objects) 12) _ _ (λ r e. ap same e) (λ r (e : answer.Done ≡ answer.Refused r). let z : _≡_ {A = ℕ} 0 1 = cc in absurd (omega arith))
+pub new-refused : (edition : ℕ) (objects : List ℕ) → Refuses Made Answer (λ y. y .answer) answer.Refused (λ a. made a objects) (newOf edition objects)
+new-refused edition objects =
+    join (isEdition edition) _ _
+    (join (ltb (length objects) 12) _ _ (λ r e. ap same e) (λ r (e : answer.Done ≡ answer.Refused r). let z : _≡_ {A = ℕ} 0 1 = cc in absurd (omega arith)))
+    (λ r e. ap same e)
   where
     same : Answer → Made
     same a = made a objects
@@ -111,45 +115,47 @@ cns-refused d out = join (wellFormed d) _ _ (join (ltb (length out) (length (nod
     join = either (λ (y : AfterListing). y .answer) listing.Refused same
 
 -- ---- writing and restoring
-pub write-refused : (d : Dict) (store : List ℕ) (x sub t : ℕ) (s : List ℕ) → Refuses writing.AfterWrite Wrote (λ y. y .answer) wrote.Refused (λ a. writing.afterWrite a (d .words) (d .bytes) store) (writeOf d store x sub t s)
+pub write-refused : (d : Dict) (store : List ℕ) (x sub t : ℕ) (s : List ℕ) → Refuses writing.AfterWrite Wrote (λ y. y .answer) wrote.Refused (λ a. writing.afterWrite a (d .objects) (d .words) (d .bytes) store) (writeOf d store x sub t s)
 unfolding writeOf writing.writeActOf saveOf
 write-refused d store x sub t s = join (wellFormed d) _ _ (act (judgeOf d (length store) x sub t s)) (λ r e. ap same e)
   where
     same : Wrote → writing.AfterWrite
-    same a = writing.afterWrite a (d .words) (d .bytes) store
+    same a = writing.afterWrite a (d .objects) (d .words) (d .bytes) store
 
     join : (b : Bool) (x y : writing.AfterWrite) → Refuses writing.AfterWrite Wrote (λ y. y .answer) wrote.Refused same x → Refuses writing.AfterWrite Wrote (λ y. y .answer) wrote.Refused same y → Refuses writing.AfterWrite Wrote (λ y. y .answer) wrote.Refused same (cond b x y)
     join = either (λ (y : writing.AfterWrite). y .answer) wrote.Refused same
 
-    saving : (b : Bool) (st : List ℕ) → Refuses writing.AfterWrite Wrote (λ y. y .answer) wrote.Refused same (let y = cond b (commands.afterSave saved.Done st) (commands.afterSave (saved.Refused refusal.StoreFull) store) in writing.afterWrite (writing.savedAs (y .answer)) (d .words) (d .bytes) (y .store))
+    saving : (b : Bool) (st : List ℕ) → Refuses writing.AfterWrite Wrote (λ y. y .answer) wrote.Refused same (let y = cond b (commands.afterSave saved.Done st) (commands.afterSave (saved.Refused refusal.StoreFull) store) in writing.afterWrite (writing.savedAs (y .answer)) (d .objects) (d .words) (d .bytes) (y .store))
     saving true st = (λ r (e : wrote.Done ≡ wrote.Refused r). let z : _≡_ {A = ℕ} 0 1 = cc in absurd (omega arith))
     saving false st = λ r e. ap same e
 
     act : (j : Judged) → Refuses writing.AfterWrite Wrote (λ y. y .answer) wrote.Refused same (writing.writeActOf d store sub s j)
     act (judged.Put p) = (λ r (e : wrote.Done ≡ wrote.Refused r). let z : _≡_ {A = ℕ} 0 1 = cc in absurd (omega arith))
     act judged.Accepted = (λ r (e : wrote.Done ≡ wrote.Refused r). let z : _≡_ {A = ℕ} 0 1 = cc in absurd (omega arith))
+    act (judged.Keep i n) = (λ r (e : wrote.Done ≡ wrote.Refused r). let z : _≡_ {A = ℕ} 0 1 = cc in absurd (omega arith))
     act judged.Save = saving (fits (newTable d sub store) store) _
     act judged.Restore = (λ r (e : wrote.RestoreRequested ≡ wrote.Refused r). let z : _≡_ {A = ℕ} 0 1 = cc in absurd (omega arith))
     act (judged.NoValue f) = (λ r (e : wrote.NoValue f ≡ wrote.Refused r). let z : _≡_ {A = ℕ} 0 1 = cc in absurd (omega arith))
     act (judged.Refused q) = λ r e. ap same e
 
-pub write-no-value-refused : (d : Dict) (store : List ℕ) (x sub t : ℕ) (s : List ℕ) → Refuses writing.AfterWrite Wrote (λ y. y .answer) wrote.NoValue (λ a. writing.afterWrite a (d .words) (d .bytes) store) (writeOf d store x sub t s)
+pub write-no-value-refused : (d : Dict) (store : List ℕ) (x sub t : ℕ) (s : List ℕ) → Refuses writing.AfterWrite Wrote (λ y. y .answer) wrote.NoValue (λ a. writing.afterWrite a (d .objects) (d .words) (d .bytes) store) (writeOf d store x sub t s)
 unfolding writeOf writing.writeActOf
 write-no-value-refused d store x sub t s = join (wellFormed d) _ _ (act (judgeOf d (length store) x sub t s)) (λ f (e : wrote.Refused refusal.Malformed ≡ wrote.NoValue f). let z : _≡_ {A = ℕ} 0 1 = cc in absurd (omega arith))
   where
     same : Wrote → writing.AfterWrite
-    same a = writing.afterWrite a (d .words) (d .bytes) store
+    same a = writing.afterWrite a (d .objects) (d .words) (d .bytes) store
 
     join : (b : Bool) (x y : writing.AfterWrite) → Refuses writing.AfterWrite Wrote (λ y. y .answer) wrote.NoValue same x → Refuses writing.AfterWrite Wrote (λ y. y .answer) wrote.NoValue same y → Refuses writing.AfterWrite Wrote (λ y. y .answer) wrote.NoValue same (cond b x y)
     join = either (λ (y : writing.AfterWrite). y .answer) wrote.NoValue same
 
-    saving : (a : Saved) (st : List ℕ) → Refuses writing.AfterWrite Wrote (λ y. y .answer) wrote.NoValue same (writing.afterWrite (writing.savedAs a) (d .words) (d .bytes) st)
+    saving : (a : Saved) (st : List ℕ) → Refuses writing.AfterWrite Wrote (λ y. y .answer) wrote.NoValue same (writing.afterWrite (writing.savedAs a) (d .objects) (d .words) (d .bytes) st)
     saving saved.Done st = (λ f (e : wrote.Done ≡ wrote.NoValue f). let z : _≡_ {A = ℕ} 0 1 = cc in absurd (omega arith))
     saving (saved.Refused r) st = (λ f (e : wrote.Refused r ≡ wrote.NoValue f). let z : _≡_ {A = ℕ} 0 1 = cc in absurd (omega arith))
 
     act : (j : Judged) → Refuses writing.AfterWrite Wrote (λ y. y .answer) wrote.NoValue same (writing.writeActOf d store sub s j)
     act (judged.Put p) = (λ f (e : wrote.Done ≡ wrote.NoValue f). let z : _≡_ {A = ℕ} 0 1 = cc in absurd (omega arith))
     act judged.Accepted = (λ f (e : wrote.Done ≡ wrote.NoValue f). let z : _≡_ {A = ℕ} 0 1 = cc in absurd (omega arith))
+    act (judged.Keep i n) = (λ f (e : wrote.Done ≡ wrote.NoValue f). let z : _≡_ {A = ℕ} 0 1 = cc in absurd (omega arith))
     act judged.Save = saving (saveOf d store sub .answer) (saveOf d store sub .store)
     act judged.Restore = (λ f (e : wrote.RestoreRequested ≡ wrote.NoValue f). let z : _≡_ {A = ℕ} 0 1 = cc in absurd (omega arith))
     act (judged.NoValue g) = λ f e. ap same e

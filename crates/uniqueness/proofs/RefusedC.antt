@@ -148,8 +148,8 @@ refused-answer : (a : Answer) (r : Refusal) → answerNumber a ≡ refusalNumber
 refused-answer answer.Done r e = no-refusal r e
 refused-answer (answer.Refused k) r e = (k, refl)
 
-pub c-new-refused : (objects : List ℕ) (r : Refusal) → answerNumber (newOf objects .answer) ≡ refusalNumber r → newOf objects .objects ≡ objects
-c-new-refused objects r e = let k = refused-answer (newOf objects .answer) r e in ap (λ (y : Made). y .objects) (new-refused objects (k .0) (k .1))
+pub c-new-refused : (edition : ℕ) (objects : List ℕ) (r : Refusal) → answerNumber (newOf edition objects .answer) ≡ refusalNumber r → newOf edition objects .objects ≡ objects
+c-new-refused edition objects r e = let k = refused-answer (newOf edition objects .answer) r e in ap (λ (y : Made). y .objects) (new-refused edition objects (k .0) (k .1))
 
 pub c-insert-refused : (h : Head) (name vals encodings : List ℕ) (d : Dict) (r : Refusal) → insertedNumber (answerOf h name vals encodings d) ≡ refusalNumber r → memoryOf h name vals encodings d ≡ d
 c-insert-refused h name vals encodings d r e = go (answerOf h name vals encodings d) refl e
@@ -195,18 +195,18 @@ pub c-increment-counter-refused : (d : Dict) (x sub : ℕ) (r : Refusal) → ans
 c-increment-counter-refused d x sub r e = let k = refused-answer (counterOf d x sub .answer) r e in ap (λ (y : AfterIncrement). y .words) (counter-refused d x sub (k .0) (k .1))
 
 -- ---- writing and restoring
-pub c-write-refused : (d : Dict) (store : List ℕ) (x sub t : ℕ) (s : List ℕ) (r : Refusal) → let y = writeOf d store x sub t s in wroteNumber (y .answer) ≡ refusalNumber r → (y .words ≡ d .words) × (y .bytes ≡ d .bytes) × (y .store ≡ store)
+pub c-write-refused : (d : Dict) (store : List ℕ) (x sub t : ℕ) (s : List ℕ) (r : Refusal) → let y = writeOf d store x sub t s in wroteNumber (y .answer) ≡ refusalNumber r → (y .objects ≡ d .objects) × (y .words ≡ d .words) × (y .bytes ≡ d .bytes) × (y .store ≡ store)
 c-write-refused d store x sub t s r e = go (writeOf d store x sub t s .answer) refl e
   where
-    go : (a : Wrote) → writeOf d store x sub t s .answer ≡ a → wroteNumber a ≡ refusalNumber r → (writeOf d store x sub t s .words ≡ d .words) × (writeOf d store x sub t s .bytes ≡ d .bytes) × (writeOf d store x sub t s .store ≡ store)
+    go : (a : Wrote) → writeOf d store x sub t s .answer ≡ a → wroteNumber a ≡ refusalNumber r → (writeOf d store x sub t s .objects ≡ d .objects) × (writeOf d store x sub t s .words ≡ d .words) × (writeOf d store x sub t s .bytes ≡ d .bytes) × (writeOf d store x sub t s .store ≡ store)
     go wrote.Done q e = no-refusal r e
     go wrote.RestoreRequested q e = absurd (omega (arith, e, range r .1))
     go (wrote.NoValue f) q e =
         let h = write-no-value-refused d store x sub t s f q in
-        (ap (λ (y : writing.AfterWrite). y .words) h, ap (λ (y : writing.AfterWrite). y .bytes) h, ap (λ (y : writing.AfterWrite). y .store) h)
+        (ap (λ (y : writing.AfterWrite). y .objects) h, ap (λ (y : writing.AfterWrite). y .words) h, ap (λ (y : writing.AfterWrite). y .bytes) h, ap (λ (y : writing.AfterWrite). y .store) h)
     go (wrote.Refused k) q e =
         let h = write-refused d store x sub t s k q in
-        (ap (λ (y : writing.AfterWrite). y .words) h, ap (λ (y : writing.AfterWrite). y .bytes) h, ap (λ (y : writing.AfterWrite). y .store) h)
+        (ap (λ (y : writing.AfterWrite). y .objects) h, ap (λ (y : writing.AfterWrite). y .words) h, ap (λ (y : writing.AfterWrite). y .bytes) h, ap (λ (y : writing.AfterWrite). y .store) h)
 
 pub c-restore-refused : (d : Dict) (s : List ℕ) (first last : ℕ) (r : Refusal) → restoredNumber (restoreOf d s first last .answer) ≡ refusalNumber r → restoreOf d s first last .memory ≡ d
 c-restore-refused d s first last r e = go (restoreOf d s first last .answer) refl e

@@ -55,8 +55,8 @@ use Rattle.uniqueness.proofs.Refused.{encode-refused, new-refused, inse
 pub encode-stays : Stays 2 encode-kinds.ps encode-kinds.r encode.Post (λ κs. RefusedBy encoded.Refused) (λ κs a. (tt, (tt, (now (a .1 .1 .0), tt))))
 encode-stays κs a z w p r = ap (λ (x : codec.AfterEncode). (tt, (tt, (x .out, tt)))) (p ∙ encode-refused _ _ _ _ (r .0) (sym (ap (λ (x : codec.AfterEncode). x .answer) p) ∙ r .1))
 
-pub new-stays : Stays 1 new-kinds.ps new-kinds.r new.Post (λ κs. RefusedBy answered.Refused) (λ κs a. (now (a .0), tt))
-new-stays κs a z w p r = ap (λ (x : Made). (x .objects, tt)) (p ∙ new-refused _ (r .0) (sym (ap (λ (x : Made). x .answer) p) ∙ r .1))
+pub new-stays : Stays 1 new-kinds.ps new-kinds.r new.Post (λ κs. RefusedBy answered.Refused) (λ κs a. (now (a .0), (tt, tt)))
+new-stays κs a z w p r = ap (λ (x : Made). (x .objects, (tt, tt))) (p ∙ new-refused _ _ (r .0) (sym (ap (λ (x : Made). x .answer) p) ∙ r .1))
 
 pub insert-stays : Stays 7 insert-kinds.ps insert-kinds.r insert.Post (λ κs. RefusedBy inserting.Refused) (λ κs a. (now (a .0), (now (a .1 .0), (now (a .1 .1 .0), (now (a .1 .1 .1 .0), (tt, (tt, (tt, (tt, tt)))))))))
 insert-stays κs a z w p r = ap (λ (x : Dict). (x .objects, (x .slots, (x .words, (x .bytes, (tt, (tt, (tt, (tt, tt))))))))) (p .1 ∙ insert-refused _ _ _ _ _ (r .0) (sym (p .0) ∙ r .1))
@@ -67,11 +67,11 @@ get-configured-cns-stays κs a z w p r = ap (λ (x : AfterListing). (tt, (tt, (t
 pub increment-counter-stays : Stays 4 increment-counter-kinds.ps increment-counter-kinds.r increment-counter.Post (λ κs. RefusedBy answered.Refused) (λ κs a. (tt, (tt, (now (a .1 .1 .0), (tt, (tt, (tt, tt)))))))
 increment-counter-stays κs a z w p r = ap (λ (x : AfterIncrement). (tt, (tt, (x .words, (tt, (tt, (tt, tt))))))) (p ∙ counter-refused _ _ _ (r .0) (sym (ap (λ (x : AfterIncrement). x .answer) p) ∙ r .1))
 
-pub write-stays : Stays 6 write-kinds.ps write-kinds.r write.Post (λ κs. RefusedBy wrote.Refused) (λ κs a. (tt, (tt, (now (a .1 .1 .0), (now (a .1 .1 .1 .0), (now (a .1 .1 .1 .1 .0), (tt, (tt, (tt, (tt, tt))))))))))
-write-stays κs a z w p r = ap (λ (x : writing.AfterWrite). (tt, (tt, (x .words, (x .bytes, (x .store, (tt, (tt, (tt, (tt, tt)))))))))) (p ∙ write-refused _ _ _ _ _ _ (r .0) (sym (ap (λ (x : writing.AfterWrite). x .answer) p) ∙ r .1))
+pub write-stays : Stays 6 write-kinds.ps write-kinds.r write.Post (λ κs. RefusedBy wrote.Refused) (λ κs a. (now (a .0), (tt, (now (a .1 .1 .0), (now (a .1 .1 .1 .0), (now (a .1 .1 .1 .1 .0), (tt, (tt, (tt, (tt, tt))))))))))
+write-stays κs a z w p r = ap (λ (x : writing.AfterWrite). (x .objects, (tt, (x .words, (x .bytes, (x .store, (tt, (tt, (tt, (tt, tt)))))))))) (p ∙ write-refused _ _ _ _ _ _ (r .0) (sym (ap (λ (x : writing.AfterWrite). x .answer) p) ∙ r .1))
 
-pub write-no-value-stays : Stays 6 write-kinds.ps write-kinds.r write.Post (λ κs. RefusedBy wrote.NoValue) (λ κs a. (tt, (tt, (now (a .1 .1 .0), (now (a .1 .1 .1 .0), (now (a .1 .1 .1 .1 .0), (tt, (tt, (tt, (tt, tt))))))))))
-write-no-value-stays κs a z w p r = ap (λ (x : writing.AfterWrite). (tt, (tt, (x .words, (x .bytes, (x .store, (tt, (tt, (tt, (tt, tt)))))))))) (p ∙ write-no-value-refused _ _ _ _ _ _ (r .0) (sym (ap (λ (x : writing.AfterWrite). x .answer) p) ∙ r .1))
+pub write-no-value-stays : Stays 6 write-kinds.ps write-kinds.r write.Post (λ κs. RefusedBy wrote.NoValue) (λ κs a. (now (a .0), (tt, (now (a .1 .1 .0), (now (a .1 .1 .1 .0), (now (a .1 .1 .1 .1 .0), (tt, (tt, (tt, (tt, tt))))))))))
+write-no-value-stays κs a z w p r = ap (λ (x : writing.AfterWrite). (x .objects, (tt, (x .words, (x .bytes, (x .store, (tt, (tt, (tt, (tt, tt)))))))))) (p ∙ write-no-value-refused _ _ _ _ _ _ (r .0) (sym (ap (λ (x : writing.AfterWrite). x .answer) p) ∙ r .1))
 
 pub restore-stays : Stays 5 restore-kinds.ps restore-kinds.r restore.Post (λ κs. RefusedBy restored.Refused) (λ κs a. (tt, (now (a .1 .0), (now (a .1 .1 .0), (now (a .1 .1 .1 .0), (tt, (tt, (tt, tt))))))))
 restore-stays κs a z w p r = ap (λ (x : restoring.AfterRestore). (tt, (x .memory .slots, (x .memory .words, (x .memory .bytes, (tt, (tt, (tt, tt)))))))) (p ∙ restore-refused _ _ _ _ (r .0) (sym (ap (λ (x : restoring.AfterRestore). x .answer) p) ∙ r .1))

@@ -62,8 +62,8 @@ c-encode-stays κs a z w p r = ap (λ (x : Written). (tt, (tt, (tt, (x .out, (x 
 pub c-from-u64-stays : Stays 1 c-from-u64-kinds.ps c-from-u64-kinds.r c-from-u64.Post (λ κs. RefusedBy refusalNumber) (λ κs a. (tt, (now (a .1 .0), tt)))
 c-from-u64-stays κs a z w p r = ap (λ (x : Lent). (tt, (x .numbers, tt))) (p ∙ c-from-u64-refused _ _ (r .0) (sym (ap (λ (x : Lent). x .answer) p) ∙ r .1))
 
-pub c-new-stays : Stays 1 c-new-kinds.ps c-new-kinds.r c-new.Post (λ κs. RefusedBy refusalNumber) (λ κs a. (now (a .0), tt))
-c-new-stays κs a z w p r = ap (λ x. (x, tt)) (p .1 ∙ c-new-refused _ (r .0) (sym (p .0) ∙ r .1))
+pub c-new-stays : Stays 1 c-new-kinds.ps c-new-kinds.r c-new.Post (λ κs. RefusedBy refusalNumber) (λ κs a. (now (a .0), (tt, tt)))
+c-new-stays κs a z w p r = ap (λ x. (x, (tt, tt))) (p .1 ∙ c-new-refused _ _ (r .0) (sym (p .0) ∙ r .1))
 
 pub c-insert-stays : Stays 7 c-insert-kinds.ps c-insert-kinds.r c-insert.Post (λ κs. RefusedBy refusalNumber) (λ κs a. (now (a .0), (now (a .1 .0), (now (a .1 .1 .0), (now (a .1 .1 .1 .0), (tt, (tt, (tt, (tt, (tt, (tt, (tt, (tt, (tt, (tt, (tt, tt))))))))))))))))
 c-insert-stays κs a z w p r = ap (λ (x : Dict). (x .objects, (x .slots, (x .words, (x .bytes, (tt, (tt, (tt, (tt, (tt, (tt, (tt, (tt, (tt, (tt, (tt, tt)))))))))))))))) (p .1 ∙ c-insert-refused _ _ _ _ _ (r .0) (sym (p .0) ∙ r .1))
@@ -92,10 +92,10 @@ c-get-configured-cns-stays κs a z w p r = ap (λ (x : Written). (tt, (tt, (tt, 
 pub c-increment-counter-stays : Stays 4 c-increment-counter-kinds.ps c-increment-counter-kinds.r c-increment-counter.Post (λ κs. RefusedBy refusalNumber) (λ κs a. (tt, (tt, (now (a .1 .1 .0), (tt, (tt, (tt, tt)))))))
 c-increment-counter-stays κs a z w p r = ap (λ x. (tt, (tt, (x, (tt, (tt, (tt, tt))))))) (p .1 ∙ c-increment-counter-refused _ _ _ (r .0) (sym (p .0) ∙ r .1))
 
-pub c-write-stays : SlicesStay 8 c-write-kinds.ps c-write-kinds.r c-write.Post (λ κs. RefusedBy refusalNumber) (List ℕ × (List ℕ × List ℕ)) (λ κs a w. (w .1 .1 .0, (w .1 .1 .1 .0, w .1 .1 .1 .1 .0))) (λ κs a. (now (a .1 .1 .0), (now (a .1 .1 .1 .0), now (a .1 .1 .1 .1 .0))))
+pub c-write-stays : SlicesStay 8 c-write-kinds.ps c-write-kinds.r c-write.Post (λ κs. RefusedBy refusalNumber) (List ℕ × (List ℕ × (List ℕ × List ℕ))) (λ κs a w. (w .0, (w .1 .1 .0, (w .1 .1 .1 .0, w .1 .1 .1 .1 .0)))) (λ κs a. (now (a .0), (now (a .1 .1 .0), (now (a .1 .1 .1 .0), now (a .1 .1 .1 .1 .0)))))
 c-write-stays κs a z w p r =
     let q = c-write-refused _ _ _ _ _ _ (r .0) (sym (p .0) ∙ r .1) in
-    ap₂ (λ x y. (x, y)) (p .1 .0 ∙ q .0) (ap₂ (λ x y. (x, y)) (p .1 .1 .0 ∙ q .1) (p .1 .1 .1 .0 ∙ q .2))
+    ap₂ (λ x y. (x, y)) (p .1 .0 ∙ q .0) (ap₂ (λ x y. (x, y)) (p .1 .1 .0 ∙ q .1) (ap₂ (λ x y. (x, y)) (p .1 .1 .1 .0 ∙ q .2) (p .1 .1 .1 .1 .0 ∙ q .3)))
 
 pub c-restore-stays : Stays 5 c-restore-kinds.ps c-restore-kinds.r c-restore.Post (λ κs. RefusedBy refusalNumber) (λ κs a. (tt, (now (a .1 .0), (now (a .1 .1 .0), (now (a .1 .1 .1 .0), (tt, (tt, (tt, tt))))))))
 c-restore-stays κs a z w p r = ap (λ (x : Dict). (tt, (x .slots, (x .words, (x .bytes, (tt, (tt, (tt, tt)))))))) (p .1 ∙ c-restore-refused _ _ _ _ (r .0) (sym (p .0) ∙ r .1))

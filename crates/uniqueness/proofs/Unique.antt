@@ -98,7 +98,7 @@ pub field-unique : Unique 0 field-kinds.ps field-kinds.r field.Post
 field-unique κs a z₁ z₂ w₁ w₂ p q = (p ∙ sym q, refl)
 
 pub new-unique : Unique 1 new-kinds.ps new-kinds.r new.Post
-new-unique κs a z₁ z₂ w₁ w₂ p q = both (λ (x : Made). x .answer) (λ x. (x .objects, tt)) p q
+new-unique κs a z₁ z₂ w₁ w₂ p q = both (λ (x : Made). x .answer) (λ x. (x .objects, (tt, tt))) p q
 
 pub insert-unique : Unique 7 insert-kinds.ps insert-kinds.r insert.Post
 insert-unique κs a z₁ z₂ w₁ w₂ p q = (p .0 ∙ sym (q .0), ap (λ (x : Dict). (x .objects, (x .slots, (x .words, (x .bytes, (tt, (tt, (tt, (tt, tt))))))))) (p .1 ∙ sym (q .1)))
@@ -131,7 +131,7 @@ pub validate-pdo-mapping-unique : Unique 4 validate-pdo-mapping-kinds.ps validat
 validate-pdo-mapping-unique κs a z₁ z₂ w₁ w₂ p q = (p ∙ sym q, refl)
 
 pub write-unique : Unique 6 write-kinds.ps write-kinds.r write.Post
-write-unique κs a z₁ z₂ w₁ w₂ p q = both (λ (x : AfterWrite). x .answer) (λ x. (tt, (tt, (x .words, (x .bytes, (x .store, (tt, (tt, (tt, (tt, tt)))))))))) p q
+write-unique κs a z₁ z₂ w₁ w₂ p q = both (λ (x : AfterWrite). x .answer) (λ x. (x .objects, (tt, (x .words, (x .bytes, (x .store, (tt, (tt, (tt, (tt, tt)))))))))) p q
 
 pub restore-unique : Unique 5 restore-kinds.ps restore-kinds.r restore.Post
 restore-unique κs a z₁ z₂ w₁ w₂ p q =

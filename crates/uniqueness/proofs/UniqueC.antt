@@ -68,7 +68,7 @@ pub c-to-u64-unique : Unique 0 c-to-u64-kinds.ps c-to-u64-kinds.r c-to-u64.Post
 c-to-u64-unique κs a z₁ z₂ w₁ w₂ p q = (p ∙ sym q, refl)
 
 pub c-new-unique : Unique 1 c-new-kinds.ps c-new-kinds.r c-new.Post
-c-new-unique κs a z₁ z₂ w₁ w₂ p q = (p .0 ∙ sym (q .0), ap (λ x. (x, tt)) (p .1 ∙ sym (q .1)))
+c-new-unique κs a z₁ z₂ w₁ w₂ p q = (p .0 ∙ sym (q .0), ap (λ x. (x, (tt, tt))) (p .1 ∙ sym (q .1)))
 
 pub c-insert-unique : Unique 7 c-insert-kinds.ps c-insert-kinds.r c-insert.Post
 c-insert-unique κs a z₁ z₂ w₁ w₂ p q = (p .0 ∙ sym (q .0), ap (λ (x : Dict). (x .objects, (x .slots, (x .words, (x .bytes, (tt, (tt, (tt, (tt, (tt, (tt, (tt, (tt, (tt, (tt, (tt, tt)))))))))))))))) (p .1 ∙ sym (q .1)))
@@ -97,19 +97,20 @@ c-get-configured-cns-unique κs a z₁ z₂ w₁ w₂ p q = both (λ (x : Writte
 pub c-increment-counter-unique : Unique 4 c-increment-counter-kinds.ps c-increment-counter-kinds.r c-increment-counter.Post
 c-increment-counter-unique κs a z₁ z₂ w₁ w₂ p q = (p .0 ∙ sym (q .0), ap (λ x. (tt, (tt, (x, (tt, (tt, (tt, tt))))))) (p .1 ∙ sym (q .1)))
 
-five : {x₁ x₂ y₁ y₂ z₁ z₂ : List ℕ} {p₁ p₂ h₁ h₂ : ℕ} → x₁ ≡ x₂ → y₁ ≡ y₂ → z₁ ≡ z₂ → p₁ ≡ p₂ → h₁ ≡ h₂
-    → _≡_ {A = Unit {0} × (Unit {0} × (List ℕ × (List ℕ × (List ℕ × (Unit {0} × (Unit {0} × (Unit {0} × (Unit {0} × (ℕ × (ℕ × Unit {0}))))))))))}
-    (tt, (tt, (x₁, (y₁, (z₁, (tt, (tt, (tt, (tt, (p₁, (h₁, tt))))))))))) (tt, (tt, (x₂, (y₂, (z₂, (tt, (tt, (tt, (tt, (p₂, (h₂, tt)))))))))))
-five a b c d e = rw (a, b, c, d, e)
+six : {o₁ o₂ x₁ x₂ y₁ y₂ z₁ z₂ : List ℕ} {p₁ p₂ h₁ h₂ : ℕ} → o₁ ≡ o₂ → x₁ ≡ x₂ → y₁ ≡ y₂ → z₁ ≡ z₂ → p₁ ≡ p₂ → h₁ ≡ h₂
+    → _≡_ {A = List ℕ × (Unit {0} × (List ℕ × (List ℕ × (List ℕ × (Unit {0} × (Unit {0} × (Unit {0} × (Unit {0} × (ℕ × (ℕ × Unit {0}))))))))))}
+    (o₁, (tt, (x₁, (y₁, (z₁, (tt, (tt, (tt, (tt, (p₁, (h₁, tt))))))))))) (o₂, (tt, (x₂, (y₂, (z₂, (tt, (tt, (tt, (tt, (p₂, (h₂, tt)))))))))))
+six a b c d e f = rw (a, b, c, d, e, f)
 
 pub c-write-unique : Unique 8 c-write-kinds.ps c-write-kinds.r c-write.Post
 c-write-unique κs a z₁ z₂ w₁ w₂ p q =
-    let words = p .1 .0 ∙ sym (q .1 .0) in
-    let bytes = p .1 .1 .0 ∙ sym (q .1 .1 .0) in
-    let store = p .1 .1 .1 .0 ∙ sym (q .1 .1 .1 .0) in
-    let place = p .1 .1 .1 .1 .0 ∙ sym (q .1 .1 .1 .1 .0) in
-    let had = p .1 .1 .1 .1 .1 ∙ sym (q .1 .1 .1 .1 .1) in
-    (p .0 ∙ sym (q .0), five words bytes store place had)
+    let objects = p .1 .0 ∙ sym (q .1 .0) in
+    let words = p .1 .1 .0 ∙ sym (q .1 .1 .0) in
+    let bytes = p .1 .1 .1 .0 ∙ sym (q .1 .1 .1 .0) in
+    let store = p .1 .1 .1 .1 .0 ∙ sym (q .1 .1 .1 .1 .0) in
+    let place = p .1 .1 .1 .1 .1 .0 ∙ sym (q .1 .1 .1 .1 .1 .0) in
+    let had = p .1 .1 .1 .1 .1 .1 ∙ sym (q .1 .1 .1 .1 .1 .1) in
+    (p .0 ∙ sym (q .0), six objects words bytes store place had)
 
 pub c-validate-pdo-mapping-unique : Unique 4 c-validate-pdo-mapping-kinds.ps c-validate-pdo-mapping-kinds.r c-validate-pdo-mapping.Post
 c-validate-pdo-mapping-unique κs a z₁ z₂ w₁ w₂ p q = (p ∙ sym q, refl)
