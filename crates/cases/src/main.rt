@@ -1,6 +1,6 @@
 // Runs every table of data/ and writes how many lines were run, a space, how many differ, and a newline. codec.txt, dictionary.txt,
-// halving.txt, faults.txt and ranges.txt are our own; the others hold the Rust's answers, as oracle/README.md says, in parts that are read
-// at one go.
+// halving.txt, faults.txt, ranges.txt and editions.txt are our own; the others hold the Rust's answers, as oracle/README.md says, in parts
+// that are read at one go.
 use tables::State;
 
 // The lines of a table, on the memory that the one before left: a table in parts goes on where its last part ended.
@@ -29,7 +29,8 @@ fn ours(before: State) -> State {
     let dictionary = table(b"dictionary.txt", codec);
     let halving = table(b"halving.txt", dictionary);
     let faults = table(b"faults.txt", halving);
-    table(b"ranges.txt", faults)
+    let ranges = table(b"ranges.txt", faults);
+    table(b"editions.txt", ranges)
 }
 
 fn of_the_rust(before: State) -> State {

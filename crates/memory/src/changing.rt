@@ -39,10 +39,10 @@ fn sized(store: [u8; 1000]) -> [u8; 1000]
 }
 
 impl Memory {
-    pub fn new(self) -> Called {
+    pub fn new(self, edition: u64) -> Called {
         let mut memory = self;
         let mut objects = self.objects;
-        let a = loomfinch::new(&mut objects);
+        let a = loomfinch::new(&mut objects, edition);
         memory.objects = objects;
         let answer = answer_number(a);
         Called { memory, answer }
@@ -97,14 +97,14 @@ impl Memory {
     pub fn write(self, size: usize, index: u16, sub_index: u8, kind: u64, data: &[u8]) -> Written
         requires { ⌜ size ≤ 1000 ⌝ }
     {
-        let objects = self.objects;
+        let mut objects = self.objects;
         let slots = self.slots;
         let mut words = self.words;
         let mut bytes = self.bytes;
         let held = self.store;
         let mut store = sized(held);
         let answer = loomfinch::write(
-            &objects,
+            &mut objects,
             &slots,
             &mut words,
             &mut bytes,

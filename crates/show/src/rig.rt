@@ -31,7 +31,7 @@ fn insert(m: Memory, index: u16, kind: u64, vals: &[u64], encodings: &[u8]) -> M
 fn rig(word: u64) -> Memory {
     let mut list = [0u8; 8];
     lists::put_number(&mut list, 0, 8, word);
-    let called = memory::zeros().new();
+    let called = memory::zeros().new(1);
     let m = insert(called.memory, 0x1400, 2, &[5, 0, 1, 5, 0, 1], &[5, 0x10]);
     let m = insert(m, 0x1600, 1, &[8, 0, 8], &list);
     insert(m, 0x6000, 0, &[6, 0, 2], &[0, 0])

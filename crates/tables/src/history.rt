@@ -1,6 +1,7 @@
 // Histories: lines that call one dictionary after another, each with the answer that it must give. It has room for 8 objects,
 // 300 values and 1,200 bytes, and the store beside it has 1,000 bytes.
-//   N ANSWER                                               an empty dictionary
+//   N ANSWER                                               an empty dictionary of edition 1
+//   E EDITION ANSWER                                       an empty dictionary of an edition
 //   I INDEX KIND ACCESS DEFAULT NAME VALS BYTES ANSWER     insertion; VALS has four digits a number, BYTES the encodings
 //   J TYPE LOW TYPE HIGH, and behind them what I has       insertion with a range, each end with its type
 //   R INDEX SUB ANSWER [TYPE WORD PART]                    reading, and the part
@@ -102,7 +103,8 @@ fn asked(kind: u8, s: &[u8], at: usize, m: Memory) -> bool {
 // Does the call of the line that starts at `at`, behind its letter, give its answer?
 pub fn take_turn(kind: u8, s: &[u8], at: usize, m: Memory) -> Turn {
     match kind {
-        b'N' => turned(s, at, m.new()),
+        b'N' => turned(s, at, m.new(1)),
+        b'E' => turned(s, at, m.new(number(s, at))),
         b'I' => turned(s, at, insert_line(s, at, m)),
         b'J' => turned(s, at, ranged_line(s, at, m)),
         b'P' => turned(s, at, counter_line(s, at, m)),

@@ -50,7 +50,7 @@ fn with_targets(m: Memory) -> Memory {
 }
 
 fn set_up(version: u8, word: u64) -> Memory {
-    let called = memory::zeros().new();
+    let called = memory::zeros().new(1);
     with_targets(with_channel(called.memory, version, word))
 }
 
