@@ -17,8 +17,8 @@ static struct lent slices[SLICES], name, vals, encodings, numbers, out, events;
 static int start_side;
 
 // The lengths are those that are lent; name, vals and encodings follow, each
-// filled up to whole words. A value to write is its type, as `kind`, and its
-// encoding; a count to check stands in the sub-index's place. A range to restore
+// filled up to whole words. The edition of a new dictionary stands in the kind's place. A value to
+// write is its type, as `kind`, and its encoding; a count to check stands in the sub-index's place. A range to restore
 // is `index` and `kind`. A payload is `encodings`, its sender and version stand in
 // the sub-index's and the kind's place, ready in the access's; the payloads of a cycle
 // are `vals`. A node whose bit is set stands in the sub-index's place, and so does a channel
@@ -42,7 +42,7 @@ static u64 answer(const struct call *c) {
     u64 *number = (u64 *)numbers.at;
     switch (c->op) {
     case NEW:
-        return loomfinch_new(WORDS(slices[0]));
+        return loomfinch_new(WORDS(slices[0]), c->kind);
     case INSERT:
         return loomfinch_insert(DICTIONARY, index, c->kind, c->access, c->has_default, c->low_type,
                                 c->low, c->high_type, c->high, BYTES(name), WORDS(vals),

@@ -5,6 +5,7 @@ pub mod calls;
 pub mod cells;
 pub mod channels;
 pub mod checks;
+pub mod counts;
 pub mod dictionaries;
 pub mod fields;
 pub mod literals;

@@ -1,6 +1,7 @@
 //! Histories as commands of dictionary.c, and its replies.
 
 use crate::call::number_fill;
+use crate::dictionary::model::edition::FIRST;
 use crate::dictionary::model::insertion::Insertion;
 use crate::dictionary::model::layout::{self, Object, Used};
 use crate::dictionary::model::memory::{BYTES, Lent, Memory, SLICES, STORE};
@@ -85,7 +86,7 @@ fn lending(command: u64, Lent { at_start, lengths, store }: Lent) -> Vec<u64> {
 
 fn laying(objects: &[Object]) -> Vec<u64> {
     let mut memory = Memory::filled(Used::of(objects).lengths(), 0);
-    layout::lay(objects, &mut memory);
+    layout::lay(FIRST, objects, &mut memory);
     let mut words = Vec::new();
     for (slice, cells) in memory.word_slices().into_iter().enumerate() {
         words.extend([PUT, slice as u64, 0, cells.len() as u64]);
@@ -100,7 +101,7 @@ fn laying(objects: &[Object]) -> Vec<u64> {
 fn place(call: &Call) -> (u64, u64, u64) {
     let at = |command, index: &u16, sub: &u8| (command, u64::from(*index), u64::from(*sub));
     match call {
-        Call::New => (NEW, 0, 0),
+        Call::New(_) => (NEW, 0, 0),
         Call::Insert(given) => (INSERT, given.index.into(), 0),
         Call::Read { index, sub_index, .. } => at(READ, index, sub_index),
         Call::ReadNumber { width, index, sub_index } => {
@@ -129,6 +130,7 @@ fn place(call: &Call) -> (u64, u64, u64) {
 
 fn calling(call: &Call) -> Vec<u64> {
     let given = match call {
+        Call::New(edition) => Insertion { shape: *edition, ..Insertion::default() },
         Call::Insert(given) => given.clone(),
         Call::FindByName(name) => Insertion { name: name.clone(), ..Insertion::default() },
         Call::Write(Write { kind, data, .. }) => {

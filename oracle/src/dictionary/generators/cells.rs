@@ -1,5 +1,6 @@
 //! The cells that a dictionary uses, and what to change them to.
 
+use crate::dictionary::model::edition::FIRST;
 use crate::dictionary::model::layout::{self, Object, Used};
 use crate::dictionary::model::memory::{BYTES, Memory};
 use crate::dictionary::model::step::Step;
@@ -15,7 +16,7 @@ pub struct Cell {
 pub fn cells(objects: &[Object]) -> Vec<Cell> {
     let lengths = Used::of(objects).lengths();
     let mut memory = Memory::filled(lengths, 0);
-    layout::lay(objects, &mut memory);
+    layout::lay(FIRST, objects, &mut memory);
     let all = (0..=BYTES).flat_map(|slice| (0..lengths[slice]).map(move |at| (slice, at)));
     all.map(|(slice, at)| Cell { slice, at, old: memory.get(slice, at) }).collect()
 }

@@ -65,6 +65,7 @@ pub fn object(random: &mut Random, pool: &Pool, sizes: Sizes) -> Object {
         values: (0..elements).map(|_| element(random, sizes.longest, nodes)).collect(),
         default: (random.below(3) == 0).then(|| default(random, sizes.longest)),
         range: Range::NONE,
+        kept: None,
     }
 }
 

@@ -1,6 +1,7 @@
-//! What the channel check must give: RULES.md R12.2, R12.3 and R12.13 on the plain objects, written
+//! What the channel check must give: RULES.md R12.1 to R12.3 and R12.13 on the plain objects, written
 //! from the rules alone. The Rust has no such call; demand.rs asks payloads about its answers.
 
+use super::edition::{FIRST, in_use};
 use super::layout::{Object, VARIABLE, Value, element};
 use super::running::{Word, channel_of, list_u8, row};
 use super::sound::{Dictionary, Done, Refused};
@@ -23,12 +24,26 @@ pub const LEAST_NUMBERS: usize = 768;
 const UNSIGNED64: u64 = 8;
 const LONGEST_PAYLOAD: usize = 1490;
 
+/// The part of NoList that only a kept count gives.
+pub const NONE_IN_USE: &str = "none in use";
+
 /// A number, the element that it names or 0, and which part of its rule gave it.
 struct Fault(u64, u64, &'static str);
 
+/// What is noted where not all elements are in use, for the tally.
+pub const NOTES: [&str; 4] = [
+    "a pass, with a fault behind the count",
+    "a pass, with right elements behind the count",
+    "a fault before another behind the count",
+    "NoSender, and none in use",
+];
+
 impl Dictionary {
-    pub fn check_channel(&self, channel: u8) -> Done {
-        match fault(&self.objects, channel, &matched(&self.objects)) {
+    pub fn check_channel(&self, channel: u8, notes: &mut Vec<&'static str>) -> Done {
+        let matched = matched(&self.objects);
+        let fault = fault(self.edition, &self.objects, channel, &matched);
+        notes.extend(self.note_unused(channel, fault.as_ref(), &matched));
+        match fault {
             Some(Fault(answer, element, cause)) => {
                 Done { answer, numbers: vec![element], cause: Some(cause), ..Done::default() }
             }
@@ -46,18 +61,41 @@ impl Dictionary {
             if row(&self.objects, 0x1400 + u16::from(channel)).is_none() {
                 continue;
             }
-            let found = fault(&self.objects, channel, &matched);
+            let found = fault(self.edition, &self.objects, channel, &matched);
+            notes.extend(self.note_unused(channel, found.as_ref(), &matched));
             let Fault(number, element, cause) = found.unwrap_or(Fault(0, 0, "a pass"));
             events.extend([channel.into(), number, element]);
             notes.push(cause);
         }
         Ok(Done { numbers: vec![events.len() as u64], events, ..Done::default() })
     }
+
+    /// What an answer shows of elements that are not in use, by what it would be if they were.
+    fn note_unused(
+        &self,
+        channel: u8,
+        found: Option<&Fault>,
+        matched: &[Option<u16>],
+    ) -> Option<&'static str> {
+        let list = &self.objects[row(&self.objects, 0x1600 + u16::from(channel))?];
+        let used = in_use(self.edition, list).len();
+        if used == list.values.len() {
+            return None;
+        }
+        let behind = list.values[used..].iter().any(|value| judge(&self.objects, value).is_err());
+        match found {
+            Some(Fault(NO_SENDER, ..)) if used == 0 => Some(NOTES[3]),
+            Some(Fault(_, 1.., _)) if behind => Some(NOTES[2]),
+            None if fault(FIRST, &self.objects, channel, matched).is_some() => Some(NOTES[0]),
+            None => Some(NOTES[1]),
+            _ => None,
+        }
+    }
 }
 
-/// The element that a fault of the channel names.
+/// The element that a fault of the channel names where all are in use.
 pub fn named(objects: &[Object], channel: u8) -> Option<u8> {
-    let Fault(_, element, _) = fault(objects, channel, &matched(objects))?;
+    let Fault(_, element, _) = fault(FIRST, objects, channel, &matched(objects))?;
     (element > 0).then_some(element as u8)
 }
 
@@ -67,7 +105,7 @@ fn matched(objects: &[Object]) -> Vec<Option<u16>> {
 }
 
 /// R12.2.
-fn fault(objects: &[Object], channel: u8, matched: &[Option<u16>]) -> Option<Fault> {
+fn fault(edition: u64, objects: &[Object], channel: u8, matched: &[Option<u16>]) -> Option<Fault> {
     let channel = u16::from(channel);
     if !matched.contains(&Some(channel)) {
         return Some(Fault(NO_SENDER, 0, no_sender(objects, channel)));
@@ -76,17 +114,19 @@ fn fault(objects: &[Object], channel: u8, matched: &[Option<u16>]) -> Option<Fau
         return Some(Fault(NO_LIST, 0, "no mapping"));
     };
     let list = &objects[row];
-    match list.values.len() {
+    let elements = in_use(edition, list);
+    match elements.len() {
         _ if list.shape == VARIABLE => return Some(Fault(NO_LIST, 0, "a Variable")),
-        0 => return Some(Fault(NO_LIST, 0, "no element")),
+        0 if list.values.is_empty() => return Some(Fault(NO_LIST, 0, "no element")),
+        0 => return Some(Fault(NO_LIST, 0, NONE_IN_USE)),
         _ => {}
     }
-    for (value, element) in list.values.iter().zip(1..) {
+    for (value, element) in elements.iter().zip(1..) {
         if let Err((number, cause)) = judge(objects, value) {
             return Some(Fault(number, element, cause));
         }
     }
-    let ends = list.values.iter().map(|value| {
+    let ends = elements.iter().map(|value| {
         let word = Word::of(0, value.word);
         (word.start + word.length).div_ceil(8)
     });

@@ -3,8 +3,12 @@
 //! say is document 01's: the element of an event and its numbers, TooLong, the refusals, and where
 //! bytes lie.
 
+use super::edition::SECOND;
+use super::marking::{CUT, TURNED_OFF};
 use super::memory::Memory;
-use super::running::{MAP_VERSION, Payload, Run, Told, Word, set_bit};
+use super::running::{
+    MAP_VERSION, Payload, Run, SHORT_PAYLOADS, Told, VALUE, Word, channel_of, gathered, set_bit,
+};
 use super::sound::{Dictionary, Done, Refused};
 use super::step::{Cycle, Received};
 use crate::original::BAD_VALUE;
@@ -18,6 +22,10 @@ pub const MOST_PAYLOADS: usize = 1024;
 
 /// Numbers that say one payload of a cycle.
 pub const A_PAYLOAD: usize = 5;
+
+/// What is noted of a payload in edition 2: whether the Rust could be asked, of a list that is cut.
+pub const AS_THE_RUST: &str = "as the Rust with just what is in use";
+pub const AIMS_AT_UNUSED: &str = "a word for a target that is not in use";
 
 impl Dictionary {
     /// Neither refusal has a counterpart in the Rust, which takes any payload and has no event
@@ -86,12 +94,40 @@ impl Dictionary {
             return Vec::new();
         }
         let Payload { bytes, sender, version, .. } = *payload;
-        let told = self.rust.consume(sender, bytes, version, &self.objects);
-        let mut run = Run { objects: &mut self.objects, memory, payload, notes };
+        let told = match self.aims_at_unused(sender) {
+            true => None,
+            false => Some(self.rust.consume(sender, bytes, version, &self.objects)),
+        };
+        let (edition, noted) = (self.edition, notes.len());
+        let mut run = Run { edition, objects: &mut self.objects, memory, payload, notes };
         let (words, wanted) = run.all();
-        assert_eq!(told, wanted, "what the Rust tells of {bytes:X?} of {sender}, {version:X}");
+        let is_cut = notes[noted..].iter().any(|note| [CUT, TURNED_OFF].contains(note));
+        notes.extend(match &told {
+            None => Some(AIMS_AT_UNUSED),
+            Some(_) => is_cut.then_some(AS_THE_RUST),
+        });
+        self.follow(told, &wanted, payload);
         assert!(self.all_equal(), "the model has the Rust's values after {bytes:X?} of {sender}");
         wanted.iter().map(|told| event(told, &words, number)).collect()
+    }
+
+    /// Whether a word of the sender's channel has a target that is not in use, which the Rust lacks.
+    fn aims_at_unused(&self, sender: u8) -> bool {
+        let channel = channel_of(&self.objects, sender).filter(|_| self.edition == SECOND);
+        let Some(channel) = channel else { return false };
+        let words = gathered(self.edition, &self.objects, channel).unwrap_or_default();
+        words.iter().any(|word| self.unused(word.index, word.sub_index).is_some())
+    }
+
+    /// Holds what the Rust told against what is wanted. Where it could not be asked it is given all
+    /// values anew; else the bit that it does not set for a value that is too short (R11.16).
+    fn follow(&mut self, told: Option<Vec<Told>>, wanted: &[Told], payload: &Payload) {
+        let Payload { bytes, sender, version, .. } = *payload;
+        let Some(told) = told else { return self.give_again() };
+        assert_eq!(told, wanted, "what the Rust tells of {bytes:X?} of {sender}, {version:X}");
+        if self.edition == SECOND && wanted.iter().any(|told| told.kind == VALUE) {
+            self.rust.update_pdo_error_object(SHORT_PAYLOADS, sender);
+        }
     }
 
     pub fn update_pdo_error_object(&mut self, index: u16, node: u8, memory: &mut Memory) -> Done {

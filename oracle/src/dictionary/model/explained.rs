@@ -27,6 +27,9 @@ const A_VALUE: u64 = 3;
 pub const THERE: [&str; 4] =
     ["no object there", "no sub-index there", "a count there", "a value there"];
 
+/// What is noted of elements that are not in use.
+pub const UNUSED: [&str; 2] = ["a right element behind the count", "a fault behind the count"];
+
 /// Numbers of the faults that name an element, and 0 for none.
 pub const VERDICTS: [u64; 7] =
     [0, NOT_MAPPING, MISALIGNED, HAND_OFF, NO_TARGET, COUNT_TARGET, WRONG_LENGTH];
@@ -51,6 +54,8 @@ impl Dictionary {
             notes.push(THERE[numbers[8] as usize]);
         }
         notes.push(if room == NUMBERS { "just enough lent" } else { "more lent" });
+        let unused = self.unused(0x1600 + u16::from(channel), element);
+        notes.extend(unused.map(|_| if numbers[0] == 0 { UNUSED[0] } else { UNUSED[1] }));
         let cause = Some(verdict_name(numbers[0]));
         Ok(Done { numbers: numbers.into(), cause, ..Done::default() })
     }

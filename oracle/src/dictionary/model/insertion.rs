@@ -55,8 +55,9 @@ impl Insertion {
         let mut values = self.values(elements)?;
         let default = values.split_off(elements).pop();
         let range = Range::given(self.ends)?;
-        let (shape, access, name) = (self.shape, self.access, self.name.clone());
-        Ok(Object { index: self.index.into(), shape, access, name, values, default, range })
+        let (index, name) = (self.index.into(), self.name.clone());
+        let (shape, access) = (self.shape, self.access);
+        Ok(Object { index, shape, access, name, values, default, range, kept: None })
     }
 
     fn values(&self, elements: usize) -> Result<Vec<Value>, &'static str> {

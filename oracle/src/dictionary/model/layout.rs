@@ -40,6 +40,8 @@ pub struct Object {
     pub values: Vec<Value>,
     pub default: Option<Value>,
     pub range: Range,
+    /// None where it is the number of elements, as insertion lays it.
+    pub kept: Option<u64>,
 }
 
 /// How much of each slice is used.
@@ -88,12 +90,21 @@ impl Object {
         let rooms: usize = self.all_values().map(|value| value.room.len()).sum();
         Used { objects: 1, values: self.all_values().count(), bytes: self.name.len() + rooms }
     }
+
+    /// As its row has it.
+    pub fn kept_count(&self) -> u64 {
+        self.kept.unwrap_or(self.values.len() as u64)
+    }
+
+    pub fn keep(&mut self, count: u64) {
+        self.kept = Some(count).filter(|count| *count != self.values.len() as u64);
+    }
 }
 
-/// Without a name, an access, a default or a range.
+/// Without a name, an access, a default or a range, and with all elements in use.
 pub fn bare(index: u64, shape: u64, values: Vec<Value>) -> Object {
     let (access, range) = (NO_ACCESS, Range::NONE);
-    Object { index, shape, access, name: Vec::new(), values, default: None, range }
+    Object { index, shape, access, name: Vec::new(), values, default: None, range, kept: None }
 }
 
 impl Used {
@@ -116,9 +127,9 @@ impl Used {
 }
 
 /// Lays the objects over the memory as R5.2 and R5.5 say; what lies behind stays.
-pub fn lay(objects: &[Object], memory: &mut Memory) {
+pub fn lay(edition: u64, objects: &[Object], memory: &mut Memory) {
     let used = Used::of(objects);
-    let header = [used.objects as u64, used.values as u64, used.bytes as u64, 1];
+    let header = [used.objects as u64, used.values as u64, used.bytes as u64, edition];
     lay_row(memory, 0, &header);
     let mut at = Used::default();
     for object in objects {
@@ -131,7 +142,7 @@ pub fn lay(objects: &[Object], memory: &mut Memory) {
             at.bytes as u64,
             object.name.len() as u64,
             object.default.is_some().into(),
-            0,
+            object.kept_count(),
             object.range.kind,
             object.range.low,
             object.range.high,
@@ -174,7 +185,10 @@ fn object_at(memory: &Memory, row: &[u64]) -> Object {
     let default = values.split_off(elements).pop();
     let name = memory.bytes[column(5)..][..column(6)].to_vec();
     let range = Range { kind: row[9], low: row[10], high: row[11] };
-    Object { index: row[0], shape: row[1], access: row[2], name, values, default, range }
+    let (index, shape, access) = (row[0], row[1], row[2]);
+    let mut object = Object { index, shape, access, name, values, default, range, kept: None };
+    object.keep(row[8]);
+    object
 }
 
 fn value_at(memory: &Memory, place: usize) -> Value {

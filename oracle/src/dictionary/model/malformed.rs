@@ -33,7 +33,8 @@ pub fn judge(memory: &Memory) -> Verdict {
     let values: Vec<Vec<Seen>> = rows.iter().map(|row| seen(memory, row)).collect();
     values.iter().flatten().try_for_each(value)?;
     byte_sums(memory, &rows, &values)?;
-    texts(memory, &rows, &values)
+    texts(memory, &rows, &values)?;
+    rows.iter().try_for_each(|row| kept(memory.objects[3], row))
 }
 
 fn header(memory: &Memory) -> Verdict {
@@ -41,7 +42,7 @@ fn header(memory: &Memory) -> Verdict {
         return Err("no header");
     };
     let [objects, values, bytes] = [header[0], header[1], header[2]];
-    require(header[3] == 1, "edition")?;
+    require(header[3] == 1 || header[3] == 2, "edition")?;
     require(header[4..].iter().all(|word| *word == 0), "header's zeros")?;
     require(objects <= 1024, "1,024 objects")?;
     require(values <= 6144, "6,144 values")?;
@@ -62,7 +63,6 @@ fn columns(row: &[u64]) -> Verdict {
     require(row[3] <= 254, "254 elements")?;
     require(row[6] <= 32, "name's length")?;
     require(row[7] <= 1, "default's mark")?;
-    require(row[8] == 0, "row's zero")?;
     range(row[9], [row[10], row[11]])
 }
 
@@ -141,4 +141,24 @@ fn texts(memory: &Memory, rows: &[&[u64]], values: &[Vec<Seen>]) -> Verdict {
     require(rows.iter().all(|row| is_text(row[5], row[6])), "name not UTF-8")?;
     let mut strings = values.iter().flatten().filter(|value| value.kind == 11);
     require(strings.all(|value| is_text(value.start, value.word)), "text not UTF-8")
+}
+
+/// A kept count above the elements, by the edition and the kind.
+pub const KEPT_TOO_MANY: [[&str; 3]; 2] = [
+    [
+        "a Variable's kept count, edition 1",
+        "an Array's kept count, edition 1",
+        "a Record's kept count, edition 1",
+    ],
+    [
+        "a Variable's kept count, edition 2",
+        "an Array's kept count, edition 2",
+        "a Record's kept count, edition 2",
+    ],
+];
+
+/// In either edition, whether it is looked at or not. It is asked last, since a wrong number of
+/// elements breaks it too.
+fn kept(edition: u64, row: &[u64]) -> Verdict {
+    require(row[8] <= row[3], KEPT_TOO_MANY[edition as usize - 1][row[1] as usize])
 }

@@ -6,6 +6,10 @@ use crate::call::{byte_fill, number_fill};
 pub const ROW: usize = 12;
 pub const SLOT: usize = 3;
 
+/// The header's word that has the edition, and a row's that has the kept count.
+pub const EDITION: usize = 3;
+pub const KEPT: usize = 8;
+
 pub const SLICES: [&str; 5] = ["objects", "slots", "words", "bytes", "store"];
 pub const BYTES: usize = 3;
 pub const STORE: usize = 4;
@@ -54,6 +58,11 @@ impl Memory {
     /// How much is lent; the side is not known here.
     pub fn lent(&self) -> Lent {
         Lent { at_start: false, lengths: self.lengths(), store: self.store.len() }
+    }
+
+    /// Of the dictionary that lies here.
+    pub fn edition(&self) -> u64 {
+        self.objects[EDITION]
     }
 
     /// Of the dictionary's slices.

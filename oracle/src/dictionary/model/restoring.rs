@@ -2,10 +2,12 @@
 //! it cannot say is document 01's: which images are readable, TooLong, and where bytes lie.
 
 use super::between::{LIST_RETYPED, RECORD_RETYPED};
+use super::edition::in_use;
 use super::image::{self, Record};
 use super::layout::{self, Object, VARIABLE, Value, is_string};
 use super::memory::Memory;
 use super::sound::{Dictionary, Done, Refused};
+use super::unused::Unused;
 use std::ops::RangeInclusive;
 
 const TOO_LONG: u64 = 13;
@@ -33,27 +35,34 @@ impl Dictionary {
         self.rust.restore_power_on_values(*range.start(), *range.end());
         let seen = Seen::of(&self.objects, table.as_deref().unwrap_or_default(), range.clone());
         notes.extend(seen.notes());
+        let unused = Unused { table: table.as_deref().unwrap_or_default(), range: range.clone() };
         let restored: Option<Vec<Object>> =
-            self.objects.iter().map(|object| self.restored(object)).collect();
+            self.objects.iter().map(|object| self.restored(object, &unused)).collect();
         // The Rust has no rooms: what it took beyond one is outside the domain (R2.5).
         let Some(restored) = restored else {
-            self.objects.iter().for_each(|object| self.rust.insert(object));
+            self.give_again();
             return Err((TOO_LONG, seen.too_long()));
         };
+        notes.extend(self.restore_notes(&unused));
         self.retyped.extend(retyped(&self.objects, &restored));
         self.objects = restored;
-        layout::lay(&self.objects, memory);
+        layout::lay(self.edition, &self.objects, memory);
         assert!(self.all_equal(), "the model has the Rust's values after a restore");
         self.check(memory);
         Ok(Done::because(if range.is_empty() { "first above last" } else { seen.put() }))
     }
 
-    /// The object with the Rust's values in its rooms; none where one is longer than its room.
-    fn restored(&self, object: &Object) -> Option<Object> {
+    /// The object with the Rust's values in its rooms, and with those of elements that are not in
+    /// use; none where one is longer than its room.
+    fn restored(&self, object: &Object, unused: &Unused) -> Option<Object> {
+        let in_use = in_use(self.edition, object).len();
         let mut restored = object.clone();
         for (place, value) in restored.values.iter_mut().enumerate() {
-            let found = self.rust.read(object.index as u16, sub_index(object, place));
-            let Ok(found) = found else { unreachable!("the Rust has just these objects") };
+            let found = match place < in_use {
+                true => self.rust.read(object.index as u16, sub_index(object, place)),
+                false => Ok(unused.restored(object, place)),
+            };
+            let Ok(found) = found else { unreachable!("the Rust has what is in use") };
             value.room.get_mut(..found.bytes.len())?.copy_from_slice(&found.bytes);
             (value.kind, value.word) = (found.kind, found.word);
         }
@@ -69,7 +78,7 @@ fn retyped(before: &[Object], after: &[Object]) -> impl Iterator<Item = (u64, us
     })
 }
 
-fn sub_index(object: &Object, place: usize) -> u8 {
+pub fn sub_index(object: &Object, place: usize) -> u8 {
     place as u8 + u8::from(object.shape != VARIABLE)
 }
 

@@ -1,6 +1,7 @@
-//! A run over one payload: RULES.md R11.2 to R11.10 on the plain objects, written from the rules
-//! alone.
+//! A run over one payload: RULES.md R11.2 to R11.10 and R11.16 on the plain objects, written from the
+//! rules alone.
 
+use super::edition::in_use;
 use super::layout::{self, Object, VARIABLE, element, is_mapping, is_string};
 use super::memory::Memory;
 use crate::fault::Fault;
@@ -23,7 +24,7 @@ const UNSIGNED8: u64 = 5;
 const OCTET_STRING: u64 = 12;
 const UNSIGNED64: u64 = 8;
 const WRONG_VERSIONS: u16 = 0x1C80;
-const SHORT_PAYLOADS: u16 = 0x1C81;
+pub const SHORT_PAYLOADS: u16 = 0x1C81;
 
 /// An event as the Rust can tell it: by the step, counted from 0, that gave it, where it hands
 /// something off, by the channel and the bytes, and what is said of a field that does not decode.
@@ -52,7 +53,7 @@ pub struct Payload<'a> {
 
 /// What becomes of a mapping word (R11.5).
 #[derive(Clone, Copy)]
-enum Fate {
+pub enum Fate {
     Misaligned,
     PastThePayload,
     /// With the fault's sort.
@@ -129,22 +130,20 @@ impl Word {
 
 /// R11.10; whether there is such a bit.
 pub fn set_bit(objects: &mut [Object], memory: &mut Memory, index: u16, node: u8) -> bool {
-    let Some(row) = row(objects, index) else { return false };
-    let value = &objects[row].values.first();
-    let is_node_list =
-        objects[row].shape == VARIABLE && value.is_some_and(|value| value.kind == OCTET_STRING);
-    if !is_node_list || node == 0 || node >= MANAGING_NODE {
-        return false;
-    }
-    let (byte, bit) = (usize::from(node - 1) / 8, 1 << ((node - 1) % 8));
+    let Some((row, byte, bit)) = bit_of(objects, index, node) else { return false };
     let (_, start) = layout::place_of(objects, index, 0);
-    let value = &mut objects[row].values[0];
-    if byte >= value.word as usize {
-        return false;
-    }
-    value.room[byte] |= bit;
+    objects[row].values[0].room[byte] |= bit;
     memory.bytes[start + byte] |= bit;
     true
+}
+
+/// The row of an error object, and the byte and the bit of a node in it.
+pub fn bit_of(objects: &[Object], index: u16, node: u8) -> Option<(usize, usize, u8)> {
+    let row = row(objects, index).filter(|row| objects[*row].shape == VARIABLE)?;
+    let value = &objects[row].values[0];
+    let (byte, bit) = (usize::from(node.checked_sub(1)?) / 8, 1 << ((node - 1) % 8));
+    let is_there = value.kind == OCTET_STRING && node < MANAGING_NODE && byte < value.word as usize;
+    is_there.then_some((row, byte, bit))
 }
 
 pub fn row(objects: &[Object], index: u16) -> Option<usize> {
@@ -168,6 +167,15 @@ pub fn list_u8(object: &Object, sub_index: usize) -> Option<u8> {
     (object.shape != VARIABLE && value.kind == UNSIGNED8).then_some(value.word as u8)
 }
 
+/// The words of a channel's list that are in use (R11.4); none where it is no list.
+pub fn gathered(edition: u64, objects: &[Object], channel: u16) -> Option<Vec<Word>> {
+    let list = &objects[row(objects, 0x1600 + channel)?];
+    let elements = in_use(edition, list).iter().zip(1..);
+    let words = elements.filter(|(value, _)| value.kind == UNSIGNED64);
+    let words = words.map(|(value, element)| Word::of(element, value.word));
+    (list.shape != VARIABLE).then(|| words.collect())
+}
+
 /// R11.3.
 pub fn is_right(expected: u8, received: u8) -> bool {
     match expected {
@@ -178,6 +186,7 @@ pub fn is_right(expected: u8, received: u8) -> bool {
 
 /// A run over the dictionary as it is at each step.
 pub struct Run<'a> {
+    pub edition: u64,
     pub objects: &'a mut [Object],
     pub memory: &'a mut Memory,
     pub payload: &'a Payload<'a>,
@@ -199,19 +208,13 @@ impl Run<'_> {
             self.set_bit(WRONG_VERSIONS);
             return (Vec::new(), vec![Told::of_version()]);
         }
-        let Some(words) = self.gathered(channel) else {
+        let Some(words) = gathered(self.edition, self.objects, channel) else {
             self.notes.push("no list");
             return nothing;
         };
+        self.note_list(channel);
         let told = self.steps(&words);
         (words, told)
-    }
-
-    fn gathered(&self, channel: u16) -> Option<Vec<Word>> {
-        let list = &self.objects[row(self.objects, 0x1600 + channel)?];
-        let words = list.values.iter().zip(1..).filter(|(value, _)| value.kind == UNSIGNED64);
-        let words = words.map(|(value, element)| Word::of(element, value.word));
-        (list.shape != VARIABLE).then(|| words.collect())
     }
 
     fn steps(&mut self, words: &[Word]) -> Vec<Told> {
@@ -225,9 +228,13 @@ impl Run<'_> {
                 let said = fate.fault().map_or(Vec::new(), Fault::numbers);
                 told.push(Told { step, kind, handed, said });
             }
+            self.note_second(word, fate);
             match fate {
                 Fate::PastThePayload => self.set_bit(SHORT_PAYLOADS),
-                Fate::Undecodable(fault, _) => self.note_fault(word, fault),
+                Fate::Undecodable(fault, _) => {
+                    self.note_fault(word, fault);
+                    self.mark(word, fault);
+                }
                 _ => continue,
             }
             return told;
@@ -237,7 +244,7 @@ impl Run<'_> {
     }
 
     /// None where it ends past the payload.
-    fn field(&self, word: &Word) -> Option<&[u8]> {
+    pub fn field(&self, word: &Word) -> Option<&[u8]> {
         self.payload.bytes.get(word.start / 8..(word.start + word.length) / 8)
     }
 
@@ -272,7 +279,7 @@ impl Run<'_> {
     }
 
     /// Of a list; what is not there has none.
-    fn is_count(&self, word: &Word) -> bool {
+    pub fn is_count(&self, word: &Word) -> bool {
         let row = row(self.objects, word.index);
         word.sub_index == 0 && row.is_some_and(|row| self.objects[row].shape != VARIABLE)
     }
@@ -298,7 +305,7 @@ impl Run<'_> {
         Fate::StringPut
     }
 
-    fn set_bit(&mut self, index: u16) {
+    pub fn set_bit(&mut self, index: u16) {
         if set_bit(self.objects, self.memory, index, self.payload.sender) {
             self.notes.push("a bit set");
         }

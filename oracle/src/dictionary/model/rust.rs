@@ -2,7 +2,7 @@
 
 use super::backend::{self, Kept, Table};
 use super::image::Record;
-use super::layout::{ARRAY, Object, VARIABLE, Value, element};
+use super::layout::{ARRAY, Object, VARIABLE, Value, element, is_string};
 use super::node::Node;
 use super::running::Told;
 use super::step::{Width, Write};
@@ -42,6 +42,13 @@ pub struct Found {
     pub kind: u64,
     pub word: u64,
     pub bytes: Vec<u8>,
+}
+
+impl Found {
+    pub fn of(value: &Value) -> Self {
+        let bytes = if is_string(value.kind) { value.encoding() } else { Vec::new() };
+        Self { kind: value.kind, word: value.word, bytes }
+    }
 }
 
 /// What a write did that was not refused.

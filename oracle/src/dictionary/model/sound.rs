@@ -1,12 +1,14 @@
 //! A dictionary that is not Malformed, as plain objects and as the Rust's, and what insertion,
 //! reading and counting must give. Other files have its other calls.
 
+use super::counted::read_notes;
+use super::edition::{cut, in_use, is_counted};
 use super::insertion::Insertion;
 use super::layout::{self, LONGEST_NAME, Object, is_text};
 use super::malformed;
 use super::memory::Memory;
 use super::range::Range;
-use super::rust::Rust;
+use super::rust::{Found, Rust, TYPE_MISMATCH};
 use super::step::Width;
 use crate::original::{BAD_VALUE, BUFFER_TOO_SHORT};
 use std::collections::BTreeSet;
@@ -18,6 +20,7 @@ const FULL: u64 = 17;
 const FEW: usize = 40;
 
 pub struct Dictionary {
+    pub edition: u64,
     pub objects: Vec<Object>,
     pub rust: Rust,
     /// Indices and places of values whose types a restore changed.
@@ -53,8 +56,9 @@ impl Done {
 }
 
 impl Dictionary {
-    pub fn new(objects: Vec<Object>, rust: Rust) -> Self {
-        Self { objects, rust, retyped: BTreeSet::new() }
+    /// The Rust has the same objects, cut to the elements that are in use.
+    pub fn new(edition: u64, objects: Vec<Object>, rust: Rust) -> Self {
+        Self { edition, objects, rust, retyped: BTreeSet::new() }
     }
 
     /// The Rust has no refusal here: it replaces an object, and has no bounds.
@@ -84,7 +88,7 @@ impl Dictionary {
         };
         self.rust.insert(&object);
         self.objects.insert(row, object);
-        layout::lay(&self.objects, memory);
+        layout::lay(self.edition, &self.objects, memory);
         self.check(memory);
         Ok(Done::because(place))
     }
@@ -105,6 +109,7 @@ impl Dictionary {
         }
         assert_eq!(malformed::judge(memory), Ok(()), "a laid dictionary is sound");
         assert!(layout::read_off(memory) == self.objects, "what was laid is read off again");
+        assert_eq!(memory.edition(), self.edition, "no call but new changes the edition");
     }
 
     /// The type, the word and the string's bytes are the Rust's; where they lie is the layout's.
@@ -114,8 +119,11 @@ impl Dictionary {
         index: u16,
         sub_index: u8,
         numbers: usize,
+        notes: &mut Vec<&'static str>,
     ) -> Result<Done, Refused> {
-        let found = self.rust.read(index, sub_index).map_err(refused)?;
+        let unused = self.read_unused(index, sub_index);
+        let found = unused.map_or_else(|| self.rust.read(index, sub_index), Ok).map_err(refused)?;
+        notes.extend(read_notes(self.edition, &self.objects, index, sub_index));
         if numbers < 3 {
             return Err(refused(BUFFER_TOO_SHORT));
         }
@@ -133,8 +141,21 @@ impl Dictionary {
         Ok(Done { numbers, ..Done::default() })
     }
 
-    pub fn read_number(&self, width: Width, index: u16, sub_index: u8) -> Result<Done, Refused> {
-        self.rust.read_number(width, index, sub_index).map(Done::number).map_err(refused)
+    pub fn read_number(
+        &self,
+        width: Width,
+        index: u16,
+        sub_index: u8,
+        notes: &mut Vec<&'static str>,
+    ) -> Result<Done, Refused> {
+        let number = match self.read_unused(index, sub_index) {
+            Some(found) if found.kind == width.kind() => Ok(found.word),
+            Some(_) => Err(TYPE_MISMATCH),
+            None => self.rust.read_number(width, index, sub_index),
+        };
+        let done = number.map(Done::number).map_err(refused)?;
+        notes.extend(read_notes(self.edition, &self.objects, index, sub_index));
+        Ok(done)
     }
 
     /// A name over 32 bytes is outside the domain, and one that is not UTF-8
@@ -160,7 +181,16 @@ impl Dictionary {
     }
 
     /// What the Rust makes of the value is put where the layout has it.
-    pub fn increment_counter(&mut self, memory: &mut Memory, index: u16, sub_index: u8) -> Done {
+    pub fn increment_counter(
+        &mut self,
+        memory: &mut Memory,
+        index: u16,
+        sub_index: u8,
+        notes: &mut Vec<&'static str>,
+    ) -> Done {
+        if let Some(at) = self.unused(index, sub_index) {
+            return self.count_unused(at, memory, notes);
+        }
         let before = self.rust.read(index, sub_index);
         self.rust.increment_counter(index, sub_index);
         let after = self.rust.read(index, sub_index);
@@ -181,14 +211,23 @@ impl Dictionary {
         self.objects.iter().all(|object| self.is_equal(object))
     }
 
+    /// Of what is in use; a count that is kept is the Rust's too.
     pub fn is_equal(&self, object: &Object) -> bool {
+        let index = object.index as u16;
         let first = if object.shape == layout::VARIABLE { 0 } else { 1 };
-        object.values.iter().zip(first..).all(|(value, sub_index)| {
-            let found = self.rust.read(object.index as u16, sub_index);
-            found.is_ok_and(|found| {
-                let bytes = if layout::is_string(value.kind) { value.encoding() } else { vec![] };
-                (found.kind, found.word, found.bytes) == (value.kind, value.word, bytes)
-            })
-        })
+        let in_use = in_use(self.edition, object);
+        let mut places = in_use.iter().zip(first..);
+        let equal = places.all(|(value, sub_index)| {
+            self.rust.read(index, sub_index).is_ok_and(|found| found == Found::of(value))
+        });
+        let count =
+            || self.rust.read(index, 0).is_ok_and(|found| found.word == in_use.len() as u64);
+        equal && (!is_counted(self.edition, object) || count())
+    }
+
+    /// Gives the Rust all objects anew, as they are.
+    pub fn give_again(&mut self) {
+        let Self { edition, objects, rust, .. } = self;
+        objects.iter().for_each(|object| rust.insert(&cut(*edition, object)));
     }
 }

@@ -1,13 +1,15 @@
 //! A history: what is done to one dictionary, from fresh memory on.
 
+use super::edition::FIRST;
 use super::insertion::Insertion;
 use super::layout::{Object, Used};
-use super::memory::Lent;
+use super::memory::{EDITION, Lent};
 use crate::call::SAID;
 
 #[derive(Clone, PartialEq, Eq)]
 pub enum Call {
-    New,
+    /// Of an edition, which may be none.
+    New(u64),
     Insert(Insertion),
     Read {
         index: u16,
@@ -108,7 +110,7 @@ impl Width {
 pub enum Step {
     /// Lends other lengths; what is in memory stays.
     Lend(Lent),
-    /// Lays objects into memory without a call; they may break rules.
+    /// Lays objects of edition 1 into memory without a call; they may break rules.
     Lay(Vec<Object>),
     /// Changes one cell without a call.
     Put {
@@ -137,6 +139,17 @@ pub struct Outcome {
 }
 
 impl Step {
+    /// Makes what lies in memory a dictionary of this edition, without a call.
+    pub fn edition(edition: u64) -> Self {
+        Self::Put { slice: 0, at: EDITION, cell: edition }
+    }
+
+    /// Lays objects of any edition.
+    pub fn laying(edition: u64, objects: &[Object]) -> Vec<Self> {
+        let other = (edition != FIRST).then(|| Self::edition(edition));
+        std::iter::once(Self::Lay(objects.to_vec())).chain(other).collect()
+    }
+
     /// A history that was made smaller may lend too little for a step, which is then left out.
     pub fn fits(&self, Lent { lengths, store, .. }: &Lent) -> bool {
         match self {
@@ -154,7 +167,7 @@ impl Step {
 impl Call {
     pub fn name(&self) -> &'static str {
         match self {
-            Self::New => "new",
+            Self::New(_) => "new",
             Self::Insert(_) => "insert",
             Self::Read { .. } => "read",
             Self::ReadNumber { width: Width::U8, .. } => "read_u8",
@@ -182,7 +195,7 @@ impl Call {
             Self::Read { numbers, .. } => (*numbers, 0),
             Self::ReadNumber { .. } | Self::FindByName(_) => (1, 0),
             Self::GetConfiguredCns(out) => (1, *out),
-            Self::New | Self::Insert(_) | Self::IncrementCounter { .. } => (0, 0),
+            Self::New(_) | Self::Insert(_) | Self::IncrementCounter { .. } => (0, 0),
             // What is said of data that is no value.
             Self::Write(_) => (SAID, 0),
             Self::ValidatePdoMapping { .. } => (0, 0),
@@ -206,7 +219,7 @@ impl Call {
     /// Every other call leaves all memory that stays between calls.
     pub fn writes(&self) -> bool {
         match self {
-            Self::New | Self::Insert(_) | Self::IncrementCounter { .. } | Self::Write(_) => true,
+            Self::New(_) | Self::Insert(_) | Self::IncrementCounter { .. } | Self::Write(_) => true,
             Self::RestorePowerOnValues { .. } | Self::UpdatePdoErrorObject { .. } => true,
             Self::ConsumePdoPayload(_) | Self::ConsumeCycle(_) => true,
             Self::Read { .. } | Self::ReadNumber { .. } | Self::FindByName(_) => false,

@@ -2,8 +2,9 @@
 //! that the Rust has for it, or where the Rust has none, document 01.
 
 use super::between::Between;
+use super::edition::{FIRST, SECOND, cut};
 use super::explained::Named;
-use super::layout;
+use super::layout::{self, Object};
 use super::malformed;
 use super::memory::{Lent, Memory, ROW};
 use super::ranged::{LEFT_OUTSIDE, Outside};
@@ -56,7 +57,7 @@ impl World {
         }
         match step {
             Step::Lend(lent) => self.memory.lend(lent.lengths, lent.store),
-            Step::Lay(objects) => layout::lay(objects, &mut self.memory),
+            Step::Lay(objects) => layout::lay(FIRST, objects, &mut self.memory),
             Step::Put { slice, at, cell } => self.memory.put(*slice, *at, *cell),
             Step::Store(bytes) => self.memory.store[..bytes.len()].copy_from_slice(bytes),
             Step::Call(_) => unreachable!("a call has an answer"),
@@ -99,24 +100,24 @@ impl World {
     }
 
     fn done(&mut self, call: &Call, notes: &mut Vec<&'static str>) -> Result<Done, Refused> {
-        if *call == Call::New {
-            return self.make_new();
+        if let Call::New(edition) = call {
+            return self.make_new(*edition);
         }
         let Self { memory, known, .. } = self;
         let dictionary = judged(memory, known)?;
         match call {
-            Call::New => unreachable!("new judges no dictionary"),
+            Call::New(_) => unreachable!("new judges no dictionary"),
             Call::Insert(given) => dictionary.insert(given, memory, notes),
             Call::Read { index, sub_index, numbers } => {
-                dictionary.read(memory, *index, *sub_index, *numbers)
+                dictionary.read(memory, *index, *sub_index, *numbers, notes)
             }
             Call::ReadNumber { width, index, sub_index } => {
-                dictionary.read_number(*width, *index, *sub_index)
+                dictionary.read_number(*width, *index, *sub_index, notes)
             }
             Call::FindByName(name) => dictionary.find_by_name(name),
             Call::GetConfiguredCns(out) => dictionary.get_configured_cns(*out),
             Call::IncrementCounter { index, sub_index } => {
-                Ok(dictionary.increment_counter(memory, *index, *sub_index))
+                Ok(dictionary.increment_counter(memory, *index, *sub_index, notes))
             }
             Call::Write(given) => dictionary.write(given, memory, notes),
             Call::ValidatePdoMapping { index, count } => {
@@ -130,7 +131,7 @@ impl World {
             Call::UpdatePdoErrorObject { index, node } => {
                 Ok(dictionary.update_pdo_error_object(*index, *node, memory))
             }
-            Call::Check(channel) => Ok(dictionary.check_channel(*channel)),
+            Call::Check(channel) => Ok(dictionary.check_channel(*channel, notes)),
             Call::CheckAll(room) => dictionary.check_all(*room, notes),
             Call::Explain { channel, element, room } => {
                 dictionary.explain(*channel, *element, *room, notes)
@@ -138,15 +139,20 @@ impl World {
         }
     }
 
-    /// The Rust's `new` lends nothing, so too little memory is document 01's alone.
-    fn make_new(&mut self) -> Result<Done, Refused> {
+    /// The Rust's `new` is given no edition and lends nothing, so its refusals are the rules' alone.
+    fn make_new(&mut self, edition: u64) -> Result<Done, Refused> {
+        let cause = match edition {
+            FIRST => "edition 1",
+            SECOND => "edition 2",
+            _ => return Err((MALFORMED, Some("no such edition"))),
+        };
         if self.memory.objects.len() < ROW {
             return Err((FULL, Some("objects lent")));
         }
-        layout::lay(&[], &mut self.memory);
+        layout::lay(edition, &[], &mut self.memory);
         let rust = Rust::of(&[], has_store(&self.memory));
-        self.known = Known::Sound(Box::new(Dictionary::new(Vec::new(), rust)));
-        Ok(Done::default())
+        self.known = Known::Sound(Box::new(Dictionary::new(edition, Vec::new(), rust)));
+        Ok(Done::because(cause))
     }
 
     /// The values that lie outside their ranges; none where memory is not known to be a dictionary.
@@ -172,15 +178,17 @@ impl World {
 }
 
 /// Memory that was changed without a call is judged, and where it is a
-/// dictionary, the Rust is given the same objects.
+/// dictionary, the Rust is given the same objects, cut to what is in use.
 fn judged<'a>(memory: &Memory, known: &'a mut Known) -> Result<&'a mut Dictionary, Refused> {
     if matches!(known, Known::Nothing) {
         *known = match malformed::judge(memory) {
             Err(rule) => Known::Malformed(rule),
             Ok(()) => {
-                let objects = layout::read_off(memory);
-                let rust = Rust::of(&objects, has_store(memory));
-                Known::Sound(Box::new(Dictionary::new(objects, rust)))
+                let (edition, objects) = (memory.edition(), layout::read_off(memory));
+                let in_use: Vec<Object> =
+                    objects.iter().map(|object| cut(edition, object)).collect();
+                let rust = Rust::of(&in_use, has_store(memory));
+                Known::Sound(Box::new(Dictionary::new(edition, objects, rust)))
             }
         };
     }

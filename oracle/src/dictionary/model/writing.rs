@@ -3,12 +3,14 @@
 //! lie.
 
 use super::causes;
+use super::counted::judge_count;
 use super::image::{self, Record};
 use super::layout::{self, element, is_string, no_encoding};
 use super::memory::Memory;
 use super::rust::Written;
 use super::sound::{Dictionary, Done, Refused};
 use super::step::Write;
+use super::unused::{OUTSIDE, SAVED};
 use crate::fault::Fault;
 use crate::original::BAD_VALUE;
 
@@ -27,14 +29,22 @@ impl Dictionary {
         if let Some(rule) = no_encoding(given.kind, &given.data) {
             return Ok(self.no_value(given, rule, notes));
         }
+        let unused = self.unused(given.index, given.sub_index);
         if let Some(refused) = self.out_of_range(given, notes) {
+            notes.extend(unused.map(|_| OUTSIDE));
             return Err(refused);
+        }
+        if let Some(at) = unused {
+            return self.write_unused(at, given, memory, notes);
+        }
+        if let Some(row) = self.counted(given) {
+            return self.write_count(row, given, memory, notes);
         }
         let written = self.rust.write(given);
         let refused = |refusal| (refusal, causes::of_refusal(&self.objects, given, refusal));
         let done = written.map_err(refused).and_then(|written| match written {
             Written::Taken => self.put(given, memory),
-            Written::Saved(records) => self.save(given.sub_index, &records, memory),
+            Written::Saved(records) => self.save(given.sub_index, records, memory, notes),
             // No refusal, but it too leaves everything as it was.
             Written::RestoreRequested => Err((RESTORE_REQUESTED, None)),
         });
@@ -81,22 +91,36 @@ impl Dictionary {
         Ok(Done::because(cause))
     }
 
-    /// The image is that of the Rust's table. Its storage has no bounds: a table
-    /// that passes one is outside the domain (R2.5), and the one before it stays.
-    fn save(&mut self, list: u8, records: &[Record], memory: &mut Memory) -> Result<Done, Refused> {
+    /// The image is that of the Rust's table, with the elements that are not in use. Its storage has
+    /// no bounds: a table that passes one is outside the domain (R2.5), and the one before it stays.
+    fn save(
+        &mut self,
+        list: u8,
+        mut records: Vec<Record>,
+        memory: &mut Memory,
+        notes: &mut Vec<&'static str>,
+    ) -> Result<Done, Refused> {
         assert!(self.all_equal(), "the model has the Rust's values at a save");
-        if let Some(cause) = image::full(records, memory.store.len()) {
+        let unused = self.unused_records(list);
+        notes.extend((!unused.is_empty()).then_some(SAVED));
+        records.extend(unused);
+        records.sort_by_key(|record| (record.index, record.sub_index));
+        if let Some(cause) = image::full(&records, memory.store.len()) {
             self.rust.undo_save();
             return Err((STORE_FULL, Some(cause)));
         }
-        let image = image::of(records);
+        let image = image::of(&records);
         memory.store[..image.len()].copy_from_slice(&image);
+        // So that its table is the one that the store has the image of.
+        self.rust.keep(Some(&records));
         Ok(Done::because(causes::of_save(list, records.is_empty())))
     }
 
-    pub fn validate_pdo_mapping(&self, index: u16, count: u8) -> Result<Done, Refused> {
+    /// Of all elements that are there, in use or not; so the Rust is asked with the whole list.
+    pub fn validate_pdo_mapping(&mut self, index: u16, count: u8) -> Result<Done, Refused> {
+        let judged = self.with_whole(index, |rust| rust.validate_pdo_mapping(index, count));
+        assert_eq!(judged, judge_count(&self.objects, index, count), "the count check, {count}");
         let cause = |answer| causes::of_count(&self.objects, index, count, answer);
-        let judged = self.rust.validate_pdo_mapping(index, count);
         judged.map_err(|refusal| (refusal, cause(refusal)))?;
         Ok(Done { cause: cause(0), ..Done::default() })
     }

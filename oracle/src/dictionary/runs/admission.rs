@@ -1,5 +1,6 @@
 //! Which payloads a channel admits (RULES.md R12.4), on the plain objects.
 
+use crate::dictionary::model::edition::in_use;
 use crate::dictionary::model::layout::{Object, VARIABLE, Value, element, is_text};
 use crate::dictionary::model::running::{Word, channel_of, is_right, list_u8, row};
 use crate::dictionary::model::step::Received;
@@ -26,10 +27,10 @@ impl Field {
     }
 }
 
-/// The elements of a channel's list; none where it is no list.
-pub fn elements(objects: &[Object], channel: u8) -> &[Value] {
+/// The elements of a channel's list that are in use; none where it is no list.
+pub fn elements(edition: u64, objects: &[Object], channel: u8) -> &[Value] {
     match row(objects, 0x1600 + u16::from(channel)) {
-        Some(row) if objects[row].shape != VARIABLE => &objects[row].values,
+        Some(row) if objects[row].shape != VARIABLE => in_use(edition, &objects[row]),
         _ => &[],
     }
 }
@@ -68,8 +69,8 @@ pub fn senders(objects: &[Object], channel: u8) -> Vec<u8> {
     (0..=u8::MAX).filter(|sender| channel_of(objects, *sender) == Some(channel.into())).collect()
 }
 
-pub fn admits(objects: &[Object], channel: u8, given: &Received) -> bool {
-    let elements = elements(objects, channel);
+pub fn admits(edition: u64, objects: &[Object], channel: u8, given: &Received) -> bool {
+    let elements = elements(edition, objects, channel);
     let length = given.payload.len();
     given.ready != 0
         && channel_of(objects, given.sender) == Some(channel.into())

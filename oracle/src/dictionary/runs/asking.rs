@@ -18,6 +18,7 @@ const SPARE: [usize; 4] = [36, 18, 6, 40];
 /// the check is held against what the payloads show, else a pass against what they show later.
 #[derive(Clone)]
 pub struct Case {
+    pub edition: u64,
     pub objects: Vec<Object>,
     pub calls: Vec<Call>,
     pub channels: Vec<u8>,
@@ -34,30 +35,46 @@ pub struct Asked {
     pub upto: Option<usize>,
 }
 
-/// The checks are the history's first calls, the payloads its last.
-pub fn plan(case: &Case) -> (History, Vec<Asked>) {
+pub struct Plan {
+    /// The checks are its first calls, the payloads its last.
+    pub history: History,
+    pub asked: Vec<Asked>,
+    /// The channels of which nothing but the count in use became another.
+    pub ended: Vec<u8>,
+}
+
+pub fn plan(case: &Case) -> Plan {
     let random = &mut Random::new(case.seed);
     let spare = if case.calls.is_empty() { [0; 4] } else { SPARE };
     let used = Used::of(&case.objects).lengths();
     let lengths = std::array::from_fn(|slice| used[slice] + spare[slice]);
     let first = Lent { at_start: case.seed.is_multiple_of(2), lengths, store: 0 };
-    let mut steps = vec![Step::Lay(case.objects.clone())];
+    let mut steps = Step::laying(case.edition, &case.objects);
     steps.extend(case.channels.iter().map(|channel| Step::Call(Call::Check(*channel))));
     steps.extend(case.calls.iter().cloned().map(Step::Call));
     let later = left(first, case);
     let kept = case.channels.iter().filter(|channel| keeps(&case.objects, &later, **channel));
-    let asked: Vec<Asked> = kept.flat_map(|channel| asked(random, &later, *channel)).collect();
+    let is_ended =
+        |channel: &&u8| count(case, &case.objects, **channel) != count(case, &later, **channel);
+    let ended: Vec<u8> = kept.clone().filter(is_ended).copied().collect();
+    let asked: Vec<Asked> =
+        kept.flat_map(|channel| asked(random, case.edition, &later, *channel)).collect();
     for Asked { objects, given, .. } in &asked {
-        steps.push(Step::Lay(objects.clone()));
+        steps.extend(Step::laying(case.edition, objects));
         steps.push(Step::Call(Call::ConsumePdoPayload(given.clone())));
     }
-    (History { first, steps }, asked)
+    Plan { history: History { first, steps }, asked, ended }
+}
+
+/// How many elements of a channel's list are in use.
+fn count(case: &Case, objects: &[Object], channel: u8) -> usize {
+    elements(case.edition, objects, channel).len()
 }
 
 /// The dictionary that the calls leave.
 fn left(first: Lent, case: &Case) -> Vec<Object> {
     let mut world = World::new(first);
-    world.change(&Step::Lay(case.objects.clone()));
+    Step::laying(case.edition, &case.objects).iter().for_each(|step| world.change(step));
     if malformed::judge(&world.memory).is_err() {
         return Vec::new();
     }
@@ -65,7 +82,7 @@ fn left(first: Lent, case: &Case) -> Vec<Object> {
     layout::read_off(&world.memory)
 }
 
-/// Whether the channel's records still have their contents (R12.10).
+/// Whether the channel's records still have their contents (R12.10), but for the count in use.
 fn keeps(objects: &[Object], later: &[Object], channel: u8) -> bool {
     [0x1400, 0x1600].into_iter().all(|records| {
         let contents = |objects: &[Object]| {
@@ -79,11 +96,11 @@ fn keeps(objects: &[Object], later: &[Object], channel: u8) -> bool {
 
 /// The payloads that are tried. The first comes once more for each field that a later one
 /// overwrites, without the words behind it.
-fn asked(random: &mut Random, objects: &[Object], channel: u8) -> Vec<Asked> {
-    let tried = tried::payloads(random, objects, channel);
+fn asked(random: &mut Random, edition: u64, objects: &[Object], channel: u8) -> Vec<Asked> {
+    let tried = tried::payloads(random, edition, objects, channel);
     let mut asked = Vec::new();
     if let Some(given) = tried.first() {
-        let fields = fields(elements(objects, channel));
+        let fields = fields(elements(edition, objects, channel));
         for field in fields.iter().filter(|field| !stands(field, &fields)) {
             let objects = cut(objects, channel, field.place);
             let given = given.clone();

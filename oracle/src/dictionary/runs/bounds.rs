@@ -7,6 +7,7 @@ use crate::dictionary::generators::objects::using;
 use crate::dictionary::generators::payloads;
 use crate::dictionary::generators::restores;
 use crate::dictionary::generators::writes;
+use crate::dictionary::model::edition::FIRST;
 use crate::dictionary::model::insertion::Insertion;
 use crate::dictionary::model::layout::*;
 use crate::dictionary::model::memory::Lent;
@@ -83,7 +84,7 @@ fn grown(random: &mut Random, used: Used, extra: Used) -> History {
         objects.swap(place, random.below(place + 1));
     }
     objects.push(one_more(random, extra));
-    let mut steps = vec![Step::Call(Call::New)];
+    let mut steps = vec![Step::Call(Call::New(FIRST))];
     steps.extend(objects.iter().map(insert));
     steps.extend((0..20).map(|_| Step::Call(calls::any(random, &objects))));
     steps.extend((0..10).map(|_| Step::Call(writes::any(random, &objects))));

@@ -3,6 +3,7 @@
 
 use crate::dictionary::model::answers::answer_name;
 use crate::dictionary::model::explained::{THERE, VERDICTS, verdict_name};
+use crate::dictionary::model::malformed::KEPT_TOO_MANY;
 use crate::dictionary::model::ranged::{ABOVE, BELOW, LEFT_OUTSIDE, NOTES as RANGES};
 use crate::dictionary::shown::tally::{Goal, Tally};
 use crate::sorts::BAD_TEXTS;
@@ -30,10 +31,12 @@ fn numbers_lacking(tally: &Tally) -> Vec<String> {
 }
 
 /// Of ranges, which the stored histories have none of: each way to be given wrong, to be damaged, to
-/// refuse a write and not to be asked; and each call that leaves a value outside one.
+/// refuse a write and not to be asked; and each call that leaves a value outside one. With them kept
+/// counts that are damaged.
 fn ranges_lacking(tally: &Tally) -> Vec<String> {
     let given = ENDS.map(|rule| (INSERTS, 2, Some(rule)));
-    let damaged = ROWS.map(|rule| (EVERY, 1, Some(rule)));
+    let damaged = [&ROWS[..], &KEPT_TOO_MANY[0]].concat();
+    let damaged: Vec<Goal> = damaged.into_iter().map(|rule| (EVERY, 1, Some(rule))).collect();
     let refused = [BELOW, ABOVE].concat();
     let refused: Vec<Goal> = refused.into_iter().map(|side| (WRITES, 21, Some(side))).collect();
     let left = LEAVING.map(|call| tally.not_noted(call, &[LEFT_OUTSIDE])).concat();
@@ -72,13 +75,8 @@ const BESIDES: [&str; 2] =
     ["wrong ends where the index is taken", "wrong ends where no room is left"];
 
 /// The range of a row that is Malformed.
-const ROWS: [&str; 5] = [
-    "row's zero",
-    "range's type",
-    "ends of no range",
-    "range's end over its size",
-    "range's order",
-];
+const ROWS: [&str; 4] =
+    ["range's type", "ends of no range", "range's end over its size", "range's order"];
 
 const INSERT: [Goal; 37] = [
     (INSERTS, 0, Some("the first object")),

@@ -4,6 +4,7 @@ use super::trial::Trial;
 use crate::dictionary::generators::calls;
 use crate::dictionary::generators::objects::{self, Pool, Sizes};
 use crate::dictionary::generators::spoil::spoil;
+use crate::dictionary::model::edition::FIRST;
 use crate::dictionary::model::insertion::Insertion;
 use crate::dictionary::model::layout::*;
 use crate::dictionary::model::memory::Lent;
@@ -56,7 +57,7 @@ fn small(random: &mut Random, sizes: Sizes) -> History {
     if random.below(8) == 0 {
         steps.push(call(calls::any(random, &objects)));
     }
-    steps.push(call(Call::New));
+    steps.push(call(Call::New(FIRST)));
     for (inserted, object) in objects.iter().enumerate() {
         if random.below(3) == 0 {
             let mut given = Insertion::of(object);
@@ -68,7 +69,7 @@ fn small(random: &mut Random, sizes: Sizes) -> History {
             steps.push(call(calls::any(random, &objects[..=inserted])));
         }
         if random.below(40) == 0 {
-            steps.push(call(Call::New));
+            steps.push(call(Call::New(FIRST)));
         }
         if random.below(12) == 0 {
             steps.push(Step::Lend(lent_again(random, first)));
@@ -82,7 +83,7 @@ fn small(random: &mut Random, sizes: Sizes) -> History {
 fn all_nodes(elements: usize) -> History {
     let node = Value::new(objects::UNSIGNED32, 0, &[1, 0, 0, 0]);
     let list = bare(objects::CONFIGURED_NODES.into(), ARRAY, vec![node; elements]);
-    let mut steps = vec![call(Call::New), insert(Insertion::of(&list))];
+    let mut steps = vec![call(Call::New(FIRST)), insert(Insertion::of(&list))];
     for lent in [0, 1, elements - 1, elements, elements + 1, 300] {
         steps.push(call(Call::GetConfiguredCns(lent)));
     }
@@ -96,7 +97,7 @@ fn wrong_encodings(random: &mut Random, kind: u64) -> History {
         Some(size) => vec![0, size - 1, size + 1],
         None => vec![1, 3, 9],
     };
-    let mut steps = vec![call(Call::New)];
+    let mut steps = vec![call(Call::New(FIRST))];
     for (index, length) in (0..).zip(lengths) {
         // No text begins with such a byte.
         let encodings = [vec![0xFF], random.bytes(length)].concat()[..length].to_vec();

@@ -11,6 +11,7 @@ use crate::dictionary::generators::objects::{self, Pool, Sizes, using};
 use crate::dictionary::generators::payloads;
 use crate::dictionary::generators::restores;
 use crate::dictionary::generators::writes;
+use crate::dictionary::model::edition::FIRST;
 use crate::dictionary::model::insertion::Insertion;
 use crate::dictionary::model::layout::*;
 use crate::dictionary::model::memory::{BYTES, Lent};
@@ -108,7 +109,7 @@ pub fn history(random: &mut Random, objects: &[Object], edits: Vec<Step>) -> His
     steps.extend(checks::each(random, objects).map(Step::Call));
     steps.push(Step::Call(Call::Insert(insertion(random, objects))));
     if random.below(8) == 0 {
-        steps.push(Step::Call(Call::New));
+        steps.push(Step::Call(Call::New(FIRST)));
         steps.push(Step::Call(calls::any(random, objects)));
     }
     History { first, steps }

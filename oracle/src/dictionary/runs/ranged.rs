@@ -15,6 +15,7 @@ use crate::dictionary::generators::payloads;
 use crate::dictionary::generators::ranges::{self, largest};
 use crate::dictionary::generators::restores;
 use crate::dictionary::generators::writes::{self, write};
+use crate::dictionary::model::edition::FIRST;
 use crate::dictionary::model::insertion::Insertion;
 use crate::dictionary::model::layout::*;
 use crate::dictionary::model::memory::Lent;
@@ -119,7 +120,7 @@ fn insert(object: &Object) -> Step {
 }
 
 fn let_all_in(objects: &[Object]) -> Vec<Step> {
-    let new = std::iter::once(Step::Call(Call::New));
+    let new = std::iter::once(Step::Call(Call::New(FIRST)));
     new.chain(objects.iter().map(insert)).collect()
 }
 
@@ -210,7 +211,7 @@ fn before_ranges() -> History {
 fn let_in(random: &mut Random) -> History {
     let mut objects = mixed(random, SMALL);
     ranges::give(random, &mut objects);
-    let mut steps = vec![Step::Call(Call::New)];
+    let mut steps = vec![Step::Call(Call::New(FIRST))];
     for object in &objects {
         let count = random.below(3);
         steps.extend((0..count).map(|_| wrong(random, object, object.index as u16)));

@@ -8,6 +8,7 @@ use crate::dictionary::generators::dictionaries::{LARGER, image_length, saved, v
 use crate::dictionary::generators::objects::Sizes;
 use crate::dictionary::generators::restores;
 use crate::dictionary::generators::writes;
+use crate::dictionary::model::edition::FIRST;
 use crate::dictionary::model::insertion::Insertion;
 use crate::dictionary::model::layout::*;
 use crate::dictionary::model::memory::Lent;
@@ -58,7 +59,7 @@ fn history(random: &mut Random, sizes: Sizes) -> History {
 
 fn let_in(objects: &[Object]) -> impl Iterator<Item = Step> {
     let inserted = objects.iter().map(|object| Call::Insert(Insertion::of(object)));
-    std::iter::once(Call::New).chain(inserted).map(Step::Call)
+    std::iter::once(Call::New(FIRST)).chain(inserted).map(Step::Call)
 }
 
 /// A list that saves nothing leaves a table of nothing, so that defaults alone count.

@@ -119,12 +119,13 @@ fn simpler(step: &Step, part: usize) -> Option<Step> {
     match &mut step {
         Step::Call(Call::Insert(given)) => simpler_insertion(given, part)?,
         Step::Lay(objects) => {
-            let object = objects.get_mut(part / 5)?;
-            match part % 5 {
+            let object = objects.get_mut(part / 6)?;
+            match part % 6 {
                 0 => object.name.clear(),
                 1 => object.default = None,
                 2 => object.range = Range::NONE,
-                3 => object.values.truncate(object.values.len().div_ceil(2)),
+                3 => object.kept = None,
+                4 => object.values.truncate(object.values.len().div_ceil(2)),
                 _ => object.values.truncate(object.values.len().saturating_sub(1).max(1)),
             }
         }

@@ -5,7 +5,7 @@ use super::admission::{
     Field, LONGEST_PAYLOAD, admits, elements, fields, needed, right_versions, senders,
 };
 use crate::dictionary::model::consuming::LEAST_ROOM;
-use crate::dictionary::model::layout::{Object, VARIABLE};
+use crate::dictionary::model::layout::{Object, VARIABLE, Value};
 use crate::dictionary::model::running::row;
 use crate::dictionary::model::step::Received;
 use crate::inputs::text;
@@ -13,11 +13,17 @@ use crate::original::VISIBLE_STRING;
 use crate::random::Random;
 
 /// Those that the channel admits, of every sender; in the first one every field differs.
-pub fn payloads(random: &mut Random, objects: &[Object], channel: u8) -> Vec<Received> {
+pub fn payloads(
+    random: &mut Random,
+    edition: u64,
+    objects: &[Object],
+    channel: u8,
+) -> Vec<Received> {
     let versions = right_versions(objects, channel);
+    let elements = elements(edition, objects, channel);
     let mut tried = Vec::new();
     for sender in senders(objects, channel) {
-        tried.extend(contents(random, objects, channel).into_iter().map(|payload| Received {
+        tried.extend(contents(random, objects, elements).into_iter().map(|payload| Received {
             payload,
             sender,
             version: random.pick(&versions),
@@ -25,13 +31,12 @@ pub fn payloads(random: &mut Random, objects: &[Object], channel: u8) -> Vec<Rec
             room: LEAST_ROOM,
         }));
     }
-    tried.retain(|given| admits(objects, channel, given));
+    tried.retain(|given| admits(edition, objects, channel, given));
     tried
 }
 
 /// As long as needed, a little longer, or as long as a payload may be.
-fn contents(random: &mut Random, objects: &[Object], channel: u8) -> Vec<Vec<u8>> {
-    let elements = elements(objects, channel);
+fn contents(random: &mut Random, objects: &[Object], elements: &[Value]) -> Vec<Vec<u8>> {
     let needed = needed(elements);
     if needed > LONGEST_PAYLOAD || elements.is_empty() {
         return vec![vec![0; needed]];

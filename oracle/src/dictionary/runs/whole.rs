@@ -28,7 +28,7 @@ pub fn shown<'a>(asked: &'a Asked, before: &Memory, after: &Memory, given: &Give
         return broken("a payload leaves no dictionary");
     }
     let Asked { channel, objects, .. } = asked;
-    let elements = elements(objects, *channel);
+    let elements = elements(before.edition(), objects, *channel);
     let consumed = Consumed {
         before: objects,
         after: &layout::read_off(after),
@@ -61,7 +61,7 @@ impl Consumed<'_> {
             return Some("a field is no value of its target's");
         };
         let mut wanted = before.clone();
-        layout::lay(&folded, &mut wanted);
+        layout::lay(before.edition(), &folded, &mut wanted);
         (wanted != *after).then_some("something else changed")
     }
 

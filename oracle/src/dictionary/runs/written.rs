@@ -7,6 +7,7 @@ use crate::dictionary::generators::dictionaries::{LARGER, image_length, mapped, 
 use crate::dictionary::generators::objects::{Sizes, rising};
 use crate::dictionary::generators::restores;
 use crate::dictionary::generators::writes;
+use crate::dictionary::model::edition::FIRST;
 use crate::dictionary::model::insertion::Insertion;
 use crate::dictionary::model::layout::*;
 use crate::dictionary::model::memory::Lent;
@@ -57,7 +58,7 @@ fn history(random: &mut Random, objects: Vec<Object>) -> History {
         store: store(random, &objects),
     };
     let first = lent;
-    let mut steps = vec![Step::Call(Call::New)];
+    let mut steps = vec![Step::Call(Call::New(FIRST))];
     let mut order: Vec<usize> = (0..objects.len()).collect();
     (1..order.len()).for_each(|place| order.swap(place, random.below(place + 1)));
     for row in order {
@@ -73,7 +74,7 @@ fn history(random: &mut Random, objects: Vec<Object>) -> History {
             steps.push(Step::Lend(lent));
         }
         if random.below(200) == 0 {
-            steps.push(Step::Call(Call::New));
+            steps.push(Step::Call(Call::New(FIRST)));
         }
         steps.push(Step::Call(any(random, &objects)));
     }

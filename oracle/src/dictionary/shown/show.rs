@@ -77,10 +77,11 @@ fn object(object: &Object) -> String {
     let Object { index, shape, access, name, range, .. } = object;
     format!(
         "{index:04X}h kind {shape} access {access} name {} values [{}] default {default} \
-         range (hex) {:X?}",
+         range (hex) {:X?} kept {}",
         text(name),
         few(values),
-        range.ends()
+        range.ends(),
+        object.kept_count()
     )
 }
 
@@ -93,7 +94,7 @@ fn value(value: &Value) -> String {
 pub fn call(call: &Call) -> String {
     let name = call.name();
     match call {
-        Call::New => name.to_string(),
+        Call::New(edition) => format!("{name}, edition {edition:X}"),
         Call::Insert(given) => insertion(given),
         Call::Read { index, sub_index, numbers } => {
             format!("{name} {index:04X}h/{sub_index}, {numbers} numbers lent")

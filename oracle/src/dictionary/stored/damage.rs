@@ -4,8 +4,10 @@ use super::lines::{LENT, Lines};
 use super::said::{SMALL, any_call, each_call, until};
 use crate::dictionary::generators::cells::{Cell, cells, other};
 use crate::dictionary::generators::objects::{self, Pool};
+use crate::dictionary::model::edition::SECOND;
 use crate::dictionary::model::layout::*;
 use crate::dictionary::model::malformed;
+use crate::dictionary::model::memory::{EDITION, KEPT, ROW};
 use crate::inputs::text;
 use crate::original::{KINDS, VISIBLE_STRING};
 use crate::random::Random;
@@ -91,9 +93,16 @@ fn change(lines: &Lines, random: &mut Random, verdict: Result<(), &'static str>)
         memory.put(cell.slice, cell.at, new);
         let judged = malformed::judge(&memory);
         memory.put(cell.slice, cell.at, cell.old);
-        (judged == verdict && new != cell.old).then_some((place, new))
+        let is_another = new != cell.old && !is_of_edition_2(cell, new);
+        (judged == verdict && is_another).then_some((place, new))
     });
     (cells.swap_remove(place), new)
+}
+
+/// These histories stay in edition 1, which looks at no kept count.
+fn is_of_edition_2(cell: &Cell, new: u64) -> bool {
+    let is_kept = cell.at >= ROW && cell.at % ROW == KEPT;
+    cell.slice == 0 && (is_kept || cell.at == EDITION && new == SECOND)
 }
 
 /// Changes after which memory is still a dictionary: another value, name, access

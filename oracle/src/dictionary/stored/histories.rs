@@ -77,6 +77,7 @@ fn kinds(lines: &mut Lines, random: &mut Random) {
                 values: kinds.map(|kind| objects::value_of(random, kind, 8)).collect(),
                 default: Some(objects::default_of(random, of_default, 8)),
                 range: Range::NONE,
+                kept: None,
             };
             lines.insert(&object);
         }

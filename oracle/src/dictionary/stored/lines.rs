@@ -3,6 +3,7 @@
 
 use crate::call::number_fill;
 use crate::dictionary::model::checked::{NO_SENDER, TOO_FAR};
+use crate::dictionary::model::edition::FIRST;
 use crate::dictionary::model::explained;
 use crate::dictionary::model::insertion::Insertion;
 use crate::dictionary::model::layout::{self, Object, is_string};
@@ -130,7 +131,7 @@ impl Lines {
     /// Ends a history: another begins, on the memory that this one leaves.
     pub fn begin(&mut self) {
         self.world.assert_equal();
-        self.call(Call::New);
+        self.call(Call::New(FIRST));
     }
 
     fn sum(&mut self) {
@@ -157,7 +158,7 @@ pub fn sayable(call: &Call) -> bool {
         Call::Read { numbers, .. } => *numbers == 3,
         Call::FindByName(name) => name.len() <= MOST_BYTES_GIVEN,
         Call::GetConfiguredCns(out) => *out <= 0xFF,
-        Call::New | Call::ReadNumber { .. } | Call::IncrementCounter { .. } => true,
+        Call::New(_) | Call::ReadNumber { .. } | Call::IncrementCounter { .. } => true,
         Call::Write(given) => given.data.len() <= MOST_BYTES_GIVEN,
         Call::ValidatePdoMapping { .. } | Call::RestorePowerOnValues { .. } => true,
         Call::ConsumePdoPayload(given) => {
@@ -179,7 +180,8 @@ pub fn sayable(call: &Call) -> bool {
 fn given(call: &Call, store: usize) -> String {
     assert!(sayable(call), "a line can say the call");
     match call {
-        Call::New => "N".to_string(),
+        Call::New(FIRST) => "N".to_string(),
+        Call::New(edition) => format!("E {edition:X}"),
         Call::Insert(given) => {
             let Insertion { index, shape, access, has_default, .. } = given;
             let pairs = given.numbers.iter().flat_map(|number| (*number as u16).to_be_bytes());
@@ -227,7 +229,7 @@ fn said(numbers: &[u64]) -> String {
 fn found(call: &Call, outcome: &Outcome, memory: &Memory) -> String {
     let Outcome { numbers, out, events, .. } = outcome;
     match call {
-        Call::New | Call::Insert(_) | Call::IncrementCounter { .. } => String::new(),
+        Call::New(_) | Call::Insert(_) | Call::IncrementCounter { .. } => String::new(),
         Call::Write(_) => said(numbers),
         Call::ValidatePdoMapping { .. } | Call::RestorePowerOnValues { .. } => String::new(),
         Call::UpdatePdoErrorObject { .. } => String::new(),

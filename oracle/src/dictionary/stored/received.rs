@@ -255,7 +255,7 @@ fn each_call(lines: &mut Lines, random: &mut Random, objects: &[Object]) {
 /// A dictionary is judged before anything is consumed, also where a payload would be refused.
 fn damage(lines: &mut Lines, random: &mut Random) {
     let objects = lines.objects();
-    for (slice, at, new, old) in [(0, 3, 2, 1), (0, 4, 1, 0)] {
+    for (slice, at, new, old) in [(0, 3, 3, 1), (0, 4, 1, 0)] {
         lines.put(slice, at, new);
         each_call(lines, random, &objects);
         lines.call(payload(&[], 5, 0, 1, 0));

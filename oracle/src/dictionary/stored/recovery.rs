@@ -18,7 +18,7 @@ const READ_WRITE_STORE: u64 = 4;
 
 pub fn all(lines: &mut Lines, random: &mut Random) {
     // A dictionary is judged before anything is restored, also where that is nothing.
-    lines.put(0, 3, 2);
+    lines.put(0, 3, 3);
     lines.call(restores::everything());
     lines.call(range(1, 0));
     lines.put(0, 3, 1);

@@ -236,7 +236,7 @@ fn mixture(lines: &mut Lines, random: &mut Random) {
 /// A dictionary is judged before anything is written or saved.
 fn damage(lines: &mut Lines, random: &mut Random) {
     lines.lend(STORE_BYTES);
-    for (slice, at, new, old) in [(0, 3, 2, 1), (0, 4, 1, 0)] {
+    for (slice, at, new, old) in [(0, 3, 3, 1), (0, 4, 1, 0)] {
         lines.put(slice, at, new);
         let objects = [bare(0x1600, VARIABLE, vec![Value::new(UNSIGNED8, 0, &[1])])];
         each_write(lines, random, &objects);

@@ -148,7 +148,7 @@ fn mixture(lines: &mut Lines, random: &mut Random) {
 /// A dictionary is judged before too few numbers are.
 fn damage(lines: &mut Lines) {
     let objects = lines.objects();
-    for (slice, at, new, old) in [(0, 3, 2, 1), (0, 4, 1, 0)] {
+    for (slice, at, new, old) in [(0, 3, 3, 1), (0, 4, 1, 0)] {
         lines.put(slice, at, new);
         each_check(lines, &objects);
         lines.call(Call::CheckAll(0));
