@@ -11,8 +11,8 @@ mod timing;
 use crate::port::Port;
 use crate::random::Random;
 use runs::{
-    bounds, consumed, demand, faults, goals, halves, histories, images, malice, no_values, ranged,
-    restored, rooms, saves, trial, written,
+    bounds, consumed, counts, demand, edition_goals, editions, faults, goals, halves, histories,
+    images, malice, no_values, ranged, restored, rooms, saves, trial, written,
 };
 
 /// Gives the comparisons and the differences.
@@ -40,6 +40,16 @@ pub fn compare_checks(port: &mut Port, random: &mut Random) -> (u64, u64) {
     faults::compare(&mut trial, random);
     demand::compare(&mut trial, random);
     trial.finish("answers about channels")
+}
+
+/// The same of both, in edition 2.
+pub fn compare_edition_2(port: &mut Port, random: &mut Random) -> (u64, u64) {
+    let mut trial = trial::Trial::new(port);
+    counts::compare(&mut trial, random);
+    editions::compare(&mut trial, random);
+    demand::compare_second(&mut trial, random);
+    trial.demand(edition_goals::lacking);
+    trial.finish("answers in edition 2")
 }
 
 /// Prints the histories that crates/cases replays.

@@ -1,6 +1,6 @@
 //! Compares the port with the unchanged Rust. Arguments: the seed, the port's
 //! program and, where only one part is to be run, that part: codec, dictionary,
-//! check or bench, which times calls and compares nothing. Without the port: the arguments
+//! check, edition-2 or bench, which times calls and compares nothing. Without the port: the arguments
 //! --histories, --stores, --payloads and --checks print histories with the answers that they must
 //! give.
 
@@ -49,7 +49,7 @@ fn main() -> ExitCode {
     }
     let chosen = |part: &str| only.as_deref().is_none_or(|only| only == part);
     if !PARTS.iter().any(|(part, _)| chosen(part)) {
-        eprintln!("oracle: the parts are codec, dictionary, check and bench");
+        eprintln!("oracle: the parts are codec, dictionary, check, edition-2 and bench");
         return ExitCode::from(2);
     }
     // First, so that a run that does not come back can be repeated too.
@@ -75,10 +75,11 @@ const PRINTED: [(&str, fn()); 4] = [
 
 type Part = (&'static str, fn(&mut Port, &mut Random) -> (u64, u64));
 
-const PARTS: [Part; 3] = [
+const PARTS: [Part; 4] = [
     ("codec", compare_codec),
     ("dictionary", dictionary::compare),
     ("check", dictionary::compare_checks),
+    ("edition-2", dictionary::compare_edition_2),
 ];
 
 /// Times, with a word on what the port's are worth.

@@ -77,8 +77,13 @@ fn lacking(tally: &Tally) -> Vec<String> {
 
 /// What of consuming was not reached; the stored histories are held against it too.
 pub fn not_reached(tally: &Tally) -> Vec<String> {
-    let notes = [&NOTES[..], &BAD_TEXTS].concat();
-    let notes = [CONSUME, CYCLE].map(|call| tally.not_noted(call, &notes)).concat();
+    let texts = [CONSUME, CYCLE].map(|call| tally.not_noted(call, &BAD_TEXTS)).concat();
+    [outcomes_not_reached(tally), texts].concat()
+}
+
+/// The same, but for the ways in which a text breaks.
+pub fn outcomes_not_reached(tally: &Tally) -> Vec<String> {
+    let notes = [CONSUME, CYCLE].map(|call| tally.not_noted(call, &NOTES)).concat();
     [notes, tally.missed(&ANSWERS)].concat()
 }
 
