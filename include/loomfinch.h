@@ -24,9 +24,9 @@ extern "C" {
 
 /* The version of this header and of the library that it belongs to. */
 #define LOOMFINCH_VERSION_MAJOR 0
-#define LOOMFINCH_VERSION_MINOR 3
+#define LOOMFINCH_VERSION_MINOR 4
 #define LOOMFINCH_VERSION_PATCH 0
-#define LOOMFINCH_VERSION "0.3.0"
+#define LOOMFINCH_VERSION "0.4.0"
 
 enum {
     LOOMFINCH_DONE = 0,
@@ -90,6 +90,9 @@ enum {
     LOOMFINCH_ACCESS_NONE = 7
 };
 
+/* The editions of the mapping rules: 1 is powerlink-rs's, and 2 keeps the count of a mapping, as EPSG DS 301 has it. */
+enum { LOOMFINCH_EDITION_1 = 1, LOOMFINCH_EDITION_2 = 2 };
+
 /* How many numbers a call needs room for. */
 enum {
     LOOMFINCH_DECODE_NUMBERS = 7,
@@ -144,11 +147,15 @@ uint64_t loomfinch_to_u64(uint16_t index, uint8_t sub_index, uint16_t offset_bit
  * write them. They may be longer than needed; what lies behind the used part stays and is not looked at. Every call below but
  * loomfinch_new judges the four first and answers 1 where they are no dictionary.
  * An index is 0..FFFFh and a sub-index 0..255. A list's sub-index 0 is the count of its elements.
+ * A dictionary has an edition, for good. A mapping is a list at 1600h..16FFh or 1A00h..1AFFh; in edition 2 it has a kept count n,
+ * which insertion starts as the number of its elements and loomfinch_write alone changes. Its first n elements are in use; those
+ * behind are read, written, saved and restored as others, and are neither consumed nor checked. A kept count is not saved, and
+ * stays when values are restored. In edition 1, and of any other list, all elements are in use.
  * loomfinch_dictionary.h has the four as one struct, and the calls over it. */
 
-/* Makes an empty dictionary: lays the header, 12 words; the words behind it stay, and the other slices need no preparation.
- * Answers 17 for fewer than 12 words. */
-uint64_t loomfinch_new(uint64_t *objects, size_t objects_len);
+/* Makes an empty dictionary of an edition, as named above: lays the header, 12 words; the words behind it stay, and the other
+ * slices need no preparation. Answers 1 for another edition than 1 or 2; 17 for fewer than 12 words; in this order. */
+uint64_t loomfinch_new(uint64_t *objects, size_t objects_len, uint64_t edition);
 
 /* Inserts an object of a kind and an access, as named above. The values are a Variable's one value or a list's elements, then the
  * default where has_default is 1. Each takes three numbers of vals: its type 0..20, the size of its room (a default's: just its
@@ -169,7 +176,8 @@ uint64_t loomfinch_insert(uint64_t *objects, size_t objects_len, uint64_t *slots
 
 /* Reads a value. Answers 1; 3 for no such object; 4 for no such element; 12 for fewer than 3 numbers; in this order.
  * Done: numbers[0] is the value's type, numbers[1] its word, and numbers[2] where its room starts: for types 11..14 the value
- * is the numbers[1] bytes at bytes + numbers[2]. A list's count has type 5 and start 0. Numbers behind stay. */
+ * is the numbers[1] bytes at bytes + numbers[2]. A list's count has type 5 and start 0; of a mapping in edition 2 it is the kept
+ * count. Numbers behind stay. */
 uint64_t loomfinch_read(const uint64_t *objects, size_t objects_len, const uint64_t *slots, size_t slots_len,
                         const uint64_t *words, size_t words_len, const uint8_t *bytes, size_t bytes_len, uint16_t index,
                         uint8_t sub_index, uint64_t *numbers, size_t numbers_len);
@@ -216,16 +224,17 @@ uint64_t loomfinch_increment_counter(const uint64_t *objects, size_t objects_len
  * object's range, where that is of its type; 13 for a string longer than its room.
  * 2 for a VisibleString that is not UTF-8 sets *place, and 2 for fewer bytes than the type has *place and *had, as loomfinch_decode
  * does. Else both stay: also where a fixed type's data is too long, and where a UnicodeString's count is odd.
- * Done: the value is put, and bytes in its room behind it stay; a mapping's count is accepted and not kept. A refusal and 19
- * change nothing. */
-uint64_t loomfinch_write(const uint64_t *objects, size_t objects_len, const uint64_t *slots, size_t slots_len, uint64_t *words,
+ * Done: the value is put, and bytes in its room behind it stay. A mapping's count is kept in edition 2, which changes one word of
+ * `objects` and nothing else: 0 turns the mapping off, a Record's for good, since a Record takes no other count. In edition 1 it is
+ * accepted and not kept. No other write changes `objects`. A refusal and 19 change nothing. */
+uint64_t loomfinch_write(uint64_t *objects, size_t objects_len, const uint64_t *slots, size_t slots_len, uint64_t *words,
                          size_t words_len, uint8_t *bytes, size_t bytes_len, uint8_t *store, size_t store_len, uint16_t index,
                          uint8_t sub_index, uint64_t type_number, const uint8_t *data, size_t data_len, uint64_t *place,
                          uint64_t *had);
 
-/* May the first `count` elements of the mapping at an index be used? Answers 1; then 0 for a count of 0 or another index than a
- * mapping's; 3 where there is no Array; 10 where one of them is missing or no Unsigned64; 11 where one of them ends behind the
- * Unsigned16 at 1F98h/1 (1A00h..1AFFh) or 1F98h/2 (1600h..16FFh), or behind 1490 bytes where there is none. */
+/* May the first `count` elements of the mapping at an index be used, be they in use or not? Answers 1; then 0 for a count of 0 or
+ * another index than a mapping's; 3 where there is no Array; 10 where one of them is missing or no Unsigned64; 11 where one of them
+ * ends behind the Unsigned16 at 1F98h/1 (1A00h..1AFFh) or 1F98h/2 (1600h..16FFh), or behind 1490 bytes where there is none. */
 uint64_t loomfinch_validate_pdo_mapping(const uint64_t *objects, size_t objects_len, const uint64_t *slots, size_t slots_len,
                                         const uint64_t *words, size_t words_len, const uint8_t *bytes, size_t bytes_len,
                                         uint16_t index, uint8_t count);
@@ -274,7 +283,10 @@ enum { LOOMFINCH_MOST_EVENTS = 254, LOOMFINCH_MOST_PAYLOADS = 1024, LOOMFINCH_MO
  * ready, and nothing happens; any other number is ready. Answers 1; 15 for fewer than 254 events; 14 for a payload over 1490 bytes;
  * in this order.
  * Done: *count is the number of events, which lie from events[0] on, and those behind stay. A run that stops half-way is Done too:
- * the fields before the stop are put, and the last event says why it stopped. */
+ * the fields before the stop are put, and the last event says why it stopped. LOOMFINCH_SHORT_FRAME sets the sender's bit in 1C81h,
+ * and in edition 2 so does LOOMFINCH_SHORT_VALUE; LOOMFINCH_MAP_VERSION sets it in 1C80h. Edition 2 takes the words of elements in
+ * use alone: a mapping that is turned off has its version held against the payload's, and puts nothing. A count that a payload
+ * brings is kept in neither edition. */
 uint64_t loomfinch_consume_pdo_payload(const uint64_t *objects, size_t objects_len, const uint64_t *slots, size_t slots_len,
                                        uint64_t *words, size_t words_len, uint8_t *bytes, size_t bytes_len,
                                        const uint8_t *payload, size_t payload_len, uint8_t sender, uint8_t version,
@@ -300,7 +312,7 @@ uint64_t loomfinch_update_pdo_error_object(const uint64_t *objects, size_t objec
 /* Answers of loomfinch_check beside 0, pass, and 1. */
 enum {
     LOOMFINCH_NO_SENDER = 31,    /* no sender has this channel */
-    LOOMFINCH_NO_LIST = 32,      /* its mapping 1600h+channel is no list of at least one element */
+    LOOMFINCH_NO_LIST = 32,      /* its mapping 1600h+channel is no list with an element in use */
     LOOMFINCH_NOT_MAPPING = 33,  /* the element is no Unsigned64 */
     LOOMFINCH_MISALIGNED = 34,   /* its offset or length is not whole bytes */
     LOOMFINCH_HAND_OFF = 35,     /* its target is 1200h..12FFh */
@@ -313,7 +325,8 @@ enum {
 /* Checks a channel, and changes nothing in the dictionary. Passes exactly when the channel maps at least one field, some payload can
  * fill it, and every ready payload that it accepts, long enough and with well-formed text, has each mapped field written whole, in
  * mapping order, with no event and nothing else changed; a pass holds until a restore, or until 1400h+channel or 1600h+channel
- * change. Answers 1; else 0 for a pass or the first fault, and *element is the place of the element that it names, or 0. */
+ * change, the count that is kept of the latter too. Only elements in use are checked. Answers 1; else 0 for a pass or the first
+ * fault, and *element is the place of the element that it names, or 0. */
 uint64_t loomfinch_check(const uint64_t *objects, size_t objects_len, const uint64_t *slots, size_t slots_len,
                          const uint64_t *words, size_t words_len, const uint8_t *bytes, size_t bytes_len, uint8_t channel,
                          uint64_t *element);
@@ -328,8 +341,8 @@ uint64_t loomfinch_check_all(const uint64_t *objects, size_t objects_len, const 
 /* What there is at an element's index and sub-index. */
 enum { LOOMFINCH_NO_OBJECT = 0, LOOMFINCH_NO_SUB_OBJECT = 1, LOOMFINCH_A_COUNT = 2, LOOMFINCH_A_VALUE = 3 };
 
-/* Explains an element, from 1, of the list 1600h+channel: what it maps, and onto what. Answers 1; 3 where 1600h+channel is no list; 4
- * for no such element; 12 for fewer than 11 numbers; in this order.
+/* Explains an element, from 1, of the list 1600h+channel, in use or not: what it maps, and onto what. Answers 1; 3 where
+ * 1600h+channel is no list; 4 for no such element; 12 for fewer than 11 numbers; in this order.
  * Done: numbers[0] is what loomfinch_check says of the element by itself, 0 or 33 to 38; [1] the element's type, and where that is not 8
  * the rest is 0; [2] the index, [3] the sub-index, [4] the offset and [5] the length in bits; [6] the offset and [7] the length in bytes,
  * both 0 where one is not whole bytes; [8] what is there; [9] its type and [10] how many bytes it holds: its type's size, or a string's

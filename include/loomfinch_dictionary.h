@@ -1,5 +1,5 @@
-/* A dictionary as one struct, with the calls of loomfinch.h over it: what a call needs of it is passed on, and nothing is added.
- * Each call answers as the one of loomfinch.h with the same words in its name. */
+/* A dictionary as one struct, with the calls of loomfinch.h over it: what a call needs of it is passed on, and nothing is added but
+ * the edition by loomfinch_dictionary_new. Each call answers as the one of loomfinch.h with the same words in its name. */
 #ifndef LOOMFINCH_DICTIONARY_H
 #define LOOMFINCH_DICTIONARY_H
 
@@ -30,8 +30,13 @@ struct loomfinch_dictionary {
 #define LOOMFINCH_LENT(d)                                                                                                            \
     (d)->objects, (d)->objects_len, (d)->slots, (d)->slots_len, (d)->words, (d)->words_len, (d)->bytes, (d)->bytes_len
 
+/* Of edition 1. */
 static inline uint64_t loomfinch_dictionary_new(struct loomfinch_dictionary *d) {
-    return loomfinch_new(d->objects, d->objects_len);
+    return loomfinch_new(d->objects, d->objects_len, LOOMFINCH_EDITION_1);
+}
+
+static inline uint64_t loomfinch_dictionary_new_edition(struct loomfinch_dictionary *d, uint64_t edition) {
+    return loomfinch_new(d->objects, d->objects_len, edition);
 }
 
 static inline uint64_t loomfinch_dictionary_insert(struct loomfinch_dictionary *d, uint16_t index, uint64_t kind, uint64_t access,

@@ -32,7 +32,7 @@ pub enum Checked {
     Pass,
     /// No sender has this channel.
     NoSender,
-    /// The mapping is no list of at least one element.
+    /// The mapping is no list with an element in use.
     NoList,
     /// An element has a fault.
     Element {

@@ -199,8 +199,8 @@ pub fn to_u64(index: u16, sub_index: u8, offset_bits: u16, length_bits: u16) -> 
     call(Function::ToU64, &mut [index, sub_index, offset, length])
 }
 
-pub fn new(objects: &mut [u64]) -> u64 {
-    call(Function::New, &mut [ChangedWords(objects)])
+pub fn new(objects: &mut [u64], edition: u64) -> u64 {
+    call(Function::New, &mut [ChangedWords(objects), Number(edition)])
 }
 
 pub fn insert(parts: &mut Parts, index: u16, name: &[u8], given: &Description) -> u64 {

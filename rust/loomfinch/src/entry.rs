@@ -8,9 +8,9 @@ use std::iter::repeat;
 pub enum Object {
     /// One value, at sub-index 0.
     Variable(ObjectValue),
-    /// Elements at the sub-indices from 1 on; sub-index 0 is their count.
+    /// Elements at the sub-indices from 1 on; sub-index 0 is their count, or how many of a mapping's are in use.
     Array(Vec<ObjectValue>),
-    /// Elements at the sub-indices from 1 on; sub-index 0 is their count.
+    /// Elements at the sub-indices from 1 on; sub-index 0 is their count, or how many of a mapping's are in use.
     Record(Vec<ObjectValue>),
 }
 

@@ -55,7 +55,7 @@ pub struct Explanation {
 }
 
 impl Dictionary {
-    /// Explains an element, from 1, of the mapping 1600h+channel, in order or not.
+    /// Explains an element, from 1, of the mapping 1600h+channel, in order or not, in use or not.
     ///
     /// Refuses with [`ObjectNotFound`](Refusal::ObjectNotFound) where 1600h+channel is no list, and with
     /// [`SubObjectNotFound`](Refusal::SubObjectNotFound) an element that it does not have.

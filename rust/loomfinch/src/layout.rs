@@ -1,5 +1,6 @@
 //! A dictionary's memory read by its layout (docs/RULES.md, section 5), without a call of the library.
 
+use crate::edition::Edition;
 use crate::entry::{AccessType, Kind};
 use crate::parts::{Parts, ROW, SLOT};
 use crate::refusal::Refusal;
@@ -19,6 +20,11 @@ pub type Stored<'a> = (ValueType, u64, &'a [u8]);
 pub fn rows(parts: &Parts) -> impl Iterator<Item = Row<'_>> {
     let rows = parts.objects.chunks_exact(ROW).skip(1).take(parts.used().objects);
     rows.map(move |words| Row { parts, words })
+}
+
+/// Whether a list at an index is a mapping.
+fn is_mapping_index(index: u16) -> bool {
+    matches!(index, 0x1600..=0x16FF | 0x1A00..=0x1AFF)
 }
 
 /// The row of an index.
@@ -59,6 +65,15 @@ impl<'a> Row<'a> {
         self.words[3] as usize
     }
 
+    /// How many of its elements are in use: of a mapping in edition 2 its kept count, else all.
+    pub fn in_use(self) -> usize {
+        let mapping = self.kind() != Kind::Variable && is_mapping_index(self.index());
+        match self.parts.edition() {
+            Some(Edition::Two) if mapping => self.words[8] as usize,
+            _ => self.elements(),
+        }
+    }
+
     pub fn name(self) -> &'a [u8] {
         self.bytes(self.words[5], self.words[6])
     }
@@ -75,12 +90,12 @@ impl<'a> Row<'a> {
         self.parts.bytes.get(start..start.saturating_add(len)).unwrap_or_default()
     }
 
-    /// The value at a sub-index. A list's count is read as an Unsigned8.
+    /// The value at a sub-index. How many elements of a list are in use is read as an Unsigned8.
     pub fn read(self, sub_index: u8) -> Result<Stored<'a>, Refusal> {
         let place = match (self.kind(), usize::from(sub_index)) {
             (Kind::Variable, 0) => 0,
             (Kind::Variable, _) => return Err(Refusal::SubObjectNotFound),
-            (_, 0) => return Ok((ValueType::Unsigned8, self.words[3], &[])),
+            (_, 0) => return Ok((ValueType::Unsigned8, self.in_use() as u64, &[])),
             (_, element) if element <= self.elements() => element - 1,
             _ => return Err(Refusal::SubObjectNotFound),
         };
@@ -103,11 +118,12 @@ impl<'a> Row<'a> {
             .map(move |slot| (self.slot(slot), self.parts.slots.get(SLOT * slot + 2).copied()))
     }
 
-    /// Whether both objects have the same index, kind, access, range, name, values, rooms and default.
+    /// Whether both objects have the same index, kind, access, range, name, values, rooms and default, and as many elements in use.
     pub fn same(self, other: Row<'_>) -> bool {
         let columns =
             |row: Row<'_>| [row.words[0], row.words[1], row.words[2], row.words[3], row.words[7]];
         columns(self) == columns(other)
+            && self.in_use() == other.in_use()
             && self.range() == other.range()
             && self.name() == other.name()
             && self.contents().eq(other.contents())

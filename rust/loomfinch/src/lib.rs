@@ -54,6 +54,11 @@
 //! Each call does what the library's call of its name does, to the numbers: docs/RULES.md has the rules, and
 //! include/loomfinch.h the calls for C. docs/MOVING.md shows how code for powerlink-rs changes.
 //!
+//! # Editions
+//!
+//! [`Dictionary::new`] follows the mapping rules as powerlink-rs has them. New drives expect the count of a mapping to be kept: a
+//! console that speaks to them makes its dictionary by [`Dictionary::with_edition`], of [`Edition::Two`].
+//!
 //! # What is proved, and what is not
 //!
 //! The library's functions are proved to be safe, to end and to do what their definitions say. This crate is not proved: it
@@ -78,6 +83,7 @@ mod check;
 mod codec;
 mod convert;
 mod dictionary;
+mod edition;
 mod entry;
 mod event;
 mod explain;
@@ -101,6 +107,7 @@ use emulated as sys;
 pub use check::{Checked, Fault};
 pub use codec::{decode, decode_exact, encode};
 pub use dictionary::{Dictionary, ObjectInfo, Written};
+pub use edition::Edition;
 pub use entry::{AccessType, Kind, Object, ObjectEntry, ValueRange};
 pub use event::{Cause, Event, EventRecord, Events, Payload, ReceivedPayload, Unwritten};
 pub use explain::{Explanation, Target};

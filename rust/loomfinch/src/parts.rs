@@ -1,5 +1,7 @@
 //! The memory of a dictionary.
 
+use crate::edition::Edition;
+
 /// How much a dictionary can hold.
 #[derive(Debug, Clone, Copy, PartialEq, Eq, Hash)]
 pub struct Capacity {
@@ -58,5 +60,11 @@ impl Parts {
     pub(crate) fn used(&self) -> Capacity {
         let number = |place: usize| self.objects.get(place).map_or(0, |&number| number as usize);
         Capacity { objects: number(0), values: number(1), bytes: number(2) }
+    }
+
+    /// The edition that the header names; none where there is no such edition.
+    pub(crate) fn edition(&self) -> Option<Edition> {
+        let number = u8::try_from(*self.objects.get(3)?).ok()?;
+        Edition::from_number(number)
     }
 }

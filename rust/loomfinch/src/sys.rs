@@ -28,7 +28,7 @@ extern "C" {
     ) -> u64;
     fn loomfinch_from_u64(word: u64, numbers: *mut u64, numbers_len: usize) -> u64;
     fn loomfinch_to_u64(index: u16, sub_index: u8, offset_bits: u16, length_bits: u16) -> u64;
-    fn loomfinch_new(objects: *mut u64, objects_len: usize) -> u64;
+    fn loomfinch_new(objects: *mut u64, objects_len: usize, edition: u64) -> u64;
 }
 
 /// Declares calls on a dictionary, whose four slices are the first eight arguments. `const` calls change none of them;
@@ -132,9 +132,9 @@ pub fn to_u64(index: u16, sub_index: u8, offset_bits: u16, length_bits: u16) -> 
     unsafe { loomfinch_to_u64(index, sub_index, offset_bits, length_bits) }
 }
 
-pub fn new(objects: &mut [u64]) -> u64 {
+pub fn new(objects: &mut [u64], edition: u64) -> u64 {
     // SAFETY: as in `call`.
-    unsafe { loomfinch_new(objects.as_mut_ptr(), objects.len()) }
+    unsafe { loomfinch_new(objects.as_mut_ptr(), objects.len(), edition) }
 }
 
 pub fn insert(parts: &mut Parts, index: u16, name: &[u8], given: &Description) -> u64 {

@@ -36,5 +36,5 @@ fn every_enum_that_is_not_closed_may_grow() {
     }
     closed.sort();
     assert_eq!(closed, CLOSED);
-    assert!(growing >= 9, "only {growing} enums may grow");
+    assert!(growing >= 11, "only {growing} enums may grow");
 }

@@ -1,6 +1,6 @@
 //! The headers for C held against the crate: names, numbers and versions.
 
-use loomfinch::{AccessType, Checked, Fault, Kind, Refusal, ValueType};
+use loomfinch::{AccessType, Checked, Edition, Fault, Kind, Refusal, ValueType};
 use std::path::Path;
 use std::process::Command;
 
@@ -76,6 +76,9 @@ fn constants_have_the_crate_s_numbers() {
     has("ACCESS_NONE", 7);
     for (kind, number) in [Kind::Variable, Kind::Array, Kind::Record].into_iter().zip(0..) {
         has(&constant(&format!("{kind:?}")), number);
+    }
+    for number in [Edition::One, Edition::Two].map(Edition::number) {
+        has(&format!("EDITION_{number}"), number);
     }
 }
 

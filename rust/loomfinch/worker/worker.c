@@ -65,7 +65,7 @@ static uint64_t answer(uint64_t function, const struct argument *a) {
     case TO_U64:
         return loomfinch_to_u64((uint16_t)N(0), (uint8_t)N(1), (uint16_t)N(2), (uint16_t)N(3));
     case NEW:
-        return loomfinch_new(W(0));
+        return loomfinch_new(W(0), N(1));
     case INSERT:
         return loomfinch_insert(DICTIONARY, (uint16_t)N(4), N(5), N(6), N(7), N(8), N(9), N(10), N(11), B(12), W(13), B(14));
     case READ:

@@ -16,7 +16,8 @@ impl Dictionary {
     /// Checks a channel, and changes nothing. It passes exactly when the channel maps at least one field, some payload can
     /// fill it, and every ready payload that it accepts, long enough and with well-formed text, has each mapped field
     /// written whole, in mapping order, with no event and nothing else changed. A pass holds until a restore, or until
-    /// the objects 1400h+channel or 1600h+channel change.
+    /// the objects 1400h+channel or 1600h+channel change. In [edition 2](crate::Edition::Two) the elements in use alone are
+    /// checked, and another count that is written ends the pass too.
     pub fn check(&self, channel: u8) -> Result<Checked, Refusal> {
         let mut element = 0;
         match sys::check(&self.parts, channel, &mut element) {

@@ -14,7 +14,8 @@ const MOST_EVENTS: usize = 254;
 impl Dictionary {
     /// Consumes a received payload: the sender's channel is found, its version compared, and each field that its mapping
     /// has is written to its target, in order. Nothing happens for a payload that is not ready or whose sender has no
-    /// channel.
+    /// channel. In [edition 2](crate::Edition::Two) the elements in use alone are taken, and a mapping that is turned off has
+    /// the version compared and nothing written.
     ///
     /// A run that stops half-way is no refusal: the fields before the stop are written, and the last event says why.
     ///

@@ -24,6 +24,9 @@ pub struct ObjectInfo<'a> {
     pub name: &'a str,
     /// How many elements it has; a Variable has one.
     pub elements: usize,
+    /// How many of them are in use, from the first one on: of a mapping in [edition 2](crate::Edition::Two) as many as the count
+    /// says that was written last, else all.
+    pub in_use: usize,
     range: Option<(ValueType, [u64; 2])>,
 }
 
@@ -39,8 +42,9 @@ impl ObjectInfo<'_> {
 impl<'a> From<Row<'a>> for ObjectInfo<'a> {
     fn from(row: Row<'a>) -> Self {
         let (index, kind, access) = (row.index(), row.kind(), row.access());
-        let (name, elements, range) = (text(row.name()), row.elements(), row.range());
-        ObjectInfo { index, kind, access, name, elements, range }
+        let (name, range) = (text(row.name()), row.range());
+        let (elements, in_use) = (row.elements(), row.in_use());
+        ObjectInfo { index, kind, access, name, elements, in_use, range }
     }
 }
 
@@ -122,12 +126,15 @@ impl Dictionary {
     }
 }
 
-/// Equal are dictionaries with the same objects, values, ranges, rooms and defaults, and the same store; how much room is left does
-/// not count.
+/// Equal are dictionaries of one edition with the same objects, values, ranges, rooms and defaults, as many elements in use, and the
+/// same store; how much room is left does not count.
 impl PartialEq for Dictionary {
     fn eq(&self, other: &Self) -> bool {
         if self.malformed || other.malformed {
             return self.parts == other.parts && self.store == other.store;
+        }
+        if self.parts.edition() != other.parts.edition() {
+            return false;
         }
         let (mut rows, mut others) = (layout::rows(&self.parts), layout::rows(&other.parts));
         let same = loop {

@@ -10,6 +10,7 @@ pub use listing::ObjectInfo;
 pub use writing::Written;
 
 use crate::answer::done;
+use crate::edition::Edition;
 use crate::entry::{Description, ObjectEntry};
 use crate::parts::{Capacity, Parts};
 use crate::refusal::Refusal;
@@ -43,11 +44,33 @@ pub struct Dictionary {
 }
 
 impl Dictionary {
-    /// Makes an empty dictionary without a store.
+    /// Makes an empty dictionary of [edition 1](Edition::One), without a store.
     pub fn new(capacity: Capacity) -> Self {
+        Dictionary::with_edition(capacity, Edition::One)
+    }
+
+    /// Makes an empty dictionary of an edition, which stays its own for good, without a store.
+    ///
+    /// ```
+    /// use loomfinch::{Capacity, Dictionary, Edition};
+    ///
+    /// let dictionary = Dictionary::with_edition(Capacity::MOST, Edition::Two);
+    /// assert_eq!(dictionary.edition(), Ok(Edition::Two));
+    /// assert_eq!(Dictionary::new(Capacity::MOST).edition(), Ok(Edition::One));
+    /// ```
+    pub fn with_edition(capacity: Capacity, edition: Edition) -> Self {
         let mut parts = Parts::new(capacity);
-        done(sys::new(&mut parts.objects)).expect("loomfinch: there is room for the header");
+        let made = done(sys::new(&mut parts.objects, edition.number().into()));
+        made.expect("loomfinch: there is such an edition, and room for the header");
         Dictionary::from_parts(parts)
+    }
+
+    /// The edition of the mapping rules that the dictionary follows.
+    ///
+    /// Refuses with [`Malformed`](Refusal::Malformed) memory that is no dictionary.
+    pub fn edition(&self) -> Result<Edition, Refusal> {
+        let edition = self.parts.edition().filter(|_| !self.malformed);
+        edition.ok_or(Refusal::Malformed)
     }
 
     /// A dictionary of memory that was laid out before, by this crate or by the calls for C. Where it is no dictionary,
@@ -97,7 +120,7 @@ impl Dictionary {
         self.parts.used()
     }
 
-    /// Inserts an object at an index. Every other object keeps its name, values and rooms.
+    /// Inserts an object at an index, with all its elements in use. Every other object keeps its name, values and rooms.
     ///
     /// Refuses, in this order, with [`BadValue`](Refusal::BadValue) an object that breaks a rule for sizes: a name over 32
     /// bytes, more than 254 elements, a room over 1490 bytes, a string longer than its room; or whose range has ends of two

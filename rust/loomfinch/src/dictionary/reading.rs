@@ -11,7 +11,8 @@ use crate::value::{text, ObjectValue, ValueType};
 const MOST_ELEMENTS: usize = 254;
 
 impl Dictionary {
-    /// Reads a value. A list's sub-index 0 is the count of its elements, an Unsigned8. Access is not looked at.
+    /// Reads a value. A list's sub-index 0 is the count of its elements, an Unsigned8; of a mapping in
+    /// [edition 2](crate::Edition::Two) it is the count that was written last. Access is not looked at.
     ///
     /// Refuses with [`ObjectNotFound`](Refusal::ObjectNotFound) or [`SubObjectNotFound`](Refusal::SubObjectNotFound) a
     /// place that holds nothing.
@@ -154,8 +155,8 @@ impl Dictionary {
         Ok(nodes[..fit(count)].iter().copied().map(NodeId).collect())
     }
 
-    /// May the first `count` elements of the mapping at an index be used? Yes for a count of 0 and for an index that is no
-    /// mapping's.
+    /// May the first `count` elements of the mapping at an index be used, be they in use or not? Yes for a count of 0 and for
+    /// an index that is no mapping's.
     ///
     /// Refuses, in this order, with [`ObjectNotFound`](Refusal::ObjectNotFound) where no Array is there, with
     /// [`MissingEntries`](Refusal::MissingEntries) where one of them is missing or no Unsigned64, and with

@@ -28,7 +28,8 @@ impl Dictionary {
     /// Writes a value of the type that the place has.
     ///
     /// "save" written to 1010h saves into the dictionary's own store, as [`save`](Dictionary::save) does, and "load"
-    /// written to 1011h asks for a restore. The count of a mapping is accepted and not kept.
+    /// written to 1011h asks for a restore. The count of a mapping is kept in [edition 2](crate::Edition::Two), where 0 turns
+    /// the mapping off; in edition 1 it is accepted and not kept.
     ///
     /// Refuses, in this order, a mapping's count with [`TypeMismatch`](Refusal::TypeMismatch) where it is no Unsigned8,
     /// and as [`validate_pdo_mapping`](Dictionary::validate_pdo_mapping) does; with
@@ -135,7 +136,7 @@ impl Dictionary {
 
     /// Restores the values of the objects from index `first` to index `last`, 1003h left out: to what the dictionary's own
     /// store keeps for the place, else to the object's default, at a list's element only where the types agree. Other
-    /// values stay. A restored value has the type that was saved.
+    /// values stay. A restored value has the type that was saved. The counts of mappings are neither saved nor restored.
     ///
     /// Refuses with [`TooLong`](Refusal::TooLong) where a string is longer than its room, and then restores nothing.
     pub fn restore_power_on_values(&mut self, first: u16, last: u16) -> Result<(), Refusal> {

@@ -4,6 +4,7 @@ mod checking;
 mod codec;
 mod consuming;
 mod converting;
+mod editions;
 mod explaining;
 mod inserting;
 mod lasting;

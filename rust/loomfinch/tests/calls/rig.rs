@@ -1,8 +1,8 @@
 //! Objects in few words, and the rig of the mission's story.
 
 use loomfinch::{
-    Capacity, Dictionary, NodeId, Object, ObjectEntry, ObjectValue, PDOVersion, PdoMappingEntry,
-    Refusal,
+    Capacity, Dictionary, Edition, NodeId, Object, ObjectEntry, ObjectValue, PDOVersion,
+    PdoMappingEntry, Refusal,
 };
 
 pub const NODE: NodeId = NodeId(5);
@@ -34,7 +34,16 @@ pub fn maps(length_bits: u16, offset_bits: u16, sub_index: u8, index: u16) -> Ob
 pub fn dictionary<const N: usize>(
     objects: [(u16, ObjectEntry<'_>); N],
 ) -> Result<Dictionary, Refusal> {
-    let mut dictionary = Dictionary::new(Capacity { objects: 40, values: 600, bytes: 4_096 });
+    dictionary_of(Edition::One, objects)
+}
+
+/// A dictionary of an edition and these objects.
+pub fn dictionary_of<const N: usize>(
+    edition: Edition,
+    objects: [(u16, ObjectEntry<'_>); N],
+) -> Result<Dictionary, Refusal> {
+    let capacity = Capacity { objects: 40, values: 600, bytes: 4_096 };
+    let mut dictionary = Dictionary::with_edition(capacity, edition);
     for (index, entry) in objects {
         dictionary.insert(index, entry)?;
     }
@@ -43,14 +52,20 @@ pub fn dictionary<const N: usize>(
 
 /// Channel 0 of node 5 with these elements, and two targets: 6000h of two bytes, 6200h of three times four.
 pub fn channel<const N: usize>(elements: [ObjectValue; N]) -> Result<Dictionary, Refusal> {
-    dictionary([
+    channel_of(Edition::One, array(elements))
+}
+
+/// The same in a dictionary of an edition, with a mapping.
+pub fn channel_of(edition: Edition, mapping: ObjectEntry<'_>) -> Result<Dictionary, Refusal> {
+    let objects = [
         (0x1400, record([ObjectValue::Unsigned8(5), ObjectValue::Unsigned8(0x10)])),
-        (0x1600, array(elements)),
+        (0x1600, mapping),
         (0x1C80, variable(ObjectValue::OctetString(vec![0; 32]))),
         (0x1C81, variable(ObjectValue::OctetString(vec![0; 32]))),
         (0x6000, variable(ObjectValue::Unsigned16(0))),
         (0x6200, array([0, 0, 0].map(ObjectValue::Unsigned32))),
-    ])
+    ];
+    dictionary_of(edition, objects)
 }
 
 /// The rig: a move time at 6000h, in a field of so many bits, and a position at 6200h/3.
