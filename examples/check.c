@@ -1,6 +1,7 @@
 /* Lays a rig with the calls of loomfinch_dictionary.h, checks its channel and consumes a payload: with a move time of two bytes mapped
  * onto two, with four bytes and with one mapped onto two, and with a payload that ends early. Then it writes captions, of which one is
- * no UTF-8, and times, of which one lies outside its range. examples/build builds it. */
+ * no UTF-8, and times, of which one lies outside its range. At last it writes counts of the mapping, which edition 2 keeps.
+ * examples/build builds it. */
 #include "loomfinch_dictionary.h"
 
 #include <stdio.h>
@@ -43,11 +44,11 @@ static uint64_t insert(uint16_t index, uint64_t kind, uint64_t type, const uint6
 }
 
 /* Channel 0 takes the payloads of node 5: a time at 6000h, in a field of so many bits, and a position at 6200h/3. */
-static int lay_rig(uint16_t time_bits) {
+static int lay_rig(uint64_t edition, uint16_t time_bits) {
     const uint64_t sender[] = {5, 0x10};
     const uint64_t mapping[] = {loomfinch_to_u64(0x6000, 0, 0, time_bits), loomfinch_to_u64(0x6200, 3, 16, 32)};
     const uint64_t nothing[] = {0, 0, 0};
-    return loomfinch_dictionary_new(&rig) == LOOMFINCH_DONE &&
+    return loomfinch_dictionary_new_edition(&rig, edition) == LOOMFINCH_DONE &&
            insert(0x1400, LOOMFINCH_RECORD, LOOMFINCH_UNSIGNED8, sender, 2) == LOOMFINCH_DONE &&
            insert(0x1600, LOOMFINCH_ARRAY, LOOMFINCH_UNSIGNED64, mapping, 2) == LOOMFINCH_DONE &&
            insert(0x6000, LOOMFINCH_VARIABLE, LOOMFINCH_UNSIGNED16, nothing, 1) == LOOMFINCH_DONE &&
@@ -72,19 +73,18 @@ static void show_event(uint64_t event) {
     }
 }
 
-static int show(uint16_t time_bits, const uint8_t *payload, size_t length) {
+/* Checks the channel, and consumes a payload. */
+static int show_payload(const uint8_t *payload, size_t length) {
     uint64_t events[LOOMFINCH_MOST_EVENTS], element, count, time, position;
-    if (!lay_rig(time_bits)) {
-        return 0;
-    }
     uint64_t answer = loomfinch_dictionary_check(&rig, 0, &element);
     if (loomfinch_dictionary_consume_pdo_payload(&rig, payload, length, 5, 0x12, 1, events, LENGTH(events), &count) ||
         loomfinch_dictionary_read_u16(&rig, 0x6000, 0, &time) || loomfinch_dictionary_read_u32(&rig, 0x6200, 3, &position)) {
         return 0;
     }
-    printf("a time field of %d bits\n", time_bits);
     if (answer == LOOMFINCH_DONE) {
         printf("  the check passes\n");
+    } else if (element == 0) {
+        printf("  the check says: %s\n", loomfinch_answer_name(answer));
     } else {
         printf("  the check says: %s at element %d\n", loomfinch_answer_name(answer), (int)element);
     }
@@ -93,6 +93,24 @@ static int show(uint16_t time_bits, const uint8_t *payload, size_t length) {
         show_event(events[k]);
     }
     return 1;
+}
+
+static int show(uint16_t time_bits, const uint8_t *payload, size_t length) {
+    printf("a time field of %d bits\n", time_bits);
+    return lay_rig(LOOMFINCH_EDITION_1, time_bits) && show_payload(payload, length);
+}
+
+/* Writes a count of the mapping in edition 2, which keeps it: so many of the two elements are in use, and 0 turns the channel off. */
+static int show_count(uint8_t count, const uint8_t *payload, size_t length) {
+    uint8_t no_store[1];
+    uint64_t place, had, kept;
+    if (!lay_rig(LOOMFINCH_EDITION_2, 16) ||
+        loomfinch_dictionary_write(&rig, no_store, 0, 0x1600, 0, LOOMFINCH_UNSIGNED8, &count, 1, &place, &had) ||
+        loomfinch_dictionary_read_u8(&rig, 0x1600, 0, &kept)) {
+        return 0;
+    }
+    printf("edition 2 with a count of %d\n", (int)kept);
+    return show_payload(payload, length);
 }
 
 static int insert_caption(void) {
@@ -145,5 +163,5 @@ int main(void) {
     show_caption("Latin-1", latin_1, sizeof latin_1);
     show_move_time(LONGEST_MOVE);
     show_move_time(90000);
-    return 0;
+    return show_count(1, two_and_a_half_seconds, 6) && show_count(0, two_and_a_half_seconds, 6) ? 0 : 1;
 }
