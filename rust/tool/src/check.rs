@@ -3,13 +3,13 @@
 use crate::args::Check;
 use crate::console::Console;
 use crate::drawing;
-use crate::explain::{first_stop, Element, Mapped};
+use crate::explain::{first_stop, Element, Mapped, Mapping};
 use crate::failure::{Failure, Status};
 use crate::faults;
 use crate::json::Json;
 use crate::notes::{self, Note, Receiving};
 use crate::rig::Rig;
-use crate::words::{self, named_place};
+use crate::words;
 use loomfinch::{Checked, Target};
 use std::io::Write;
 
@@ -17,7 +17,7 @@ use std::io::Write;
 struct Channel {
     number: u8,
     checked: Checked,
-    elements: Vec<Element>,
+    mapping: Mapping,
     sentence: String,
 }
 
@@ -26,9 +26,9 @@ pub fn run(options: &Check, console: &mut Console, out: &mut dyn Write) -> Resul
     let channels: Vec<Channel> = answers
         .into_iter()
         .map(|(number, checked)| {
-            let elements = console.elements(number);
-            let sentence = faults::sentence(console, number, checked, &elements);
-            Channel { number, checked, elements, sentence }
+            let mapping = console.mapping(number);
+            let sentence = faults::sentence(console, number, checked, &mapping.elements);
+            Channel { number, checked, mapping, sentence }
         })
         .collect();
     let notes = all_notes(&console.rig, &channels);
@@ -63,7 +63,7 @@ fn text(
             "channel {}, from {}, {}: {}",
             channel.number,
             sender_words(rig, channel),
-            words::counted(channel.elements.len(), "element"),
+            channel.mapping.counted(),
             verdict
         )?;
         if explain {
@@ -74,10 +74,12 @@ fn text(
 }
 
 fn explanation(rig: &Rig, channel: &Channel, out: &mut dyn Write) -> Result<(), Failure> {
-    let drawing = drawing::draw(rig, &channel.elements);
-    let stop = first_stop(&channel.elements);
-    let words: Vec<String> =
-        channel.elements.iter().map(|element| element_words(rig, element, stop)).collect();
+    let mapping = &channel.mapping;
+    let drawing = drawing::draw(rig, mapping);
+    let stop = first_stop(&mapping.elements);
+    let in_use = mapping.elements.iter().map(|element| element_words(rig, element, stop));
+    let unused = mapping.unused.iter().map(|element| unused_words(rig, channel, element));
+    let words: Vec<String> = in_use.chain(unused).collect();
     if !drawing.is_empty() {
         writeln!(out, "\n{}", drawing.join("\n"))?;
     }
@@ -89,18 +91,18 @@ fn explanation(rig: &Rig, channel: &Channel, out: &mut dyn Write) -> Result<(), 
 
 /// What becomes of an element; `stop` is the one at which every payload stops.
 fn element_words(rig: &Rig, element: &Element, stop: Option<u8>) -> String {
-    match (element.fault, &element.mapped) {
-        (Some(fault), _) => faults::of_element(rig, element, fault, stop),
-        (None, Some(mapped)) => format!(
-            "element {} maps {} onto {}, {}: {}",
-            element.number,
-            words::bytes(mapped.length()),
-            named_place(rig, mapped.entry.index, mapped.entry.sub_index),
-            words::target(mapped.target),
-            faults::unreached(element, stop).unwrap_or_else(|| "whole".to_string())
-        ),
-        (None, None) => format!("element {} maps nothing", element.number),
+    if let Some(fault) = element.fault {
+        return faults::of_element(rig, element, fault, stop);
     }
+    let becomes = faults::unreached(element, stop).unwrap_or_else(|| "whole".to_string());
+    format!("element {} {}: {becomes}", element.number, faults::what(rig, element))
+}
+
+/// An element that is not in use: no fault of it matters.
+fn unused_words(rig: &Rig, channel: &Channel, element: &Element) -> String {
+    let index = 0x1600 + u16::from(channel.number);
+    let why = words::not_in_use(index, channel.mapping.elements.len());
+    format!("element {} {}: {why}", element.number, faults::what(rig, element))
 }
 
 /// The sender whose payloads the channel takes.
@@ -116,13 +118,14 @@ fn sender_words(rig: &Rig, channel: &Channel) -> String {
 fn all_notes(rig: &Rig, channels: &[Channel]) -> Vec<Note> {
     let of_channel = |channel: &Channel| {
         let takes = sender(rig, channel).is_some();
-        notes::of_channel(rig, channel.number, &channel.elements, takes)
+        notes::of_channel(rig, channel.number, &channel.mapping.elements, takes)
     };
     let receiving: Vec<Receiving> = channels
         .iter()
         .filter_map(|channel| {
             let sender = sender(rig, channel)?;
-            Some(Receiving { channel: channel.number, sender, elements: &channel.elements })
+            let elements = &channel.mapping.elements;
+            Some(Receiving { channel: channel.number, sender, elements })
         })
         .collect();
     let several = notes::of_channels(rig, &receiving);
@@ -137,11 +140,13 @@ fn json(file: &str, rig: &Rig, channels: &[Channel], notes: &[Note], explain: bo
         ("channels", Json::List(channels.iter().map(channel).collect())),
         ("notes", Json::List(notes.iter().map(|note| Json::text(note.text.as_str())).collect())),
         ("noted", Json::List(notes.iter().map(Note::json).collect())),
+        ("edition", Json::number(rig.edition.number())),
     ])
 }
 
 fn channel_json(rig: &Rig, channel: &Channel, explain: bool) -> Json {
-    let named = faults::named_element(channel.checked, &channel.elements);
+    let mapping = &channel.mapping;
+    let named = faults::named_element(channel.checked, &mapping.elements);
     let fault = Json::Object(vec![
         ("name", Json::text(channel.checked.name())),
         ("number", Json::number(channel.checked.number())),
@@ -151,29 +156,34 @@ fn channel_json(rig: &Rig, channel: &Channel, explain: bool) -> Json {
     let mut members = vec![
         ("channel", Json::number(channel.number)),
         ("sender", Json::or_null(sender(rig, channel).map(Json::number))),
-        ("elements", Json::number(channel.elements.len() as u64)),
+        ("elements", Json::number(mapping.all().count() as u64)),
         ("pass", Json::Bool(channel.checked.is_pass())),
         ("fault", if channel.checked.is_pass() { Json::Null } else { fault }),
     ];
     if explain {
-        members.push(("mapping", Json::List(channel.elements.iter().map(element_json).collect())));
+        let in_use = mapping.elements.iter().map(|element| element_json(element, true));
+        let unused = mapping.unused.iter().map(|element| element_json(element, false));
+        members.push(("mapping", Json::List(in_use.chain(unused).collect())));
     }
+    members.push(("in_use", Json::number(mapping.elements.len() as u64)));
     Json::Object(members)
 }
 
-fn element_json(element: &Element) -> Json {
+fn element_json(element: &Element, in_use: bool) -> Json {
+    let fault = element.fault.filter(|_| in_use);
     let mapped = element.mapped.as_ref();
     let number =
         |of: fn(&Mapped) -> u64| Json::or_null(mapped.map(|mapped| Json::number(of(mapped))));
     Json::Object(vec![
         ("element", Json::number(element.number)),
         ("type", Json::text(element.element_type.name())),
-        ("fault", Json::or_null(element.fault.map(|fault| Json::text(fault.name())))),
+        ("fault", Json::or_null(fault.map(|fault| Json::text(fault.name())))),
         ("index", number(|mapped| mapped.entry.index.into())),
         ("sub_index", number(|mapped| mapped.entry.sub_index.into())),
         ("offset_bits", number(|mapped| mapped.entry.offset_bits.into())),
         ("length_bits", number(|mapped| mapped.entry.length_bits.into())),
         ("target", Json::or_null(mapped.map(|mapped| target_json(mapped.target)))),
+        ("in_use", Json::Bool(in_use)),
     ])
 }
 

@@ -1,7 +1,7 @@
 //! A rig laid into a dictionary of the library, which checks and consumes; the rig keeps a copy of each value, so that
 //! what a payload changed can be told.
 
-use crate::explain::{self, Element};
+use crate::explain::{self, Element, Mapping};
 use crate::rig::{Kind, Object, Place, Problem, Range, Rig, Value};
 use loomfinch::{
     decode, Capacity, Cause, Checked, Dictionary, Event, EventRecord, NodeId, ObjectEntry,
@@ -13,7 +13,7 @@ pub struct Console {
     pub rig: Rig,
     dictionary: Dictionary,
     /// The explained mappings of channels, for as long as they stay.
-    explained: HashMap<u8, Vec<Element>>,
+    explained: HashMap<u8, Mapping>,
 }
 
 /// A payload with what came along with it.
@@ -33,12 +33,14 @@ pub enum Consumed {
     WrongVersion {
         channel: u8,
         expected: u8,
-        elements: Vec<Element>,
+        mapping: Mapping,
         noted: Option<Change>,
     },
     Taken {
         channel: u8,
+        /// The elements in use.
         steps: Vec<Step>,
+        unused: Vec<Element>,
         noted: Option<Change>,
     },
 }
@@ -74,16 +76,22 @@ const WRONG_VERSIONS: u16 = 0x1C80;
 const SHORT_PAYLOADS: u16 = 0x1C81;
 
 impl Console {
-    pub fn new(rig: Rig) -> Result<Console, Problem> {
-        let mut dictionary = Dictionary::new(capacity(&rig));
+    /// Lays a rig, or says what of it the library refuses.
+    pub fn new(rig: Rig) -> Result<Console, Vec<Problem>> {
+        let mut dictionary = Dictionary::with_edition(capacity(&rig), rig.edition);
         for (index, object) in &rig.objects {
             let inserted = entry(object)
                 .and_then(|entry| dictionary.insert(*index, entry).map_err(Refused::from));
             inserted.map_err(|refused| {
-                object.problem(format!("the library refuses this object: {refused}"))
+                vec![object.problem(format!("the library refuses this object: {refused}"))]
             })?;
         }
-        Ok(Console { rig, dictionary, explained: HashMap::new() })
+        let mut problems = keep_counts(&mut dictionary, &rig);
+        if problems.is_empty() {
+            return Ok(Console { rig, dictionary, explained: HashMap::new() });
+        }
+        problems.sort_by_key(|problem| (problem.line, problem.column));
+        Err(problems)
     }
 
     /// What the library's check says of each channel that has a record.
@@ -95,11 +103,11 @@ impl Console {
         let (node, version) = (NodeId(received.sender), PDOVersion(received.version));
         // A payload may change its own channel and mapping; what it is taken by is what stands before.
         let channel = self.channel_of(received.sender).filter(|_| received.ready);
-        let taken_by = channel.map(|channel| (channel, self.elements(channel)));
+        let taken_by = channel.map(|channel| (channel, self.mapping(channel)));
         let answer =
             self.dictionary.consume_pdo_payload(node, received.payload, version, received.ready)?;
         let events: Vec<EventRecord> = answer.into_iter().collect();
-        let (channel, elements) = match taken_by {
+        let (channel, mapping) = match taken_by {
             _ if !received.ready => return Ok(Consumed::NotReady),
             None => return Ok(Consumed::NoChannel),
             Some(taken_by) => taken_by,
@@ -107,13 +115,15 @@ impl Console {
         if events.iter().any(|record| record.event == Event::MapVersion) {
             let expected = self.expected_version(channel);
             let noted = self.noted(WRONG_VERSIONS);
-            return Ok(Consumed::WrongVersion { channel, expected, elements, noted });
+            return Ok(Consumed::WrongVersion { channel, expected, mapping, noted });
         }
+        let Mapping { elements, unused } = mapping;
         let mut steps = self.steps(elements, &events, received.payload);
-        let short = events.iter().any(|record| record.event == Event::PayloadShort(Cause::Frame));
+        // Which of them sets a bit is the edition's matter: it is told where one was set.
+        let short = events.iter().any(|record| matches!(record.event, Event::PayloadShort(_)));
         let noted = if short { self.noted(SHORT_PAYLOADS) } else { None };
         self.confirm(&mut steps, noted.as_ref());
-        Ok(Consumed::Taken { channel, steps, noted })
+        Ok(Consumed::Taken { channel, steps, unused, noted })
     }
 
     /// The channel that takes a node's payloads.
@@ -126,8 +136,21 @@ impl Console {
         self.dictionary.expected_version(channel).0
     }
 
+    /// How many elements of the object at an index are in use.
+    pub fn in_use(&self, index: u16) -> usize {
+        explain::in_use(&self.dictionary, index)
+    }
+
+    /// Is a channel turned off: has its mapping elements, and none in use?
+    pub fn is_off(&self, channel: u8) -> bool {
+        let index = 0x1600 + u16::from(channel);
+        let mapping = self.rig.objects.get(&index).filter(|object| object.is_list());
+        let has_elements = mapping.map_or(false, |object| !object.values.is_empty());
+        has_elements && self.in_use(index) == 0
+    }
+
     /// The explained mapping of a channel.
-    pub fn elements(&mut self, channel: u8) -> Vec<Element> {
+    pub fn mapping(&mut self, channel: u8) -> Mapping {
         let dictionary = &self.dictionary;
         let explained = self.explained.entry(channel);
         explained.or_insert_with(|| explain::mapping(dictionary, channel)).clone()
@@ -222,6 +245,17 @@ impl Console {
             }
         }
     }
+}
+
+/// Writes the counts that the rig says, and answers which of them are refused. A count is judged by other objects too, so it is
+/// written when all of them are there.
+fn keep_counts(dictionary: &mut Dictionary, rig: &Rig) -> Vec<Problem> {
+    let refused = |(index, object): (&u16, &Object)| {
+        let count = object.count?;
+        let written = dictionary.write(*index, 0, count.number.into());
+        written.err().map(|refusal| count.refused(rig, *index, object, refusal))
+    };
+    rig.objects.iter().filter_map(refused).collect()
 }
 
 fn capacity(rig: &Rig) -> Capacity {

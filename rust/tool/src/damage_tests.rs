@@ -16,12 +16,13 @@ use std::io::Cursor;
 #[path = "../tests/common/captures.rs"]
 mod captures;
 
-const RIGS: [&[u8]; 5] = [
+const RIGS: [&[u8]; 6] = [
     include_bytes!("../../../rigs/ramp.rig"),
     include_bytes!("../../../rigs/mended.rig"),
     include_bytes!("../../../rigs/faults.rig"),
     include_bytes!("../../../rigs/captions.rig"),
     include_bytes!("../../../rigs/limits.rig"),
+    include_bytes!("../../../rigs/edition2.rig"),
 ];
 const REHEARSAL: &[u8] = include_bytes!("../../../rigs/rehearsal.pcap");
 
@@ -59,9 +60,7 @@ impl Chance {
 /// Checks and uses a rig if it is one; else its error has words, and a line of the file if any.
 fn use_rig(text: &[u8]) -> bool {
     let lines = text.iter().filter(|byte| **byte == b'\n').count() + 1;
-    let console =
-        rig::parse(text).and_then(|rig| Console::new(rig).map_err(|problem| vec![problem]));
-    let mut console = match console {
+    let mut console = match rig::parse(text).and_then(Console::new) {
         Ok(console) => console,
         Err(problems) => {
             for problem in &problems {
@@ -97,7 +96,7 @@ fn named() -> crate::args::Named {
 /// The explained elements have just the faults that the check names.
 fn assert_explained(console: &mut Console) {
     for (channel, checked) in console.check().unwrap() {
-        let elements = console.elements(channel);
+        let elements = console.mapping(channel).elements;
         let first = elements.iter().find(|element| element.fault.is_some());
         match checked {
             Checked::Element { element, fault } => {
@@ -189,7 +188,7 @@ fn newer_capture(big: bool) -> Vec<u8> {
 #[test]
 fn damaged_captures() {
     let rig: Rig = rig::parse(RIGS[0]).unwrap();
-    let mut console = Console::new(rig).unwrap_or_else(|problem| panic!("{}", problem.text));
+    let mut console = Console::new(rig).unwrap_or_else(|problems| panic!("{}", problems[0].text));
     let frames = [captures::response(5, 0x12, &[1, 2, 3, 4, 5, 6]), captures::request(1, 0, &[7])];
     let whole = [
         REHEARSAL.to_vec(),
@@ -213,10 +212,20 @@ fn damaged_captures() {
     }
 }
 
+/// The start of a rig of either edition whose channel has so many elements, of which some may not be in use.
+fn channel_of(elements: usize, chance: &mut Chance) -> String {
+    let (edition, count) = match chance.below(4) {
+        0 => (2, format!(" count {}", chance.below(elements + 1))),
+        other => (1 + other % 2, String::new()),
+    };
+    format!("edition {edition}\n1400h Record\n1 U8 = 5\n1600h Array{count}\n")
+}
+
 /// A rig of random objects, and a channel of random elements onto them and beside them.
 fn random_rig(chance: &mut Chance) -> String {
-    let mut text = "1400h Record\n1 U8 = 5\n1600h Array\n".to_string();
-    for element in 1..=1 + chance.below(8) {
+    let elements = 1 + chance.below(8);
+    let mut text = channel_of(elements, chance);
+    for element in 1..=elements {
         let index = match chance.below(12) {
             0 => 0x1200,
             1 => 0x1600,
@@ -265,11 +274,12 @@ fn assert_written(console: &mut Console, payload: &[u8]) -> usize {
 fn what_is_told_was_written() {
     let mut chance = Chance(0x1C81);
     let mut written = 0;
-    for _ in 0..400 {
+    for _ in 0..500 {
         let text = random_rig(&mut chance);
         let rig = rig::parse(text.as_bytes())
             .unwrap_or_else(|problems| panic!("{}\n{}", problems[0].text, text));
-        let mut console = Console::new(rig).unwrap_or_else(|problem| panic!("{}", problem.text));
+        let mut console =
+            Console::new(rig).unwrap_or_else(|problems| panic!("{}", problems[0].text));
         assert_explained(&mut console);
         for _ in 0..3 {
             let payload: Vec<u8> =
@@ -294,7 +304,7 @@ fn broken_at(field: &[u8]) -> Option<usize> {
 #[test]
 fn what_stops_a_text_is_its_byte() {
     let rig = rig::parse(RIGS[3]).unwrap_or_else(|problems| panic!("{}", problems[0].text));
-    let mut console = Console::new(rig).unwrap_or_else(|problem| panic!("{}", problem.text));
+    let mut console = Console::new(rig).unwrap_or_else(|problems| panic!("{}", problems[0].text));
     let likely = [b'a', 0, 0x1B, 0x80, 0xA0, 0xC3, 0xA9, 0xE0, 0xE2, 0x82, 0xED, 0xF0, 0x90, 0xFF];
     let mut chance = Chance(0x6100);
     let mut broken = 0;
@@ -349,7 +359,7 @@ fn fitting_rig(chance: &mut Chance, types: &[loomfinch::ValueType]) -> String {
         mapping += &format!("{} {:04X}h at {offset} length {length}\n", k + 1, 0x6000 + k);
         objects += &format!("{:04X}h Variable {} room 4\n", 0x6000 + k, of.name());
     }
-    format!("1400h Record\n1 U8 = 5\n1600h Array\n{mapping}{objects}")
+    channel_of(types.len(), chance) + &mapping + &objects
 }
 
 #[test]
@@ -366,14 +376,15 @@ fn what_pair_passes_arrives_whole() {
         };
         let rig =
             rig::parse(text.as_bytes()).unwrap_or_else(|problems| panic!("{}", problems[0].text));
-        let mut console = Console::new(rig).unwrap_or_else(|problem| panic!("{}", problem.text));
+        let mut console =
+            Console::new(rig).unwrap_or_else(|problems| panic!("{}", problems[0].text));
         let (status, said) = pair_says(&drive, &mut console);
         if status != Status::Clean {
             assert!(said.contains("FAULT: "), "{said}");
             continue;
         }
         passed += 1;
-        let elements = console.elements(0);
+        let elements = console.mapping(0).elements;
         let ends = elements.iter().filter_map(|element| Some(element.mapped.as_ref()?.end));
         let payload: Vec<u8> =
             (0..ends.max().unwrap_or(0)).map(|_| chance.next() as u8 >> 1).collect();

@@ -1,6 +1,6 @@
 //! A payload drawn in text: which bytes go to which object, where fields overlap, what is cut.
 
-use crate::explain::Element;
+use crate::explain::{Element, Mapping};
 use crate::rig::Rig;
 use crate::words::named_place;
 use loomfinch::{Fault, Target};
@@ -22,24 +22,28 @@ const LOST: char = 'x';
 const HANDED_ON: char = 's';
 const NOT_WHOLE: char = '?';
 const UNREACHED: char = '-';
+const NOT_IN_USE: char = '.';
 const SHARED: char = '~';
 
-const SIGNS: [(char, &str); 6] = [
+const SIGNS: [(char, &str); 7] = [
     (KEPT, "kept"),
     (LOST, "lost"),
     (HANDED_ON, "handed on to SDO"),
     (NOT_WHOLE, "not whole bytes"),
     (UNREACHED, "never reached"),
+    (NOT_IN_USE, "not in use"),
     (SHARED, "in more than one element"),
 ];
 
 /// The drawing's lines; none where no element takes a byte.
-pub fn draw(rig: &Rig, elements: &[Element]) -> Vec<String> {
+pub fn draw(rig: &Rig, mapping: &Mapping) -> Vec<String> {
+    let elements = mapping.elements.as_slice();
     let reached = elements.iter().position(Element::stops).map_or(elements.len(), |k| k + 1);
     let (reached, others) = elements.split_at(reached);
     let fields = reached.iter().filter_map(|element| field(rig, element, fate(element)));
     let others = others.iter().filter_map(|element| field(rig, element, (0, UNREACHED)));
-    let fields: Vec<Field> = fields.chain(others).collect();
+    let unused = mapping.unused.iter().filter_map(|element| field(rig, element, (0, NOT_IN_USE)));
+    let fields: Vec<Field> = fields.chain(others).chain(unused).collect();
     if fields.is_empty() {
         return Vec::new();
     }
@@ -159,7 +163,8 @@ impl Sheet<'_> {
     }
 
     fn is_shared(&self, byte: usize) -> bool {
-        self.fields.iter().filter(|field| field.bytes.contains(&byte)).count() > 1
+        let takes = |field: &&Field| field.mark != NOT_IN_USE && field.bytes.contains(&byte);
+        self.fields.iter().filter(takes).count() > 1
     }
 
     /// What the signs that were used mean.

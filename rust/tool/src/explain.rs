@@ -1,9 +1,54 @@
 //! What an element of a mapping maps, and onto what, as the library explains it.
 
+use crate::words;
 use loomfinch::{
     Dictionary, Explanation, Fault, PdoMappingEntry, Target, ValueType, MOST_PAYLOAD_BYTES,
 };
 use std::ops::Range;
+
+/// The elements of a mapping, explained.
+#[derive(Clone, Debug)]
+pub struct Mapping {
+    /// Those in use.
+    pub elements: Vec<Element>,
+    /// Those behind its count, which are not in use.
+    pub unused: Vec<Element>,
+}
+
+impl Mapping {
+    /// The mapping of elements of which so many are in use.
+    pub fn new(mut elements: Vec<Element>, in_use: usize) -> Mapping {
+        let unused = elements.split_off(in_use.min(elements.len()));
+        Mapping { elements, unused }
+    }
+
+    /// All elements, in use or not.
+    pub fn all(&self) -> impl Iterator<Item = &Element> {
+        self.elements.iter().chain(&self.unused)
+    }
+
+    /// Is it turned off: has it elements, and none in use?
+    pub fn is_off(&self) -> bool {
+        self.elements.is_empty() && !self.unused.is_empty()
+    }
+
+    /// `2 elements`, or `2 of 3 elements in use` where not all are.
+    pub fn counted(&self) -> String {
+        self.of_all(words::counted(self.all().count(), "element"))
+    }
+
+    /// `2`, or `2 of 3 in use`: the same where elements have been named before.
+    pub fn counted_again(&self) -> String {
+        self.of_all(self.all().count().to_string())
+    }
+
+    fn of_all(&self, all: String) -> String {
+        match self.unused.is_empty() {
+            true => all,
+            false => format!("{} of {all} in use", self.elements.len()),
+        }
+    }
+}
 
 /// An element of a mapping, explained.
 #[derive(Clone, Debug)]
@@ -92,7 +137,14 @@ impl From<Explanation> for Element {
 }
 
 /// Explains each element of a channel's mapping; none where it is no list.
-pub fn mapping(dictionary: &Dictionary, channel: u8) -> Vec<Element> {
+pub fn mapping(dictionary: &Dictionary, channel: u8) -> Mapping {
     let explained = (1..=u8::MAX).map_while(|element| dictionary.explain(channel, element).ok());
-    explained.map(Element::from).collect()
+    let elements = explained.map(Element::from).collect();
+    Mapping::new(elements, in_use(dictionary, 0x1600 + u16::from(channel)))
+}
+
+/// How many elements of the object at an index are in use.
+pub fn in_use(dictionary: &Dictionary, index: u16) -> usize {
+    let object = dictionary.objects().find(|object| object.index == index);
+    object.map_or(0, |object| object.in_use)
 }

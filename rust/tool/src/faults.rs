@@ -61,7 +61,12 @@ fn no_list(rig: &Rig, channel: u8) -> String {
     let index = 0x1600 + u16::from(channel);
     match rig.objects.get(&index) {
         None => format!("no mapping: there is no {index:04X}h"),
-        Some(object) if object.is_list() => format!("no mapping: {index:04X}h has no element"),
+        Some(object) if object.is_list() && object.values.is_empty() => {
+            format!("no mapping: {index:04X}h has no element")
+        }
+        Some(object) if object.is_list() => {
+            format!("the channel is {}: payloads write nothing", words::off(index))
+        }
         Some(_) => format!("no mapping: {index:04X}h is a Variable, not an Array or a Record"),
     }
 }
@@ -91,15 +96,34 @@ pub fn named_element(checked: Checked, elements: &[Element]) -> Option<u8> {
 
 /// What is wrong with an element, as a sentence; `stop` is the first element at which every payload stops.
 pub fn of_element(rig: &Rig, element: &Element, fault: Fault, stop: Option<u8>) -> String {
-    let (what, then) = match &element.mapped {
+    let (what, then) = of_fault(rig, element, fault);
+    let then = unreached(element, stop).map_or(then, |why| format!(": {why}"));
+    format!("element {} {}{}", element.number, what, then)
+}
+
+/// What an element maps, whatever becomes of it: `maps 4 bytes onto 6000h/0, an Unsigned16 of 2 bytes`.
+pub fn what(rig: &Rig, element: &Element) -> String {
+    match (element.fault, &element.mapped) {
+        (Some(fault), _) => of_fault(rig, element, fault).0,
+        (None, Some(mapped)) => format!(
+            "maps {} onto {}, {}",
+            words::bytes(mapped.length()),
+            named_place(rig, mapped.entry.index, mapped.entry.sub_index),
+            words::target(mapped.target)
+        ),
+        (None, None) => "maps nothing".to_string(),
+    }
+}
+
+/// What an element with a fault maps, and what becomes of its field.
+fn of_fault(rig: &Rig, element: &Element, fault: Fault) -> (String, String) {
+    match &element.mapped {
         Some(mapped) => of_mapping(rig, mapped, fault),
         None => {
             let of = words::type_with_article(element.element_type);
             (format!("is {of}, not an Unsigned64, and maps nothing"), String::new())
         }
-    };
-    let then = unreached(element, stop).map_or(then, |why| format!(": {why}"));
-    format!("element {} {}{}", element.number, what, then)
+    }
 }
 
 /// Why an element's own fault or order does not matter: every payload stops before it, or ends before it does.

@@ -14,7 +14,7 @@ type Field<'a> = (&'a Element, &'a Mapped);
 /// What becomes of each element that the drive sends, and which fields of the console it does not fill.
 pub fn compare(drive: &Side, console: &Side, style: Style) -> Vec<Finding> {
     let stop = stop(drive, console);
-    let sent = drive.elements.iter().flat_map(|element| match &element.mapped {
+    let sent = drive.mapping.elements.iter().flat_map(|element| match &element.mapped {
         Some(mapped) => of_sent(drive, console, (element, mapped), &stop, style),
         None => vec![Finding::Fault(sent::nothing(element))],
     });
@@ -24,12 +24,17 @@ pub fn compare(drive: &Side, console: &Side, style: Style) -> Vec<Finding> {
 
 /// What is said of the console's elements that take no field, and of a console that has none.
 fn of_nothing(console: &Side) -> Vec<Finding> {
-    if console.elements.is_empty() {
-        let text = "the console's mapping has no element: nothing that the drive sends is written";
-        return vec![Finding::Fault(text.to_string())];
+    let mapping = &console.mapping;
+    if mapping.elements.is_empty() {
+        let why = match mapping.is_off() {
+            true => format!("is {}", words::off(console.index)),
+            false => "has no element".to_string(),
+        };
+        let text = format!("the console's mapping {why}: nothing that the drive sends is written");
+        return vec![Finding::Fault(text)];
     }
     let takes = |element: &Element| element.mapped.as_ref().map_or(0, Mapped::length) > 0;
-    let others = console.elements.iter().filter(|element| !takes(element));
+    let others = mapping.elements.iter().filter(|element| !takes(element));
     let faults = others.filter_map(|element| own_fault(console, element));
     faults.map(|why| Finding::Fault(format!("of the console, {why}"))).collect()
 }
@@ -46,7 +51,7 @@ fn stop(drive: &Side, console: &Side) -> Option<Stop> {
     let filled = filled(drive);
     let of_length = console.fields().find(|taken| range(taken.1).end > filled);
     let of_length = of_length.map(|taken| taken.0.number);
-    match (first_stop(&console.elements), of_length) {
+    match (first_stop(&console.mapping.elements), of_length) {
         (Some(element), other) if other.map_or(true, |other| element <= other) => {
             let behind = format!("never reached, since every payload stops at element {element}");
             Some(Stop { element, behind })
@@ -221,7 +226,7 @@ fn of_other(drive: &Side, console: &Side, taken: Field, stop: &Option<Stop>) -> 
 
 /// What is wrong with an element of the console in itself.
 fn own_fault(console: &Side, element: &Element) -> Option<String> {
-    let stop = first_stop(&console.elements);
+    let stop = first_stop(&console.mapping.elements);
     element.fault.map(|fault| faults::of_element(&console.rig, element, fault, stop))
 }
 

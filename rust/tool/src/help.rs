@@ -21,7 +21,8 @@ maps, and what given payloads change.
   loomfinch COMMAND --help            more on a command, with an example
   loomfinch --version                 the version of this program
 
-A rig file looks like this (docs/RIG.md has all of it):
+A rig file looks like this (docs/RIG.md has all of it; 'edition 2' as a line
+before the first object makes the rig keep the counts of its mappings):
 
   1400h Record \"From the winch\"
     1 Unsigned8 = 5                   # the node that sends
@@ -39,10 +40,12 @@ loomfinch check RIG [--explain] [--json] [--strict] [--comma]
 
 Checks every channel of a rig: is each mapped field written whole, by every
 payload that the channel accepts? Each channel has a line: who sends, how many
-elements its mapping has, and 'pass' or what is wrong, in words.
+elements its mapping has, and 'pass' or what is wrong, in words. In a rig of
+edition 2 only elements in use are checked, and the line counts them: '2 of 3
+elements in use'. A channel whose count is 0 is off, which is no pass.
 
   --explain   draws the payload of each channel: which bytes go to which
-              object, where fields overlap, what is lost
+              object, where fields overlap, what is lost, what is not in use
   --json      writes one JSON object for programs (docs/TOOL.md has its shape)
   --comma     writes decimals with a comma, as in the other commands
   --strict    lets notes count: they are no faults, as two channels that write
@@ -67,7 +70,8 @@ loomfinch consume RIG --from NODE --version V HEX... [options]
 Gives payloads to the rig, one after another, and says what each of them
 changes: old value and new value, what was refused and why, and the error bits
 in 1C80h and 1C81h. Of a text that is no UTF-8 it names the byte of the field,
-counted from 0, at which none goes on.
+counted from 0, at which none goes on. In a rig of edition 2 it says which
+elements are not in use, and which channel is off.
 
   HEX           a payload as hexadecimal digits: C40910270000, or with spaces
                 in quotes: 'C4 09 10 27 00 00'; each HEX is one payload
@@ -99,9 +103,10 @@ loomfinch replay RIG CAPTURE [options]
 
 Reads a network capture (pcap or pcapng, of an Ethernet or cooked by Linux),
 gives the payloads of its POWERLINK frames to the rig in their order, and says
-for each frame what it changed, what was refused and why. A table by sender
-follows: how many frames had each kind of trouble, and the first of each, a CUT
-before all others. All frames are consumed and counted, told or not.
+for each frame what it changed, what was refused and why, and in a rig of
+edition 2 which elements are not in use. A table by sender follows: how many
+frames had each kind of trouble, and the first of each, a CUT before all others.
+All frames are consumed and counted, told or not.
 CAPTURE may be - for the standard input: each packet is told as it comes, and an
 interrupt (Ctrl-C) ends the capture and writes the table:
 
@@ -146,7 +151,8 @@ Example:
 Exit status: 0 nothing was refused, stopped, cut or passed over, 1 something
 was, 2 the command or a file could not be understood; a capture that is damaged
 is told up to the damage. 3 nothing was looked at: the capture has no packet, is
-not of an Ethernet, or has no ready payload that a channel of the rig takes.
+not of an Ethernet, or has no ready payload that a channel of the rig takes, or
+the channels that take them are off.
 ";
 
 pub const PAIR: &str = "\
@@ -156,7 +162,8 @@ Holds what a drive sends, the mapping 1A00h of its own rig file, against what
 the console takes from it, field by field. A fault is a field that the console
 keeps in part or at another byte, one that the drive does not send whole or not
 at all, and one that no payload reaches. What the console does not take is a
-note.
+note, and so is an element that is not in use, of a rig of edition 2; a mapping
+that is off is a fault.
 
   --node N      the drive's node; without it, the only node that the console
                 takes payloads of

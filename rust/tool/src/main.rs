@@ -97,7 +97,7 @@ fn run(command: &Command, out: &mut dyn Write) -> Result<Status, Failure> {
 
 /// The console that a rig file describes.
 fn console(file: &Named) -> Result<Console, Failure> {
-    Console::new(rig(file)?).map_err(|problem| Failure::problems(&file.shown, &[problem]))
+    Console::new(rig(file)?).map_err(|problems| Failure::problems(&file.shown, &problems))
 }
 
 fn rig(file: &Named) -> Result<Rig, Failure> {

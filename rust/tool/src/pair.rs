@@ -2,10 +2,10 @@
 
 use crate::args::Pair;
 use crate::console::Console;
-use crate::explain::{Element, Mapped};
+use crate::explain::{Element, Mapped, Mapping};
 use crate::failure::{Failure, Status};
 use crate::fields;
-use crate::rig::{Problem, Rig};
+use crate::rig::{Object, Problem, Rig};
 use crate::words::{self, Style};
 use loomfinch::PDOVersion;
 use std::io::Write;
@@ -14,20 +14,34 @@ use std::io::Write;
 const SENT: u16 = 0x1A00;
 const SENT_RECORD: u16 = 0x1800;
 
-/// One side: a node's rig, and the explained elements of its mapping.
+/// One side: a node's rig, and its mapping at an index, explained.
 pub struct Side {
     pub rig: Rig,
-    pub elements: Vec<Element>,
+    pub index: u16,
+    pub mapping: Mapping,
 }
 
 impl Side {
-    /// The elements that have a field of whole bytes, of one at least.
+    /// The elements in use that have a field of whole bytes, of one at least.
     pub fn fields(&self) -> impl Iterator<Item = (&Element, &Mapped)> {
         let mapped = |element: &'_ Element| element.mapped.as_ref().map_or(0, Mapped::length) > 0;
-        self.elements
+        self.mapping
+            .elements
             .iter()
             .filter(move |element| mapped(element))
             .filter_map(|element| Some((element, element.mapped.as_ref()?)))
+    }
+
+    /// A note for each element that is not in use; where none is, a fault says so of all.
+    fn unused(&self, whose: &str) -> Vec<Finding> {
+        let why = words::not_in_use(self.index, self.mapping.elements.len());
+        let note = |element: &Element| {
+            Finding::Note(format!("the {whose}'s element {} is {why}", element.number))
+        };
+        match self.mapping.is_off() {
+            true => Vec::new(),
+            false => self.mapping.unused.iter().map(note).collect(),
+        }
     }
 }
 
@@ -43,7 +57,7 @@ pub fn run(
             .map_err(|text| Failure::Message(format!("{}: {}", options.console.shown, text)))?,
     };
     let drive =
-        sent(drive).map_err(|problem| Failure::problems(&options.drive.shown, &[problem]))?;
+        sent(drive).map_err(|problems| Failure::problems(&options.drive.shown, &problems))?;
     let names = if console.rig.nodes.contains_key(&node) { &console.rig } else { &drive.rig };
     let named = words::node(names, node);
     let channel = match console.channel_of(node) {
@@ -56,14 +70,14 @@ pub fn run(
             return Ok(Status::Faults);
         }
     };
-    let taken = Side { rig: console.rig.clone(), elements: console.elements(channel) };
+    let index = 0x1600 + u16::from(channel);
+    let taken = Side { rig: console.rig.clone(), index, mapping: console.mapping(channel) };
     writeln!(
         out,
-        "{}: {} of its {SENT:04X}h against {} of the console's {:04X}h",
+        "{}: {} of its {SENT:04X}h against {} of the console's {index:04X}h",
         named,
-        words::counted(drive.elements.len(), "element"),
-        taken.elements.len(),
-        0x1600 + u16::from(channel)
+        drive.mapping.counted(),
+        taken.mapping.counted_again()
     )?;
     let findings = findings(&drive, &taken, console.expected_version(channel), options.style);
     for finding in &findings {
@@ -75,7 +89,14 @@ pub fn run(
 
 fn findings(drive: &Side, taken: &Side, expected: u8, style: Style) -> Vec<Finding> {
     let mut findings = vec![version(&drive.rig, expected)];
-    findings.extend(fields::compare(drive, taken, style));
+    if drive.mapping.is_off() {
+        let off = words::off(drive.index);
+        findings.push(Finding::Fault(format!("the drive's mapping is {off}: it sends nothing")));
+    } else {
+        findings.extend(fields::compare(drive, taken, style));
+    }
+    findings.extend(drive.unused("drive"));
+    findings.extend(taken.unused("console"));
     findings.extend(unsent(&drive.rig));
     findings
 }
@@ -114,24 +135,28 @@ fn only_sender(console: &Console) -> Result<u8, String> {
     }
 }
 
-/// What a drive sends. The library explains mappings of received payloads: the sent one is laid there.
-fn sent(rig: Rig) -> Result<Side, Problem> {
+/// What a drive sends. The library explains mappings of received payloads: the sent one is laid there, without its count, which is
+/// judged and kept where it stands.
+fn sent(rig: Rig) -> Result<Side, Vec<Problem>> {
+    let in_use = Console::new(rig.clone())?.in_use(SENT);
     let mut turned = rig.clone();
     turned.objects.retain(|index, _| !(0x1600..=0x16FF).contains(index));
     match turned.objects.remove(&SENT) {
-        Some(mapping) if mapping.is_list() => turned.objects.insert(0x1600, mapping),
+        Some(mapping) if mapping.is_list() => {
+            turned.objects.insert(0x1600, Object { count: None, ..mapping })
+        }
         Some(other) => {
             let text =
                 format!("expected {SENT:04X}h, what the drive sends, to be an Array or a Record");
-            return Err(other.problem(text));
+            return Err(vec![other.problem(text)]);
         }
         None => {
             let text = format!("expected an object {SENT:04X}h, what the drive sends; found none");
-            return Err(Problem::of_file(text));
+            return Err(vec![Problem::of_file(text)]);
         }
     };
-    let elements = Console::new(turned)?.elements(0);
-    Ok(Side { rig, elements })
+    let elements = Console::new(turned)?.mapping(0).elements;
+    Ok(Side { rig, index: SENT, mapping: Mapping::new(elements, in_use) })
 }
 
 /// Does the channel take the version that the drive sends?

@@ -32,7 +32,7 @@ pub struct Line {
     pub places: Vec<(u16, u8)>,
     /// Did a value change?
     pub changed: bool,
-    /// Was a value written that was there before?
+    /// Is it about nothing that could have changed: a value written that was there before, or an element that is not in use?
     pub same: bool,
     pub text: String,
 }
@@ -84,19 +84,15 @@ pub fn tell(rig: &Rig, received: &Received, consumed: &Consumed, style: Style) -
             let node = words::node(rig, received.sender);
             teller.nothing(format!("no channel of the rig takes {node}"));
         }
-        Consumed::WrongVersion { channel, expected, elements, noted } => {
-            teller.told.mapped = elements.iter().filter_map(place_of).collect();
+        Consumed::WrongVersion { channel, expected, mapping, noted } => {
+            teller.told.mapped = mapping.all().filter_map(place_of).collect();
             teller.wrong_version(*channel, *expected);
             teller.noted(noted.as_ref());
         }
-        Consumed::Taken { channel, steps, noted } => {
-            teller.told.mapped = steps.iter().filter_map(|step| place_of(&step.element)).collect();
-            if steps.is_empty() {
-                teller.nothing(format!("channel {channel} has no mapping"));
-            }
-            for (k, step) in steps.iter().enumerate() {
-                teller.step(step, &steps[k + 1..]);
-            }
+        Consumed::Taken { channel, steps, unused, noted } => {
+            let elements = steps.iter().map(|step| &step.element).chain(unused);
+            teller.told.mapped = elements.filter_map(place_of).collect();
+            teller.taken(*channel, steps, unused);
             teller.noted(noted.as_ref());
         }
     }
@@ -125,12 +121,39 @@ impl Teller<'_> {
         self.told.trouble(Vec::new(), Incident::of_payload(Trouble::Version, why));
     }
 
-    fn step(&mut self, step: &Step, later: &[Step]) {
-        let at = match &step.element.mapped {
+    /// Tells what became of each element of a channel that took the payload.
+    fn taken(&mut self, channel: u8, steps: &[Step], unused: &[Element]) {
+        let index = 0x1600 + u16::from(channel);
+        match (steps, unused) {
+            ([], []) => self.nothing(format!("channel {channel} has no mapping")),
+            ([], _) => self.nothing(format!("channel {channel} is {}", words::off(index))),
+            _ => {
+                for (k, step) in steps.iter().enumerate() {
+                    self.step(step, &steps[k + 1..]);
+                }
+                for element in unused {
+                    self.unused(element, &words::not_in_use(index, steps.len()));
+                }
+            }
+        }
+    }
+
+    fn unused(&mut self, element: &Element, why: &str) {
+        let text = format!("element {} ({}) is {why}", element.number, self.at(element));
+        let places = place_of(element).into_iter().collect();
+        self.told.lines.push(Line { places, changed: false, same: true, text });
+    }
+
+    /// The place that an element maps onto, or the type of one that is no mapping word.
+    fn at(&self, element: &Element) -> String {
+        match &element.mapped {
             Some(mapped) => named_place(self.rig, mapped.entry.index, mapped.entry.sub_index),
-            None => words::type_with_article(step.element.element_type),
-        };
-        let number = step.element.number;
+            None => words::type_with_article(element.element_type),
+        }
+    }
+
+    fn step(&mut self, step: &Step, later: &[Step]) {
+        let (number, at) = (step.element.number, self.at(&step.element));
         let element = format!("element {number} ({at})");
         let mut places: Vec<(u16, u8)> = place_of(&step.element).into_iter().collect();
         match &step.outcome {

@@ -85,13 +85,16 @@ impl Table {
         let left_out = |other: &Other| matches!(other, Other::LeftOut(_));
         let known = |sender: &Option<u8>| sender.and_then(|one| console.channel_of(one)).is_some();
         let ready =
-            |(sender, row): (&Option<u8>, &Row)| known(sender) && row.frames > row.not_ready;
+            |&(sender, row): &(&Option<u8>, &Row)| known(sender) && row.frames > row.not_ready;
+        let channel = |(sender, _): (&Option<u8>, &Row)| console.channel_of((*sender)?);
+        let channels = self.senders().filter(ready).filter_map(channel);
+        let off: Vec<bool> = channels.map(|channel| console.is_off(channel)).collect();
         if self.looked_at > 0 {
             None
         } else if self.senders.is_empty() && self.others.is_empty() {
             Some("the capture has no packet")
-        } else if self.senders().any(ready) {
-            Some("the channels that take these frames have no mapping")
+        } else if !off.is_empty() {
+            Some(unmapped(&off))
         } else if self.senders.keys().any(known) {
             Some("no frame of a sender that the rig takes was ready")
         } else if !self.senders.is_empty() {
@@ -155,5 +158,14 @@ impl Table {
             }
         }
         Ok(())
+    }
+}
+
+/// Why channels looked at no frame that they were given; of each is said whether it is off.
+fn unmapped(off: &[bool]) -> &'static str {
+    match (off.contains(&true), off.contains(&false)) {
+        (true, false) => "the channels that take these frames are off",
+        (true, true) => "the channels that take these frames have no mapping, or are off",
+        (false, _) => "the channels that take these frames have no mapping",
     }
 }

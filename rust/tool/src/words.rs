@@ -59,6 +59,16 @@ pub fn place(index: u16, sub_index: u8) -> String {
     format!("{index:04X}h/{sub_index}")
 }
 
+/// Why an element takes no part: `not in use, since the count of 1600h is 2`.
+pub fn not_in_use(index: u16, count: usize) -> String {
+    format!("not in use, since the count of {index:04X}h is {count}")
+}
+
+/// Why none of a mapping's elements does: `off, since the count of 1600h is 0`.
+pub fn off(index: u16) -> String {
+    format!("off, since the count of {index:04X}h is 0")
+}
+
 /// `6000h/0 "Ramp time"`.
 pub fn named_place(rig: &Rig, index: u16, sub_index: u8) -> String {
     match rig.name(index, sub_index) {

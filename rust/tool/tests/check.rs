@@ -89,11 +89,13 @@ fn the_json_of_the_ramp() {
         "number": 38,
         "element": 1,
         "text": "element 1 maps 4 bytes onto 6000h/0 \"a \\\"b\\\" \\\\ é\", an Unsigned16 of 2 bytes: the last 2 bytes would be lost"
-      }
+      },
+      "in_use": 1
     }
   ],
   "notes": [],
-  "noted": []
+  "noted": [],
+  "edition": 1
 }
 "#;
     assert!(run.out.ends_with(wanted), "{}", run.out);

@@ -1,5 +1,6 @@
 //! A rig: the console's object dictionary as a text file describes it.
 
+mod count;
 mod cursor;
 mod element;
 mod lexer;
@@ -14,9 +15,10 @@ mod types;
 #[cfg(test)]
 mod tests;
 
-use loomfinch::{AccessType, ValueType};
+use loomfinch::{AccessType, Edition, ValueType};
 use std::collections::BTreeMap;
 
+pub use count::Count;
 pub use lexer::hex_bytes;
 pub use parser::parse;
 pub use problem::Problem;
@@ -36,6 +38,8 @@ pub const MOST_ROOM: usize = 1490;
 
 #[derive(Clone, Debug, Default)]
 pub struct Rig {
+    /// The edition of the mapping rules.
+    pub edition: Edition,
     pub objects: BTreeMap<u16, Object>,
     /// The names of nodes that have one.
     pub nodes: BTreeMap<u8, String>,
@@ -50,6 +54,8 @@ pub struct Object {
     pub values: Vec<Value>,
     pub default: Option<Value>,
     pub range: Option<Range>,
+    /// What is written to its sub-index 0 once all objects are there.
+    pub count: Option<Count>,
     /// Where the file describes it.
     pub line: usize,
     pub column: usize,

@@ -1,28 +1,25 @@
 //! An object's line, and an element's.
 
+use super::count;
 use super::cursor::Cursor;
 use super::element::{default_value, Parts};
 use super::lexer::Token;
 use super::problem::Problem;
 use super::range;
 use super::types::{access_of_name, Kind};
-use super::{Object, Value, MOST_NAME};
+use super::{Count, Object, Value, MOST_NAME};
 use crate::words;
 use loomfinch::AccessType;
 
 /// An object's line behind its index, with the range that it says.
 pub fn object(cursor: &mut Cursor) -> Result<(Object, Option<range::Said>), Problem> {
     let (line, column) = cursor.start();
-    let token = cursor.next();
-    let kind = match &token {
-        Some(Token::Word(word)) => Kind::of_name(word),
-        _ => None,
-    };
-    let kind = kind.ok_or_else(|| cursor.expected("Variable, Array or Record", token.as_ref()))?;
+    let kind = kind(cursor)?;
     let mut name: Option<String> = None;
     let mut access: Option<AccessType> = None;
     let mut default: Option<Value> = None;
     let mut range: Option<range::Said> = None;
+    let mut counted: Option<Count> = None;
     let mut parts = Parts::default();
     while let Some(token) = cursor.peek().cloned() {
         if let Token::Text(text) = token {
@@ -35,6 +32,8 @@ pub fn object(cursor: &mut Cursor) -> Result<(Object, Option<range::Said>), Prob
             set(&mut default, default_value(cursor, parts.value_type())?, cursor, "default")?;
         } else if cursor.skip_word("range") {
             set(&mut range, range::said(cursor)?, cursor, "range")?;
+        } else if cursor.skip_word("count") {
+            set(&mut counted, count::said(cursor, kind)?, cursor, "count")?;
         } else if !parts.take(cursor)? {
             return Err(cursor.expected_next(object_parts(kind)));
         } else if kind != Kind::Variable {
@@ -47,13 +46,24 @@ pub fn object(cursor: &mut Cursor) -> Result<(Object, Option<range::Said>), Prob
     }
     let values = if kind == Kind::Variable { vec![parts.finish(cursor)?] } else { Vec::new() };
     let name = name.unwrap_or_default();
-    Ok((Object { kind, access, name, values, default, range: None, line, column }, range))
+    let object =
+        Object { kind, access, name, values, default, range: None, count: counted, line, column };
+    Ok((object, range))
+}
+
+fn kind(cursor: &mut Cursor) -> Result<Kind, Problem> {
+    let token = cursor.next();
+    let kind = match &token {
+        Some(Token::Word(word)) => Kind::of_name(word),
+        _ => None,
+    };
+    kind.ok_or_else(|| cursor.expected("Variable, Array or Record", token.as_ref()))
 }
 
 fn object_parts(kind: Kind) -> &'static str {
     match kind {
         Kind::Variable => "a type, a \"name\", an access, '=', 'room', 'ms', 'default' or 'range'",
-        Kind::Array | Kind::Record => "a \"name\", an access, 'default' or 'range'",
+        Kind::Array | Kind::Record => "a \"name\", an access, 'default', 'range' or 'count'",
     }
 }
 

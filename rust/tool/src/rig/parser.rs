@@ -10,6 +10,7 @@ use super::types::Kind;
 use super::{Object, Rig, Value, FORM, MANAGING_NODE};
 use super::{MOST_BYTES, MOST_ELEMENTS, MOST_OBJECTS, MOST_VALUES};
 use crate::broken;
+use loomfinch::Edition;
 
 /// What editors of some systems begin a text in UTF-8 with.
 const BYTE_ORDER_MARK: &[u8] = "\u{FEFF}".as_bytes();
@@ -52,6 +53,8 @@ fn no_text(file: &[u8], end: usize) -> Problem {
 #[derive(Default)]
 struct Reader {
     rig: Rig,
+    /// The line that says the edition, where one does.
+    edition_line: Option<usize>,
     open: Open,
     values: usize,
     bytes: usize,
@@ -80,6 +83,7 @@ impl Reader {
         if let Token::Word(word) = &first {
             match word.as_str() {
                 "rig" => return form(cursor, is_first),
+                "edition" => return self.edition(cursor),
                 "node" => return self.node(cursor),
                 _ => (),
             }
@@ -104,8 +108,32 @@ impl Reader {
                 return self.element(cursor, from, to);
             }
         }
-        let wanted = "an index, as in 6000h, an element's number, as in 1, or 'node'";
+        let wanted = "an index, as in 6000h, an element's number, as in 1, 'node' or 'edition'";
         Err(cursor.expected(wanted, Some(&first)))
+    }
+
+    /// `edition 2`, behind its first word. Where the line is wrong, counts are no further mistake.
+    fn edition(&mut self, cursor: &mut Cursor) -> Result<(), Problem> {
+        if let Some(line) = self.edition_line {
+            let text = format!("expected one edition, found a second (first on line {line})");
+            return Err(cursor.problem(text));
+        }
+        self.edition_line = Some(cursor.start().0);
+        self.rig.edition = Edition::Two;
+        if !self.rig.objects.is_empty() || !matches!(self.open, Open::Nothing) {
+            return Err(cursor.problem("expected 'edition' before the first object"));
+        }
+        let token = cursor.next();
+        let number = match &token {
+            Some(Token::Word(word)) => numbers::unsigned(word),
+            _ => None,
+        };
+        let number = number.and_then(|number| u8::try_from(number).ok());
+        self.rig.edition = number.and_then(Edition::from_number).ok_or_else(|| {
+            let wanted = "edition 1 or 2 of the mapping rules, as in edition 2";
+            cursor.expected(wanted, token.as_ref())
+        })?;
+        end_of_line(cursor)
     }
 
     /// `node 5 "Drehbühne"`, behind its first word.
@@ -132,10 +160,7 @@ impl Reader {
             }
         };
         self.rig.nodes.insert(node, name);
-        match cursor.next() {
-            None => Ok(()),
-            other => Err(cursor.expected("the end of the line", other.as_ref())),
-        }
+        end_of_line(cursor)
     }
 
     /// Is the object above one that has elements?
@@ -158,6 +183,9 @@ impl Reader {
         });
         self.problems.extend(again);
         let (object, range) = object::object(cursor)?;
+        if self.rig.edition == Edition::One {
+            self.problems.extend(object.count.map(|count| count.not_kept()));
+        }
         if earlier.is_none() {
             self.open = Open::Object(index, Box::new(object), range);
         }
@@ -236,6 +264,13 @@ impl Reader {
             }
         }
         self.rig.objects.insert(index, *object);
+    }
+}
+
+fn end_of_line(cursor: &mut Cursor) -> Result<(), Problem> {
+    match cursor.next() {
+        None => Ok(()),
+        other => Err(cursor.expected("the end of the line", other.as_ref())),
     }
 }
 

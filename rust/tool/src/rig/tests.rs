@@ -95,8 +95,8 @@ fn error_of(line: &str) -> Problem {
 #[test]
 fn errors_name_the_line_and_what_was_expected() {
     for (line, wanted) in [
-        ("Variable", "expected an index, as in 6000h, an element's number, as in 1, or 'node', found 'Variable'"),
-        ("\"6000h\"", "expected an index, as in 6000h, an element's number, as in 1, or 'node', found the text \"6000h\""),
+        ("Variable", "expected an index, as in 6000h, an element's number, as in 1, 'node' or 'edition', found 'Variable'"),
+        ("\"6000h\"", "expected an index, as in 6000h, an element's number, as in 1, 'node' or 'edition', found the text \"6000h\""),
         ("6000h", "expected Variable, Array or Record, found the end of the line"),
         ("6000h Varible", "expected Variable, Array or Record, found 'Varible'"),
         ("6000h Variable", "expected a type, such as Unsigned16"),
