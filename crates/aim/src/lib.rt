@@ -1,4 +1,6 @@
 // A mapping word read against the dictionary, in one place: for the step, the check and its explanation.
+#![tactic(auto)]
+
 ghost use Rattle.std.specs.Prelude.{◌≡◌};
 ghost use Rattle.entry.specs.Find.{Rows};
 ghost use Rattle.aim.specs.Aims.{aim_of, class_at, class_of};
@@ -7,7 +9,7 @@ use entry::Place;
 use mapping::{Field, PdoMappingEntry};
 
 // What a word says, its field, and what there is at its index and sub-index.
-#[derive(Drop)]
+#[derive(Clone, Copy)]
 pub struct Aim {
     pub entry: PdoMappingEntry,
     pub field: Field,
@@ -15,7 +17,7 @@ pub struct Aim {
 }
 
 // What that makes of the word: not whole bytes, a hand-off, no target, a list's count, or a field and the slot of its value.
-#[derive(Drop)]
+#[derive(Clone, Copy)]
 pub enum Class {
     Misaligned,
     Server { start: usize, len: usize },

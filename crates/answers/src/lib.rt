@@ -1,8 +1,10 @@
 // The answers that calls share: done, and the refusals with their numbers.
+#![tactic(auto)]
+
 ghost use Rattle.std.specs.Prelude.{◌≡◌};
 ghost use Rattle.answers.specs.Numbers.{refusal_number};
 
-#[derive(Drop)]
+#[derive(Clone, Copy)]
 pub enum Refusal {
     Malformed,
     BadValue,
@@ -26,7 +28,7 @@ pub enum Refusal {
 }
 
 // Of a call that has nothing else to say.
-#[derive(Drop)]
+#[derive(Clone, Copy)]
 pub enum Answer {
     Done,
     Refused(Refusal),

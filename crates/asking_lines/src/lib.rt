@@ -1,4 +1,6 @@
 // Lines of tables that ask of the memory as it is.
+#![tactic(auto)]
+
 mod checking;
 mod reading;
 mod sums;

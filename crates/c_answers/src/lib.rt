@@ -1,4 +1,6 @@
 // What every call for C answers: a number of RULES.md R13.1, and results in what was lent.
+#![tactic(auto)]
+
 ghost use Rattle.std.specs.Prelude.{◌≡◌};
 ghost use Rattle.c_answers.specs.Answers.{answer_number, place_after, had_after};
 

@@ -1,4 +1,6 @@
 // The channel check, for C.
+#![tactic(auto)]
+
 ghost use Rattle.std.specs.Prelude.{◌≡◌};
 ghost use Rattle.entry.specs.Table.{dict};
 ghost use Rattle.channel.specs.All.{check_all_of};

@@ -1,5 +1,7 @@
 // Values and mapping words, for C. Results go into the lent numbers, from the first one on.
 // include/loomfinch.h says what each call asks, answers and leaves.
+#![tactic(auto)]
+
 ghost use Rattle.std.specs.Prelude.{◌≡◌};
 ghost use Rattle.mapping.specs.Word.{word_of};
 ghost use Rattle.c_answers.specs.Answers.{lent, wrote, results};

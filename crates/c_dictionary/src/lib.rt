@@ -1,4 +1,6 @@
 // The dictionary's calls, for C.
+#![tactic(auto)]
+
 ghost use Rattle.std.specs.Prelude.{◌≡◌};
 ghost use Rattle.entry.specs.Table.{dict};
 ghost use Rattle.od.specs.New.{new_of};

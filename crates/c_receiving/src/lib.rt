@@ -1,4 +1,6 @@
 // Payloads and error bits, for C: an event is a number.
+#![tactic(auto)]
+
 ghost use Rattle.std.specs.Prelude.{◌≡◌, not, eqb, length};
 ghost use Rattle.entry.specs.Table.{dict};
 ghost use Rattle.entry.specs.Put.{contents};

@@ -1,4 +1,6 @@
 // Writing, the mapping count and restoring, for C.
+#![tactic(auto)]
+
 ghost use Rattle.std.specs.Prelude.{◌≡◌};
 ghost use Rattle.entry.specs.Table.{dict};
 ghost use Rattle.pdo_validator.specs.Counting.{valid_of};

@@ -1,6 +1,8 @@
 // Runs every table of data/ and writes how many lines were run, a space, how many differ, and a newline. codec.txt, dictionary.txt,
 // halving.txt, faults.txt, ranges.txt and editions.txt are our own; the others hold the Rust's answers, as oracle/README.md says, in parts
 // that are read at one go.
+#![tactic(auto)]
+
 use tables::State;
 
 // The lines of a table, on the memory that the one before left: a table in parts goes on where its last part ended.

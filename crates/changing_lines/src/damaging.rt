@@ -18,7 +18,7 @@ fn set_byte(xs: &mut [u8], place: usize, x: u8) -> bool {
 }
 
 // The memory with one element of slice 0 to 3, or of the store, changed; false where there is no such element.
-#[derive(Drop)]
+#[derive(Clone, Copy)]
 pub struct Damaged {
     pub memory: Memory,
     pub is_there: bool,

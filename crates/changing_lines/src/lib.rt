@@ -1,4 +1,6 @@
 // Lines of tables that change a dictionary or a store, but by payloads.
+#![tactic(auto)]
+
 mod damaging;
 mod inserting;
 mod storing;
@@ -9,7 +11,7 @@ use memory::Memory;
 pub use storing::{bit_line, restore_line, write_line};
 
 // The memory after a line, and whether the line's answer was given with all that it says.
-#[derive(Drop)]
+#[derive(Clone, Copy)]
 pub struct Told {
     pub memory: Memory,
     pub right: bool,

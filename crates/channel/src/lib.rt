@@ -1,4 +1,6 @@
 // The channel check: which element of a channel would not be written whole, and why.
+#![tactic(auto)]
+
 mod checking;
 mod every;
 mod numbers;
@@ -10,7 +12,7 @@ pub use every::{check_all, check_all_judged};
 pub use numbers::{named, number};
 
 // What the check says of a channel; an element is its place in the list, from 1.
-#[derive(Drop)]
+#[derive(Clone, Copy)]
 pub enum Checked {
     Pass,
     NoSender,
@@ -21,7 +23,7 @@ pub enum Checked {
 }
 
 // How many numbers were laid, or why none.
-#[derive(Drop)]
+#[derive(Clone, Copy)]
 pub enum CheckedAll {
     Done(usize),
     Refused(Refusal),

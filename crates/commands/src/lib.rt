@@ -1,4 +1,6 @@
 // Saving the dictionary's values into the lent store.
+#![tactic(auto)]
+
 mod laying;
 mod offering;
 mod saving;
@@ -7,7 +9,7 @@ use answers::Refusal;
 pub use offering::sub_in;
 pub use saving::save;
 
-#[derive(Drop)]
+#[derive(Clone, Copy)]
 pub enum Saved {
     Done,
     Refused(Refusal),

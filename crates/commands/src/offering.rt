@@ -6,7 +6,7 @@ ghost use Rattle.image.specs.Image.{to_store, sub_in, recs_in, offered_in, bodie
 ghost use Rattle.commands.specs.Save.{size_in, length_in, Row};
 
 // How many records, and how many bytes their bodies have.
-#[derive(Drop)]
+#[derive(Clone, Copy)]
 pub struct Size {
     pub records: usize,
     pub bytes: usize,

@@ -1,5 +1,7 @@
 // Lines of tables that consume payloads and cycles. An event list of zeros is lent: no event is 0, so that a number behind the events
 // shows where it is touched.
+#![tactic(auto)]
+
 use asking_lines::sum;
 use codec_lines::{blank, say};
 use loomfinch::Consumed;
@@ -8,14 +10,14 @@ use receiving::Logged;
 use tokens::{are, bytes, listed, next, number, numbers, room, sub_at};
 
 // The memory after a line, and whether the line's answer was given.
-#[derive(Drop)]
+#[derive(Clone, Copy)]
 pub struct Turn {
     pub memory: Memory,
     pub right: bool,
 }
 
 // A payload as a line gives it.
-#[derive(Drop)]
+#[derive(Clone, Copy)]
 struct Given {
     sender: u8,
     version: u8,

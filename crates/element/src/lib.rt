@@ -1,4 +1,6 @@
 // An element of a channel's list: what it maps, onto what, and what is wrong with it.
+#![tactic(auto)]
+
 mod elements;
 mod explaining;
 mod numbers;
@@ -9,7 +11,7 @@ pub use explaining::{explain, explain_judged};
 pub use numbers::{explained_numbers, fault_number};
 
 // What is wrong with an element.
-#[derive(Drop)]
+#[derive(Clone, Copy)]
 pub enum Fault {
     NotMapping,
     Misaligned,
@@ -19,14 +21,14 @@ pub enum Fault {
     WrongLength,
 }
 
-#[derive(Drop)]
+#[derive(Clone, Copy)]
 pub enum Verdict {
     Clean,
     Faulty(Fault),
 }
 
 // What there is at an index and a sub-index; a value holds so many bytes: its type's size, or its room.
-#[derive(Drop)]
+#[derive(Clone, Copy)]
 pub enum Target {
     NoObject,
     NoSub,
@@ -35,7 +37,7 @@ pub enum Target {
 }
 
 // What an element maps, and onto what.
-#[derive(Drop)]
+#[derive(Clone, Copy)]
 pub enum Explained {
     // Of this type, so no mapping word.
     Other(u64),

@@ -1,4 +1,6 @@
 // The lent dictionary: four slices that are looked up and put into. The crate `judge` judges them, and `rows` writes their rows.
+#![tactic(auto)]
+
 mod columns;
 mod encoding;
 mod lookup;
@@ -14,14 +16,14 @@ pub use lookup::{find, locate, lower, sub_at};
 pub use put::{put_new, put_value};
 
 // A row, or none.
-#[derive(Drop)]
+#[derive(Clone, Copy)]
 pub enum Found {
     At(usize),
     Nothing,
 }
 
 // What an index and a sub-index name: the count of a list's elements, or a value.
-#[derive(Drop)]
+#[derive(Clone, Copy)]
 pub enum Place {
     NoObject,
     NoSub,
@@ -30,7 +32,7 @@ pub enum Place {
 }
 
 // What a row has beside its object's kind, values and name: a kept count, and a range by its type and its ends.
-#[derive(Drop)]
+#[derive(Clone, Copy)]
 pub struct Extra {
     pub kept: u64,
     pub ranged: u64,
@@ -39,14 +41,14 @@ pub struct Extra {
 }
 
 // How far the rooms of some slots reach.
-#[derive(Drop)]
+#[derive(Clone, Copy)]
 pub enum Sum {
     Upto(usize),
     Bad,
 }
 
 // The values and bytes of all rows.
-#[derive(Drop)]
+#[derive(Clone, Copy)]
 pub enum Walk {
     Whole(usize, usize),
     Broken,

@@ -1,4 +1,6 @@
 // An event: what happened at an element of a payload's mapping, as a record and as one number.
+#![tactic(auto)]
+
 mod numbers;
 mod records;
 
@@ -7,7 +9,7 @@ pub use records::{event_record, record_of};
 
 // The field ends past the payload, has fewer bytes than its type needs, is no UTF-8 text from this byte of it on, or is a UnicodeString
 // of odd length.
-#[derive(Drop)]
+#[derive(Clone, Copy)]
 pub enum Cause {
     Frame,
     Value { needed: u16, had: u16 },
@@ -16,13 +18,13 @@ pub enum Cause {
 }
 
 // Why a value was not written.
-#[derive(Drop)]
+#[derive(Clone, Copy)]
 pub enum Unwritten {
     CountNotWritable,
     TooLong,
 }
 
-#[derive(Drop)]
+#[derive(Clone, Copy)]
 pub enum Event {
     MapVersion,
     PayloadShort(Cause),
@@ -32,7 +34,7 @@ pub enum Event {
 }
 
 // The number of the payload in its cycle, the element's place in the mapping, and what happened there.
-#[derive(Drop)]
+#[derive(Clone, Copy)]
 pub struct EventRecord {
     pub payload: u16,
     pub element: u8,
@@ -40,7 +42,7 @@ pub struct EventRecord {
 }
 
 // The record that a number of the log says, or nothing where no record has that number.
-#[derive(Drop)]
+#[derive(Clone, Copy)]
 pub enum Recorded {
     Is(EventRecord),
     Nothing,

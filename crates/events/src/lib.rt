@@ -1,4 +1,6 @@
 // The event list as records that the caller lends, and the events of a payload in it.
+#![tactic(auto)]
+
 mod receiving;
 mod records;
 
@@ -7,7 +9,7 @@ use pdo_handler::Consumed;
 pub use receiving::{consume_by_value, consume_pdo_payload};
 
 // An answer, and the event list after it.
-#[derive(Drop)]
+#[derive(Clone, Copy)]
 pub struct Heard {
     pub answer: Consumed,
     pub events: [EventRecord; 254],

@@ -1,4 +1,6 @@
 // Judging what an insertion is given.
+#![tactic(auto)]
+
 ghost use Rattle.std.specs.Prelude.{◌≡◌, true, false, cond, ◌+◌, ◌*◌, ◌<◌, ◌≤◌, length, take, drop};
 ghost use Rattle.value.specs.Codec.{is_text};
 ghost use Rattle.given.specs.Given.{type_in, room_in, length_in, extra_in, range_in, value_ok, vals_in, size_in};
@@ -7,7 +9,7 @@ use entry::Extra;
 
 // What an insertion is given beside its name and its values. With a default (1, else 0) the last of the values is the default. A range has
 // two ends of one integer type; all four numbers are 0 where there is none.
-#[derive(Drop)]
+#[derive(Clone, Copy)]
 pub struct Head {
     pub index: u16,
     pub kind: u64,
@@ -20,7 +22,7 @@ pub struct Head {
 }
 
 // The bytes that a given object takes, or that it is none.
-#[derive(Drop)]
+#[derive(Clone, Copy)]
 pub enum Size {
     Upto(usize),
     Bad,

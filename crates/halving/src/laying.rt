@@ -3,7 +3,7 @@ ghost use Rattle.std.specs.Prelude.{◌<◌, ◌≤◌};
 
 use crate::Spread;
 
-#[derive(Drop)]
+#[derive(Clone, Copy)]
 pub struct Laid {
     pub objects: [u64; 12300],
     pub slots: [u64; 3072],

@@ -1,11 +1,13 @@
 // Dictionaries of up to 1,024 rows, looked up at each row and beside each: for lines of tables, whose own dictionary has 8 objects.
+#![tactic(auto)]
+
 mod laying;
 
 use laying::{bounded, index_of, many};
 use od::Number;
 
 // So many rows, from an index on; the last is `width` behind the first, and those between lie evenly. Row i holds i.
-#[derive(Drop)]
+#[derive(Clone, Copy)]
 pub struct Spread {
     pub count: u16,
     pub first: u16,
@@ -14,7 +16,7 @@ pub struct Spread {
 
 // How often a row was found and how often none, and a sum over all answers in turn. Each has an odd factor there, modulo 2^32, so
 // that no single wrong answer leaves the sum as it was.
-#[derive(Drop)]
+#[derive(Clone, Copy)]
 pub struct Swept {
     pub found: u64,
     pub missing: u64,

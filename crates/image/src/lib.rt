@@ -1,4 +1,6 @@
 // Whether the lent store holds a readable image: judged wholly, in one pass; and which rows a list or a range has.
+#![tactic(auto)]
+
 mod ranging;
 
 ghost use Rattle.std.specs.Prelude.{◌≡◌, ◌+◌, ◌*◌, ◌≤◌, length, take, drop};

@@ -4,14 +4,14 @@ ghost use Rattle.entry.specs.Find.{Rows};
 ghost use Rattle.image.specs.Ranges.{range_of, Spans};
 
 // From the first index to the last; none where the first is above the last.
-#[derive(Drop)]
+#[derive(Clone, Copy)]
 pub struct Range {
     pub first: u16,
     pub last: u16,
 }
 
 // Rows, from one on to the one before the end.
-#[derive(Drop)]
+#[derive(Clone, Copy)]
 pub struct Span {
     pub from: usize,
     pub end: usize,

@@ -1,4 +1,6 @@
 // Inserting an object into the lent dictionary, and putting one in another's place: everything behind its place moves.
+#![tactic(auto)]
+
 mod act;
 mod remove;
 mod replacing;
@@ -15,7 +17,7 @@ pub use given::Head;
 use given::Size;
 pub use replacing::{replace, replace_judged};
 
-#[derive(Drop)]
+#[derive(Clone, Copy)]
 pub enum Inserted {
     Done,
     Refused(Refusal),

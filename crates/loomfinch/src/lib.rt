@@ -1,5 +1,7 @@
 // The public calls. None has a `requires`: each judges its own input and refuses what breaks a rule. The crates c_* have the same
 // calls for C.
+#![tactic(auto)]
+
 pub use answers::{Answer, Refusal, number as refusal_number};
 pub use channel::{Checked, CheckedAll, check, check_all};
 pub use counter::increment_counter;

@@ -1,8 +1,10 @@
 // The mapping word of a process data object: which value lies where in a payload.
+#![tactic(auto)]
+
 ghost use Rattle.std.specs.Prelude.{◌≡◌};
 ghost use Rattle.mapping.specs.Word.{entry_of, word_of, aligned_of, end_of, field_of};
 
-#[derive(Drop)]
+#[derive(Clone, Copy)]
 pub struct PdoMappingEntry {
     pub index: u16,
     pub sub_index: u8,
@@ -11,14 +13,14 @@ pub struct PdoMappingEntry {
 }
 
 // A number of bits, in bytes where it is a multiple of 8.
-#[derive(Drop)]
+#[derive(Clone, Copy)]
 pub enum Aligned {
     Bytes(usize),
     Misaligned,
 }
 
 // Where a field lies in the payload, in bytes where its offset and its length are both multiples of 8.
-#[derive(Drop)]
+#[derive(Clone, Copy)]
 pub enum Field {
     Whole { start: usize, length: usize },
     Misaligned,

@@ -1,11 +1,13 @@
 // A dictionary and a store in one struct by value, and the public calls on it: for programs, which would otherwise hand five lent
 // slices from function to function. There is room for 8 objects, 300 values and 1,200 bytes, so that each of these can be full.
+#![tactic(auto)]
+
 mod asking;
 mod changing;
 
 use loomfinch::Wrote;
 
-#[derive(Drop)]
+#[derive(Clone, Copy)]
 pub struct Memory {
     pub objects: [u64; 108],
     pub slots: [u64; 900],
@@ -15,14 +17,14 @@ pub struct Memory {
 }
 
 // The memory after a call, and the number of its answer.
-#[derive(Drop)]
+#[derive(Clone, Copy)]
 pub struct Called {
     pub memory: Memory,
     pub answer: u64,
 }
 
 // The memory after a write, and its answer.
-#[derive(Drop)]
+#[derive(Clone, Copy)]
 pub struct Written {
     pub memory: Memory,
     pub answer: Wrote,

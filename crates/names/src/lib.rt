@@ -1,4 +1,6 @@
 // Finding an object by its name.
+#![tactic(auto)]
+
 ghost use Rattle.std.specs.Prelude.{◌≡◌, true, ◌+◌, ◌<◌, ◌≤◌, length, take, drop};
 ghost use Rattle.entry.specs.Table.{dict, number_of};
 ghost use Rattle.entry.specs.Judge.{well_formed};
@@ -8,7 +10,7 @@ use answers::Refusal;
 use text::Text;
 
 // The index of an object.
-#[derive(Drop)]
+#[derive(Clone, Copy)]
 pub enum ByName {
     At(u16),
     Refused(Refusal),

@@ -1,4 +1,6 @@
 // The configured nodes: the Array 1F81h.
+#![tactic(auto)]
+
 ghost use Rattle.std.specs.Prelude.{◌≡◌, true, ◌<◌, ◌≤◌, length, get_or};
 ghost use Rattle.lists.specs.Lists.{over};
 ghost use Rattle.entry.specs.Table.{dict, type_at, slot_end};
@@ -10,14 +12,14 @@ use answers::Refusal;
 use entry::Found;
 
 // How many node numbers were laid into the output.
-#[derive(Drop)]
+#[derive(Clone, Copy)]
 pub enum Listed {
     Numbers(usize),
     Refused(Refusal),
 }
 
 // How many elements, and the slot of the first.
-#[derive(Drop)]
+#[derive(Clone, Copy)]
 struct Span {
     count: usize,
     first: usize,

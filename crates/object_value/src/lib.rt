@@ -1,4 +1,6 @@
 // Values as an enum, with the Rust's names: made from a type and a word, taken apart, decoded and encoded.
+#![tactic(auto)]
+
 mod integer;
 mod parts;
 mod words;

@@ -1,4 +1,6 @@
 // An empty dictionary, and values read: each reading call judges the lent dictionary first.
+#![tactic(auto)]
+
 mod empty;
 mod reading;
 
@@ -10,7 +12,7 @@ pub use reading::{
 };
 
 // A value's type and word: its number, or the length of a text or of bytes, which start at `start` of the lent bytes.
-#[derive(Drop)]
+#[derive(Clone, Copy)]
 pub enum Stored {
     Is {
         value_type: u64,
@@ -20,7 +22,7 @@ pub enum Stored {
     Refused(Refusal),
 }
 
-#[derive(Drop)]
+#[derive(Clone, Copy)]
 pub enum Number {
     Is(u64),
     Refused(Refusal),

@@ -1,4 +1,6 @@
 // The channel that a sender has.
+#![tactic(auto)]
+
 ghost use Rattle.std.specs.Prelude.{◌≡◌, true, ◌≤◌};
 ghost use Rattle.entry.specs.Table.{dict, number_of};
 ghost use Rattle.entry.specs.Find.{Rows, find_row};

@@ -32,7 +32,7 @@ fn short(payloads: &[u64], i: usize) -> bool
 }
 
 // Whether all payloads are placed, and whether all are short.
-#[derive(Drop)]
+#[derive(Clone, Copy)]
 pub struct Judged {
     pub placed: bool,
     pub short: bool,

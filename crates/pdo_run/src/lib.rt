@@ -1,4 +1,6 @@
 // The gathered words of a channel, in turn.
+#![tactic(auto)]
+
 ghost use Rattle.std.specs.Prelude.{◌≡◌, true, false, ℕ, ◌+◌, ◌<◌, ◌≤◌, length, take, drop};
 ghost use Rattle.std.proofs.Math.Option.{some};
 ghost use Rattle.entry.specs.Table.{dict, edition_of, number_of, values_of};
@@ -17,7 +19,7 @@ use pdo_step::Outcome;
 use value::CodecFault;
 
 // What an outcome leaves to do: its event's number, or 0; the sender's bit in 1C81h; to stop the run.
-#[derive(Drop)]
+#[derive(Clone, Copy)]
 pub struct Turn {
     pub event: u64,
     pub bit: bool,

@@ -1,4 +1,6 @@
 // One mapping word on a dictionary and a payload: what it comes to, and its act; and the error bits.
+#![tactic(auto)]
+
 mod acting;
 mod bits;
 mod deciding;
@@ -9,7 +11,7 @@ pub use deciding::decide;
 use value::CodecFault;
 
 // What a mapping word comes to: the field and its target value, or why nothing is stored.
-#[derive(Drop)]
+#[derive(Clone, Copy)]
 pub enum Outcome {
     Misaligned,
     Short,

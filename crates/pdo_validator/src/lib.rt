@@ -1,4 +1,6 @@
 // The mapping count: whether the first n elements of a mapping may be used.
+#![tactic(auto)]
+
 ghost use Rattle.std.specs.Prelude.{◌≡◌, true, ◌<◌};
 ghost use Rattle.entry.specs.Table.{dict, number_of, sends};
 ghost use Rattle.entry.specs.Find.{Elements};
@@ -11,7 +13,7 @@ use entry::{Found, Place};
 use mapping::PdoMappingEntry;
 
 // The largest end of some mapping words in bytes, or that one of them is none.
-#[derive(Drop)]
+#[derive(Clone, Copy)]
 pub enum Mapped {
     Upto(usize),
     Missing,

@@ -1,4 +1,6 @@
 // The act of insertion: gaps are opened and filled. It cannot fail.
+#![tactic(auto)]
+
 ghost use Rattle.std.specs.Prelude.{◌≡◌, false, cond, ◌++◌, ℕ, ◌+◌, ◌-◌, ◌*◌, ◌^◌, ◌≤◌, ◌<◌, length, get_or, take, drop};
 ghost use Rattle.lists.specs.Lists.{over, grown, spliced};
 ghost use Rattle.value.specs.Codec.{is_text};

@@ -1,11 +1,13 @@
 // Payloads and cycles consumed on the memory of a program.
+#![tactic(auto)]
+
 ghost use Rattle.std.specs.Prelude.{◌≤◌};
 
 use loomfinch::{Consumed, EventRecord};
 use memory::Memory;
 
 // The memory after a payload or a cycle, the number of its answer, and its list of events as numbers.
-#[derive(Drop)]
+#[derive(Clone, Copy)]
 pub struct Logged {
     pub memory: Memory,
     pub answer: u64,
@@ -15,7 +17,7 @@ pub struct Logged {
 }
 
 // The memory after a payload, its answer, and its list of events as records.
-#[derive(Drop)]
+#[derive(Clone, Copy)]
 pub struct Received {
     pub memory: Memory,
     pub answer: Consumed,

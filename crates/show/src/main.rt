@@ -1,4 +1,6 @@
 // A rig whose ramp time is mapped wrongly: what the channel check says of it, what consuming stores all the same, and the rig mended.
+#![tactic(auto)]
+
 mod rig;
 mod words;
 

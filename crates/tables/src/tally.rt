@@ -5,7 +5,7 @@ use crate::history::take_turn;
 use memory::Memory;
 use tokens::next;
 
-#[derive(Drop)]
+#[derive(Clone, Copy)]
 pub struct State {
     pub memory: Memory,
     pub run: u64,

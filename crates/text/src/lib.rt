@@ -1,5 +1,7 @@
 // Is a byte slice well_formed_lem UTF-8 (the Unicode Standard, Table 3-7), and if not, at which byte does it stop being so?
 // The bytes are gone through once, by a table of byte classes and a table of states.
+#![tactic(auto)]
+
 mod tables;
 
 ghost use Rattle.std.specs.Prelude.{◌≡◌, [], true, ℕ, ◌+◌, ◌≤◌, ◌<◌, T, length, take, drop, get_or};
@@ -9,7 +11,7 @@ ghost use Rattle.text.specs.Tables.{tables, asks, reach};
 use tables::{AFTER, CLASS};
 
 // Well-formed; or the place of the first byte with which no well_formed_lem text goes on: the length, where the bytes end within a character.
-#[derive(Drop)]
+#[derive(Clone, Copy)]
 pub enum Text {
     Good,
     Bad(usize),

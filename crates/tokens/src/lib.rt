@@ -1,4 +1,6 @@
 // What a line of a table holds: its tokens, room for what they say, sums, and numbers held against a line's.
+#![tactic(auto)]
+
 mod cells;
 mod hex;
 

@@ -1,9 +1,11 @@
 // Runs the twelve cases of RULES.md 14 on the public calls, and writes how many were run, a space, how many differ, and a newline.
 // crates/demand/specs/Twelve.antt has the same table, computed.
+#![tactic(auto)]
+
 mod codec;
 mod rig;
 
-#[derive(Drop)]
+#[derive(Clone, Copy)]
 struct Tally {
     run: u64,
     differ: u64,

@@ -48,7 +48,7 @@ fn set_up(version: u8, word: u64) -> Memory {
 }
 
 // What a payload comes to: the memory, how many events there are, and the first of them.
-#[derive(Drop)]
+#[derive(Clone, Copy)]
 struct After {
     memory: Memory,
     count: usize,

@@ -1,4 +1,6 @@
 // The 21 value types: what their bits mean, and bytes decoded to a word and encoded from one.
+#![tactic(auto)]
+
 mod codec;
 mod order;
 
@@ -9,35 +11,35 @@ use answers::Refusal;
 pub use codec::{decode_word, encode_word, exactly, fits, is_exact, is_text, size_of};
 pub use order::is_ordered;
 
-#[derive(Drop)]
+#[derive(Clone, Copy)]
 pub struct TimeOfDay {
     pub ms: u32,
     pub days: u16,
 }
 
-#[derive(Drop)]
+#[derive(Clone, Copy)]
 pub struct TimeDifference {
     pub ms: u32,
     pub days: u16,
 }
 
-#[derive(Drop)]
+#[derive(Clone, Copy)]
 pub struct NetTime {
     pub seconds: u32,
     pub nanoseconds: u32,
 }
 
-#[derive(Drop)]
+#[derive(Clone, Copy)]
 pub struct RelativeTime(pub u64);
 
-#[derive(Drop)]
+#[derive(Clone, Copy)]
 pub struct MacAddress(pub u8, pub u8, pub u8, pub u8, pub u8, pub u8);
 
-#[derive(Drop)]
+#[derive(Clone, Copy)]
 pub struct IpAddress(pub u8, pub u8, pub u8, pub u8);
 
 // A value. Reals are their bits. The four types that have a room hold their length in bytes; the bytes are a part beside the value.
-#[derive(Drop)]
+#[derive(Clone, Copy)]
 pub enum ObjectValue {
     Boolean(u8),
     Integer8(i8),
@@ -63,7 +65,7 @@ pub enum ObjectValue {
 }
 
 // Why bytes are no value of a type: fewer than it needs, no UTF-8 text from this byte on, an odd count.
-#[derive(Drop)]
+#[derive(Clone, Copy)]
 pub enum CodecFault {
     Value { needed: usize, had: usize },
     Text { at: usize },
@@ -71,14 +73,14 @@ pub enum CodecFault {
 }
 
 // What decoding finds. The word is the number of a fixed type's bytes, or the length of a text or of bytes.
-#[derive(Drop)]
+#[derive(Clone, Copy)]
 pub enum Word {
     Takes(u64),
     Fails(CodecFault),
 }
 
 // The value, why there is none, or a number that names no type.
-#[derive(Drop)]
+#[derive(Clone, Copy)]
 pub enum Decoded {
     Value(ObjectValue),
     Fails(CodecFault),
@@ -87,7 +89,7 @@ pub enum Decoded {
 
 // Whether data is a value of a type and nothing else, or why it is none: a number that names no type, bytes that do not decode, bytes behind
 // the value.
-#[derive(Drop)]
+#[derive(Clone, Copy)]
 pub enum Exactness {
     Value,
     NoType,
@@ -96,7 +98,7 @@ pub enum Exactness {
 }
 
 // How many bytes were written.
-#[derive(Drop)]
+#[derive(Clone, Copy)]
 pub enum Encoded {
     Wrote(usize),
     Refused(Refusal),

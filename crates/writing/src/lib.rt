@@ -1,4 +1,6 @@
 // Writing a value: judged wholly before anything is stored.
+#![tactic(auto)]
+
 mod judging;
 mod writing;
 
@@ -9,7 +11,7 @@ pub use writing::{write, write_judged};
 
 // What a write comes to: a value put at a slot, a count that is accepted and not kept, one that a row keeps, a command, data that does not
 // decode, or another refusal.
-#[derive(Drop)]
+#[derive(Clone, Copy)]
 pub enum Judged {
     Put(usize),
     Accepted,
@@ -21,7 +23,7 @@ pub enum Judged {
 }
 
 // Data that does not decode is refused as BadValue is, and why stands beside it.
-#[derive(Drop)]
+#[derive(Clone, Copy)]
 pub enum Wrote {
     Done,
     RestoreRequested,

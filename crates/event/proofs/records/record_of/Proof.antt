@@ -6,7 +6,14 @@ use Rattle.event.proofs.records.record_of.Tie as tie
 
 returns : tie.Need-returns
 unfolding record_of
-returns c = rw c.event-of.ensures
+returns c = rw c.event_of-event.ensures
 
-pub record-of-spec : {M : Type 1} → statement M
-record-of-spec = tie.close (tie.spec (λ c. search rules) (λ c. search rules) (λ c. search rules) (λ c. search rules) (λ c. search rules) (λ c κs. search rules) returns)
+pub record_of_spec : {M : Type 1} → statement M
+record_of_spec = tie.close (tie.spec
+    (λ c. search rules)
+    (λ c. search rules)
+    (λ c. search rules)
+    (λ c. search rules)
+    (λ c. search rules)
+    (λ c κs. search rules)
+    returns)

@@ -1,0 +1,11 @@
+-- `tokens::hex::number` is safe and ends. Assumes nothing.
+use Prim.Native.Nat.{◌<◌, ◌-◌, ◌^◌}
+use lib.ListN.{length}
+use borrow.Author.Rules.{rules}
+use Rattle.tokens.proofs.hex.number.Given as goal
+
+abbrev pub invariant-loop-i : goal.invariant-loop-i
+invariant-loop-i l = l.n < 2 ^ 64
+
+abbrev pub decreases-loop-i : goal.decreases-loop-i
+decreases-loop-i l = length l.s - l.i
