@@ -7,25 +7,25 @@ use Rattle.mapping.proofs.WordLaws.{joined-field}
 use Rattle.mapping.proofs.PdoMappingEntry.field.Statement.{statement}
 use Rattle.mapping.proofs.PdoMappingEntry.field.Tie as tie
 
-returns : tie.Need-returns
-returns c = joined-field _ (sym c.enum_told.given.1 ∙ c.before.before.byte-offset.ensures) refl
+returns : tie.Need-returns-in_default
+returns c = joined-field _ (sym c.in_default.is ∙ c.byte_offset.ensures) refl
 
 -- behind the first `let`: the offset is whole
-whole-offset : (c : tie.After-known-told) → Bytes c.before.start.given.0.0 ≡ aligned_of c.before.before.before.before.args.self.offset_bits
-whole-offset c = sym c.before.start.given.1 ∙ c.before.before.before.byte-offset.ensures
+whole-offset : (c : tie.In-Bytes) → Bytes c.in-Bytes.start ≡ aligned_of c.args.self.offset_bits
+whole-offset c = sym c.in-Bytes.is ∙ c.byte_offset.ensures
 
-returns-2 : tie.Need-returns-2
+returns-2 : tie.Need-returns-in_default-byte_length
 returns-2 c =
-    let k = c.before.before in
-    joined-field _ (whole-offset k.before) (sym c.enum-told2.given.1 ∙ k.byte-length.ensures)
+    let k = c.before in
+    joined-field _ (whole-offset k.before) (sym c.in_default-byte_length.is ∙ k.byte_length.ensures)
 
-returns-3 : tie.Need-returns-3
+returns-3 : tie.Need-returns
 returns-3 c =
-    let k = c.before.before.before in
-    joined-field _ (whole-offset k.before) (sym c.before.length.given.1 ∙ k.byte-length.ensures)
+    let k = c.before in
+    joined-field _ (whole-offset k.before) (sym c.in-Bytes-byte_length.is ∙ k.byte_length.ensures)
 
-pub field-spec : {M : Type 1} → statement M
-field-spec =
+pub field_spec : {M : Type 1} → statement M
+field_spec =
     tie.close
     (tie.spec
     (λ c κs. search rules)
