@@ -74,7 +74,16 @@ def table():
     return {old: new for old, new in turned.items() if old != new}
 
 
-def respelled(path, text, turned, finals=frozenset()):
+def function_names():
+    return {n for path in sources("rt") for n in re.findall(r"\bfn (\w+)", read(path))}
+
+
+def is_field(path, name, functions):
+    """A field of a record of ours, and no step of a function, which is named by what it calls."""
+    return "-" in name and path.endswith(".antt") and (is_laws(path) or "/specs/" in path or name.replace("-", "_") not in functions)
+
+
+def respelled(path, text, turned, functions, finals=frozenset()):
     def turn(m):
         old, before = m.group(0), text[: m.start()]
         if old not in turned:
@@ -82,7 +91,7 @@ def respelled(path, text, turned, finals=frozenset()):
             return new if new in finals and re.match(r"[a-z]+[A-Z-]", old) else old
         if before.endswith("."):
             owner = re.search(r"[^\s(){}\[\].,;:]*\.$", before).group(0)
-            if not owner[:1].isupper():
+            if not owner[:1].isupper() and not is_field(path, old, functions):
                 return old
         if path.endswith((".rt", ".edit")) and re.fullmatch(r"[a-z0-9_]+", old):
             return old
@@ -108,6 +117,7 @@ def main():
             print(old, turned[old])
         return 0
     definitions, lemmas = declared()
+    functions = function_names()
     finals = {turned.get(n, n) for n in definitions | lemmas}
     wholes = sources("antt") + sources("rt")
     clashes = [(path, pair) for path in sources("antt") for pair in together(path, read(path), turned)]
@@ -116,11 +126,11 @@ def main():
     if clashes:
         return 1
     for path in wholes:
-        write(path, respelled(path, read(path), turned))
+        write(path, respelled(path, read(path), turned, functions))
     for path in sorted(glob.glob("crates/*/must-fail/*.edit")):
-        write(path, respelled(path, read(path), turned, finals))
+        write(path, respelled(path, read(path), turned, functions, finals))
     for path in ["README.md"] + sorted(glob.glob("docs/**/*.md", recursive=True)):
-        write(path, re.sub(r"`[^`\n]+`", lambda m: respelled(path, m.group(0), turned, finals), read(path)))
+        write(path, re.sub(r"`[^`\n]+`", lambda m: respelled(path, m.group(0), turned, functions, finals), read(path)))
     return 0
 
 

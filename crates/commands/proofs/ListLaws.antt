@@ -21,7 +21,7 @@ use Rattle.commands.proofs.OfferLaws.{offered_skip}
 pub list_1 : (d : Dict) → well_formed d ≡ true → (i : ℕ) → i < number_of d.objects → offers d.objects (range_of 1).first (range_of 1).last i ≡ to_store d.objects i
 unfolding offers range_of
 list_1 d e i h =
-    rw (covers-between 0 0xFFFF (index_at d.objects i) (omega arith) (omega (arith, (head_ok_lem _ _ _ _ _ _ (row_facts d e i h).head).index-small)))
+    rw (covers-between 0 0xFFFF (index_at d.objects i) (omega arith) (omega (arith, (head_ok_lem _ _ _ _ _ _ (row_facts d e i h).head).index_small)))
 
 none_covered : (x : ℕ) → covers 1 0 x ≡ false
 none_covered x = go (dec_lt 0 x)

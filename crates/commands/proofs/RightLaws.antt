@@ -68,7 +68,7 @@ module _ (d : Dict) (e : well_formed d ≡ true) (i n : ℕ) (r : Row d.objects 
   record_ok : (k : ℕ) → k < n → RecOk (rec_at d i k)
   record_ok k h =
       record {
-        index = (head_ok_lem _ _ _ _ _ _ (row_facts d e i r.below).head).index-small;
+        index = (head_ok_lem _ _ _ _ _ _ (row_facts d e i r.below).head).index_small;
         sub = omega (arith, sub_few kind k, (row_lies d e i r.below).few, r.within);
         value = value_ok_lem k h;
       }

@@ -105,7 +105,7 @@ reads s b (r ∷ rs) a sum low xs ys e f w g h =
     let t : take n (drop (b + sum) s) ≡ r.body = ap (take n) f' ∙ take_at r.body (bodies rs ++ ys) n refl in
     let z : b + sum + n ≡ b + (sum + n) = omega arith in
     let v = reads s b rs (a + 8) (sum + n) (key_of r.index r.sub + 1) xs ys ih.rest (behind s r.body (bodies rs ++ ys) (b + sum) (b + (sum + n)) f' (omega arith)) (omega arith) c.more (omega arith) in
-    turn ih.index_is ih.sub_is ih.type-is ih.start_is ih.len_is t c v (omega arith) (omega arith)
+    turn ih.index_is ih.sub_is ih.type_is ih.start_is ih.len_is t c v (omega arith) (omega arith)
   where
     turn : field s a 2 ≡ r.index → field s (a + 2) 1 ≡ r.sub → field s (a + 3) 1 ≡ r.type → field s (a + 4) 2 ≡ sum
         → field s (a + 6) 2 ≡ length r.body → take (length r.body) (drop (b + sum) s) ≡ r.body
@@ -196,11 +196,11 @@ holds s h b (suc n) a sum low l m e =
           heads_lie =
               head_back s h a (omega arith)
               ∙ ap₂ (λ st le. head_of (index_in s a) (field s (a + 2) 1) (type_in s a) st le ++ drop (a + 8) s) t.start (sym j)
-              ∙ ap (λ xs. head_of (index_in s a) (field s (a + 2) 1) (type_in s a) sum (length r.body) ++ xs) (w.heads-lie ∙ ap₂ (λ st pl. heads (sum + st) rs ++ drop pl s) (sym j) v)
+              ∙ ap (λ xs. head_of (index_in s a) (field s (a + 2) 1) (type_in s a) sum (length r.body) ++ xs) (w.heads_lie ∙ ap₂ (λ st pl. heads (sum + st) rs ++ drop pl s) (sym j) v)
               ∙ sym (append_assoc (head_of (index_in s a) (field s (a + 2) 1) (type_in s a) sum (length r.body)) (heads (sum + length r.body) rs) (drop (a + 8 * suc n) s));
           bodies_lie =
               sym (take-append-drop (size_at s a) (drop (b + sum) s))
-              ∙ ap (λ xs. r.body ++ xs) (drop-drop (size_at s a) (b + sum) s ∙ ap (λ pl. drop pl s) z ∙ w.bodies-lie ∙ ap (λ pl. bodies rs ++ drop pl s) (sym (ap (λ m. b + sum + m) u ∙ y)))
+              ∙ ap (λ xs. r.body ++ xs) (drop-drop (size_at s a) (b + sum) s ∙ ap (λ pl. drop pl s) z ∙ w.bodies_lie ∙ ap (λ pl. bodies rs ++ drop pl s) (sym (ap (λ m. b + sum + m) u ∙ y)))
               ∙ sym (append_assoc r.body (bodies rs) (drop (b + sum + length (r.body ++ bodies rs)) s));
           good = recs_cons low r rs t.rises (record { index = omega (arith, i); sub = omega (arith, o); value = x }) w.good;
           small = omega (arith, u, w.small);
@@ -232,6 +232,6 @@ table-image s h rs e =
       right = record { good = w.good; few = omega (arith, w.count, leb-true n 2048 q.0); small = omega (arith, w.small) };
       image =
           part_is s h 0 2 2 refl (omega arith)
-          ∙ ap₂ (λ m xs. bytes_of 2 m ++ xs) (sym w.count) (w.heads-lie ∙ ap (λ xs. heads 0 rs ++ xs) (ap (λ m. drop m s) (sym (add-zero (2 + 8 * n))) ∙ w.bodies-lie ∙ ap (λ m. bodies rs ++ drop m s) (sym c)))
+          ∙ ap₂ (λ m xs. bytes_of 2 m ++ xs) (sym w.count) (w.heads_lie ∙ ap (λ xs. heads 0 rs ++ xs) (ap (λ m. drop m s) (sym (add-zero (2 + 8 * n))) ∙ w.bodies_lie ∙ ap (λ m. bodies rs ++ drop m s) (sym c)))
           ∙ simp append_assoc;
     }

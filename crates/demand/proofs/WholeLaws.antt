@@ -108,6 +108,6 @@ whole_clean f c w h =
     fits : StoredAt f.objects f.slots f.payload w h.target h.start h.len → (b : Bool) → is_text t ≡ b → length_fits t (room_at f.slots h.target) h.len ≡ true
     fits s true x = rw (x, le-leb _ _ (s.roomy x)) (s.even x)
     fits s false x =
-        let long = part_length f.payload h.start h.len s.within-payload in
+        let long = part_length f.payload h.start h.len s.within_payload in
         let z : length (part f.payload h.start h.len) ≡ size_of t = ap length (sym h.encodes ∙ encoding_fixed t _ _ x) ∙ length-bytes_of (size_of t) _ in
         rw x (eq-eqb _ _ (sym long ∙ z))

@@ -230,10 +230,10 @@ rows_lie d (suc k) i v b low v' b' hv hb hu hs hw ho q =
       values = omega (arith, t.values);
       bytes_low = omega (arith, t.bytes_low, s.low);
       rows = o.o-row ∙ rw (n, m, o.o-size, o.o-used, t.rows);
-      slots = o.o-slots ∙ rw (o.o-size, o.o-used, t.slots) (sym (append_assoc (slots_of _ _) _ _));
-      words = o.o-words ∙ rw (o.o-used, t.words) (sym (append_assoc (words_of _) _ _));
-      bytes = o.o-bytes ∙ rw t.bytes (sym (append_assoc (bytes_of (obj_at d i)) _ _));
-      good = rw (r.rises, o.o-good) t.good;
+      slots = o.o_slots ∙ rw (o.o-size, o.o-used, t.slots) (sym (append_assoc (slots_of _ _) _ _));
+      words = o.o_words ∙ rw (o.o-used, t.words) (sym (append_assoc (words_of _) _ _));
+      bytes = o.o_bytes ∙ rw t.bytes (sym (append_assoc (bytes_of (obj_at d i)) _ _));
+      good = rw (r.rises, o.o_good) t.good;
     }
 
 pub length_objs : (d : Dict) (k i : ℕ) → length (objs_from d k i) ≡ k

@@ -293,7 +293,7 @@ right h name vals encodings e =
         short = λ j l. (i.each j (omega arith) (omega arith)).short;
       };
       flagged = omega arith;
-      small = omega (arith, size_is h name vals encodings, i.small, k.len-small);
+      small = omega (arith, size_is h name vals encodings, i.small, k.len_small);
     }
 
 -- ---- the theorem on values: the word that is stored is what decoding the encoding gives

@@ -177,22 +177,22 @@ module _ (os : List Obj) (d : Dict) (l : Lies os d) (i n m w v e b f : ℕ) (h :
       let q = length-append (bytes_of o) (all_bytes ys) in
       let t = there in
       record {
-        values = omega (arith, t.e-is);
-        last = omega (arith, t.e-is, t.v-is, t.m-is, x, y, length-words_of o.values);
-        bytes = omega (arith, t.f-is);
-        end = omega (arith, t.f-is, t.b-is, t.w-is, p, q);
+        values = omega (arith, t.e_is);
+        last = omega (arith, t.e_is, t.v_is, t.m_is, x, y, length-words_of o.values);
+        bytes = omega (arith, t.f_is);
+        end = omega (arith, t.f_is, t.b_is, t.w_is, p, q);
       }
 
   pub words_gone : over d.words v (slice e m d.words) ≡ over d.words 0 (all_words (remove_at i 1 os))
-  words_gone = words_removed (take i os) (drop (i + 1) os) k.o d.words v e m (rw k.whole l.words) there.v-is there.e-is there.m-is
+  words_gone = words_removed (take i os) (drop (i + 1) os) k.o d.words v e m (rw k.whole l.words) there.v_is there.e_is there.m_is
 
   pub bytes_gone : over d.bytes b (slice f w d.bytes) ≡ over d.bytes 0 (all_bytes (remove_at i 1 os))
-  bytes_gone = bytes_removed (take i os) (drop (i + 1) os) k.o d.bytes b f w (rw k.whole l.bytes) there.b-is there.f-is there.w-is
+  bytes_gone = bytes_removed (take i os) (drop (i + 1) os) k.o d.bytes b f w (rw k.whole l.bytes) there.b_is there.f_is there.w_is
 
   pub slots_gone : fallen 3 (f - b) (m - e) (3 * v + 1) (over d.slots (3 * v) (slice (3 * e) (3 * m) d.slots)) ≡ over d.slots 0 (all_slots 0 (remove_at i 1 os))
-  slots_gone = slots_removed (take i os) (drop (i + 1) os) k.o d.slots v e m b (f - b) (rw k.whole l.slots) there.v-is there.e-is there.m-is there.b-is (omega (arith, there.f-is))
+  slots_gone = slots_removed (take i os) (drop (i + 1) os) k.o d.slots v e m b (f - b) (rw k.whole l.slots) there.v_is there.e_is there.m_is there.b_is (omega (arith, there.f_is))
 
   pub objects_gone : set (set (set (fallen 12 (f - b) (n - (i + 1)) (12 * i + 17) (fallen 12 (e - v) (n - (i + 1)) (12 * i + 16) (over d.objects (12 * i + 12) (slice (12 * i + 24) (12 * n + 12) d.objects)))) 0 (n - 1)) 1 (values_of d.objects - (e - v))) 2 (used_of d.objects - (f - b)) ≡ over d.objects 0 (all_objects (edition_of d.objects) (remove_at i 1 os))
   objects_gone =
       rw (← s.values, ← s.bytes)
-      (objects_removed (take i os) (drop (i + 1) os) k.o (edition_of d.objects) d.objects (fallen 12 (f - b) (n - (i + 1)) (12 * i + 17) (fallen 12 (e - v) (n - (i + 1)) (12 * i + 16) (over d.objects (12 * i + 12) (slice (12 * i + 24) (12 * n + 12) d.objects)))) i n m w v b (e - v) (f - b) (rw k.whole l.objects) there.at there.n-is there.m-is there.w-is there.v-is there.b-is (omega (arith, there.e-is)) (omega (arith, there.f-is)) refl)
+      (objects_removed (take i os) (drop (i + 1) os) k.o (edition_of d.objects) d.objects (fallen 12 (f - b) (n - (i + 1)) (12 * i + 17) (fallen 12 (e - v) (n - (i + 1)) (12 * i + 16) (over d.objects (12 * i + 12) (slice (12 * i + 24) (12 * n + 12) d.objects)))) i n m w v b (e - v) (f - b) (rw k.whole l.objects) there.at there.n_is there.m_is there.w_is there.v_is there.b_is (omega (arith, there.e_is)) (omega (arith, there.f_is)) refl)

@@ -69,7 +69,7 @@ name_lies d w i h =
       row = omega (arith, a.rows);
       start = omega (arith, r.bytes, a.total);
       inside = omega (arith, r.bytes, a.bytes);
-      index = (head_ok_lem _ _ _ _ _ _ r.head).index-small;
+      index = (head_ok_lem _ _ _ _ _ _ r.head).index_small;
     }
 
 pub name_apart : (d : Dict) → well_formed d ≡ true → (i : ℕ) → i < number_of d.objects → (name : List ℕ) → (name_len_at d.objects i ≡ length name → ⊥) → same (name_of d i) name ≡ false

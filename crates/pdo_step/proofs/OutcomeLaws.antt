@@ -102,7 +102,7 @@ module _ (d : Dict) (payload : List ℕ) (p a n : ℕ) where
       short : (b m : ℕ) → field_of (entry_of w) ≡ field.Whole b m → (c : Bool) → ltb (length payload) (b + m) ≡ c → cond c outcome.Short (on_index d.objects d.slots payload (entry_of w) b m) ≡ outcome.Stored p a n → StoredBy d payload p a n
       short b m q true l e = let z : ◌≡◌ {A = ℕ} 0 1 = cc in absurd (omega arith)
       short b m q false l e =
-          server b m (record { within = ltb-false (length payload) (b + m) l; small = (whole_field (entry_of w) (entry_in_range w) b m q).end-small }) (between 0x1200 0x127F x) e
+          server b m (record { within = ltb-false (length payload) (b + m) l; small = (whole_field (entry_of w) (entry_in_range w) b m q).end_small }) (between 0x1200 0x127F x) e
 
       fielded : (f : Field) → field_of (entry_of w) ≡ f → on_field d.objects d.slots payload (entry_of w) f ≡ outcome.Stored p a n → StoredBy d payload p a n
       fielded field.Misaligned q e = let z : ◌≡◌ {A = ℕ} 0 1 = cc in absurd (omega arith)

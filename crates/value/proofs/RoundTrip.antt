@@ -56,12 +56,12 @@ encode_decode t w s b k h n = go (is_text t) refl
 -- ---- values
 -- what decoding gives is of the type asked for, and fits its bits
 pub type_decode : (t : ℕ) (s : List ℕ) (v : ObjectValue) → decode_of t s ≡ Value v → type_of v ≡ t
-type_decode t s v h = let d = decoded t s v h in rw d.value (type_reading t d.word d.type-le)
+type_decode t s v h = let d = decoded t s v h in rw d.value (type_reading t d.word d.type_le)
 
 pub in_range_decode : (t : ℕ) (s : List ℕ) (v : ObjectValue) → Bytes s → length s < 2 ^ 64 → decode_of t s ≡ Value v → InRange v
 in_range_decode t s v b l h =
     let d = decoded t s v h in
-    rw d.value (in_range-reading t d.word d.type-le (word_lt64 t d.word s d.taken b l))
+    rw d.value (in_range-reading t d.word d.type_le (word_lt64 t d.word s d.taken b l))
 
 -- one of a fixed type can always be encoded
 pub sayable_fixed_value : (v : ObjectValue) (part : List ℕ) → InRange v → is_text (type_of v) ≡ false → sayable (type_of v) (word_of v) part ≡ true
@@ -76,8 +76,8 @@ pub encode_decode_value : (t : ℕ) (s : List ℕ) (v : ObjectValue) → Bytes s
     → (sayable (type_of v) (word_of v) s ≡ true) × (encoding (type_of v) (word_of v) s ≡ s)
 encode_decode_value t s v b h n =
     let d = decoded t s v h in
-    let e = encode_decode t d.word s b d.type-le d.taken n in
-    rw (d.value, type_reading t d.word d.type-le, word-reading t d.word d.type-le (said_fixed t d.word s e.0)) e
+    let e = encode_decode t d.word s b d.type_le d.taken n in
+    rw (d.value, type_reading t d.word d.type_le, word-reading t d.word d.type_le (said_fixed t d.word s e.0)) e
 
 -- ---- the two calls
 -- "Decoding what encoding wrote gives the value"

@@ -12,10 +12,10 @@ returns : tie.Need-returns
 unfolding read_numbers
 returns c =
     let k = c.before.before in
-    let v = k.value-type.given.0 in
+    let v = k.value_type.given.0 in
     let r = k.before.before in
     let ns = r.before.before.before.before.before.before.args.numbers.now in
-    sym (results_short (v.0 ∷ v.1.0 ∷ v.1.1.0 ∷ []) ns c.if1.true) ∙ ap (λ a. stored_numbers a ns) (sym k.value-type.given.1 ∙ r.read.ensures)
+    sym (results_short (v.0 ∷ v.1.0 ∷ v.1.1.0 ∷ []) ns c.if1.true) ∙ ap (λ a. stored_numbers a ns) (sym k.value_type.given.1 ∙ r.read.ensures)
 
 returns-2 : tie.Need-returns-2
 unfolding read_numbers
@@ -23,10 +23,10 @@ returns-2 c =
     let l = c.before.before in
     let i = l.before.before.before in
     let k = i.before.before in
-    let v = k.value-type.given.0 in
+    let v = k.value_type.given.0 in
     let r = k.before.before in
     let ns = r.before.before.before.before.before.before.args.numbers.now in
-    ap (lent 0) l.lay-words.ensures ∙ sym (results_done (v.0 ∷ v.1.0 ∷ v.1.1.0 ∷ []) ns i.if1.false) ∙ ap (λ a. stored_numbers a ns) (sym k.value-type.given.1 ∙ r.read.ensures)
+    ap (lent 0) l.lay-words.ensures ∙ sym (results_done (v.0 ∷ v.1.0 ∷ v.1.1.0 ∷ []) ns i.if1.false) ∙ ap (λ a. stored_numbers a ns) (sym k.value_type.given.1 ∙ r.read.ensures)
 
 returns-3 : tie.Need-returns-3
 unfolding read_numbers

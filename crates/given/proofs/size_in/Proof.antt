@@ -40,7 +40,7 @@ vals-in-requires : tie.Need-vals-in-requires
 vals-in-requires c κs =
     let g = c.before.before in
     let k = head_ok_lem _ _ _ _ _ _ (sym g.before.before.before.head_ok.ensures ∙ not-false _ g.before.before.if3.false) in
-    (omega (arith, k.count_small, k.flag_small, g.before.before.before.before.before.if2.false), omega (arith, g.before.before.before.before.before.before.if1.false), k.len-small)
+    (omega (arith, k.count_small, k.flag_small, g.before.before.before.before.before.if2.false), omega (arith, g.before.before.before.before.before.before.if1.false), k.len_small)
 
 returns-6 : tie.Need-returns-6
 returns-6 c =

@@ -85,7 +85,7 @@ row-fits-requires : tie.Need-row-fits-requires invariant-loop decreases-loop
 row-fits-requires c κs =
     let k = c.before.before.before in
     let w = within c.before.before in
-    ((w.0, w.1, k.loop.invariant.1, k.loop.invariant.2, (begin k).requires.bytes), ((head c).count_small, (head c).flag_small, (head c).len-small, (begin k).requires.values, (begin k).requires.total))
+    ((w.0, w.1, k.loop.invariant.1, k.loop.invariant.2, (begin k).requires.bytes), ((head c).count_small, (head c).flag_small, (head c).len_small, (begin k).requires.values, (begin k).requires.total))
 
 returns-2 : tie.Need-returns-2 invariant-loop decreases-loop
 returns-2 c =
@@ -140,7 +140,7 @@ add-v c =
 add_low : tie.Need-overflow-add-low invariant-loop decreases-loop
 add_low c =
     let x = c.before.before.before.before in
-    omega (arith, x.index_at.ensures, (head x.before.before.before.before.before.before).index-small)
+    omega (arith, x.index_at.ensures, (head x.before.before.before.before.before.before).index_small)
 
 loop-again : tie.Need-loop-preserved invariant-loop decreases-loop
 loop-again c =

@@ -40,7 +40,7 @@ cast-t15 : tie.Need-overflow-cast-t15
 cast-t15 c = omega (arith, (small c.before).start_small)
 
 cast-t16 : tie.Need-overflow-cast-t16
-cast-t16 c = omega (arith, (small c.before).length-small)
+cast-t16 c = omega (arith, (small c.before).length_small)
 
 returns-2 : tie.Need-returns-2
 returns-2 c = let f = c.before in let t = f.before.before.before in rw t.target_at.ensures (fielded t _ f.field.given.1)

@@ -30,7 +30,7 @@ key-at-requires : tie.Need-key-at-requires
 key-at-requires c κs =
     let s = c.before.before.before.before.before in
     let r = row_lies (D s) s.requires.0 s.args.i s.requires.1.0.0 in
-    (r.small, r.inside, (head_ok_lem _ _ _ _ _ _ (row_facts (D s) s.requires.0 s.args.i s.requires.1.0.0).head).index-small, omega (arith, r.few, s.requires.1.0.1))
+    (r.small, r.inside, (head_ok_lem _ _ _ _ _ _ (row_facts (D s) s.requires.0 s.args.i s.requires.1.0.0).head).index_small, omega (arith, r.few, s.requires.1.0.1))
 
 look-up-requires : tie.Need-look-up-requires
 look-up-requires c κs = c.before.before.before.before.before.before.requires.1.1

@@ -43,7 +43,7 @@ add-if1 c =
     let f = c.before in
     let m = f.before.before in
     let w = (start m).args.word in
-    omega (arith, (whole_field (entry_of w) (entry_in_range w) _ _ (sym (ap (λ (z : Aim). z.field) m.aim-of.ensures) ∙ f.field.given.1)).end-small)
+    omega (arith, (whole_field (entry_of w) (entry_in_range w) _ _ (sym (ap (λ (z : Aim). z.field) m.aim-of.ensures) ∙ f.field.given.1)).end_small)
 
 returns-2 : tie.Need-returns-2
 returns-2 c =
