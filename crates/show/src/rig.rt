@@ -2,6 +2,7 @@
 use crate::words::{answer, explanation, number, say};
 use loomfinch::{Checked, Consumed, Event, EventRecord, Head, Number};
 use memory::Memory;
+use std::io;
 
 // An object that can be read and written, without a name.
 fn insert(m: Memory, index: u16, kind: u64, vals: &[u64], encodings: &[u8]) -> Memory {
@@ -30,7 +31,7 @@ fn rig(word: u64) -> Memory {
 }
 
 // A payload of node 5: the memory after it, and how many events it has.
-fn consume(m: Memory, payload: &[u8]) -> Memory {
+fn consume(rt: &impl Print, m: Memory, payload: &[u8]) -> io::Result<Memory> {
     let blank = EventRecord {
         payload: 0,
         element: 0,
@@ -39,37 +40,38 @@ fn consume(m: Memory, payload: &[u8]) -> Memory {
     let heard = receiving::consume_recorded(m, payload, 5, 0x10, true, blank);
     let a = heard.answer;
     match a {
-        Consumed::Done(n) => number(n as u64),
-        Consumed::Refused(_) => say(b"no"),
+        Consumed::Done(n) => number(rt, n as u64)?,
+        Consumed::Refused(_) => say(rt, "no")?,
     }
-    say(b" events");
-    heard.memory
+    say(rt, " events")?;
+    Ok(heard.memory)
 }
 
-fn stored(m: Memory) {
+fn stored(rt: &impl Print, m: Memory) -> io::Result<()> {
     match m.read_number(6, 0x6000, 0) {
-        Number::Is(n) => number(n),
-        Number::Refused(_) => say(b"nothing"),
+        Number::Is(n) => number(rt, n),
+        Number::Refused(_) => say(rt, "nothing"),
     }
 }
 
 // The check's answer, and what the element that it names maps.
-fn check(m: Memory) {
+fn check(rt: &impl Print, m: Memory) -> io::Result<()> {
     let a = m.check(0);
-    answer(a);
+    answer(rt, a)?;
     if let Checked::Element { element, fault: _ } = a {
-        explanation(m.explain(0, (element % 256) as u8));
+        explanation(rt, m.explain(0, (element % 256) as u8))?;
     }
+    Ok(())
 }
 
-pub fn show(word: u64, payload: &[u8], time: u64) {
+pub fn show(rt: &impl Print, word: u64, payload: &[u8], time: u64) -> io::Result<()> {
     let m = rig(word);
-    check(m);
-    say(b"  consumed: ");
-    number(time);
-    say(b" ms, ");
-    let after = consume(m, payload);
-    say(b", and 6000h is ");
-    stored(after);
-    say(b"\n");
+    check(rt, m)?;
+    say(rt, "  consumed: ")?;
+    number(rt, time)?;
+    say(rt, " ms, ")?;
+    let after = consume(rt, m, payload)?;
+    say(rt, ", and 6000h is ")?;
+    stored(rt, after)?;
+    say(rt, "\n")
 }

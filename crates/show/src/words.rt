@@ -1,50 +1,51 @@
 // What the program says, and the words for each answer of the check.
 use loomfinch::{Checked, Explained, Fault, Target};
+use std::io;
 
-pub fn say(text: &[u8]) {
-    io::write_all(1, text);
+pub fn say(rt: &impl Print, text: &str) -> io::Result<()> {
+    print!(rt; "{text}")
 }
 
-pub fn number(n: u64) {
-    io::print_decimal(1, n);
+pub fn number(rt: &impl Print, n: u64) -> io::Result<()> {
+    print!(rt; "{n}")
 }
 
-fn reason(fault: Fault) {
+fn reason(rt: &impl Print, fault: Fault) -> io::Result<()> {
     match fault {
-        Fault::NotMapping => say(b"it is no mapping word"),
-        Fault::Misaligned => say(b"its offset or length is not whole bytes"),
-        Fault::HandOff => say(b"its target belongs to SDO"),
-        Fault::NoTarget => say(b"its target is missing"),
-        Fault::CountTarget => say(b"its target is a list's count"),
-        Fault::WrongLength => say(b"its length is not the target's size"),
+        Fault::NotMapping => say(rt, "it is no mapping word"),
+        Fault::Misaligned => say(rt, "its offset or length is not whole bytes"),
+        Fault::HandOff => say(rt, "its target belongs to SDO"),
+        Fault::NoTarget => say(rt, "its target is missing"),
+        Fault::CountTarget => say(rt, "its target is a list's count"),
+        Fault::WrongLength => say(rt, "its length is not the target's size"),
     }
 }
 
-fn place(index: u16, sub_index: u8) {
-    io::print_hex(1, index as u64, 4);
-    say(b"h/");
-    number(sub_index as u64);
+fn place(rt: &impl Print, index: u16, sub_index: u8) -> io::Result<()> {
+    print!(rt; "{index:04x}")?;
+    say(rt, "h/")?;
+    number(rt, sub_index as u64)
 }
 
-fn holding(target: Target) {
+fn holding(rt: &impl Print, target: Target) -> io::Result<()> {
     match target {
-        Target::NoObject => say(b"which is not there"),
-        Target::NoSub => say(b"which is not there"),
-        Target::Count => say(b"the count of a list"),
+        Target::NoObject => say(rt, "which is not there"),
+        Target::NoSub => say(rt, "which is not there"),
+        Target::Count => say(rt, "the count of a list"),
         Target::Value {
             value_type: _,
             holds,
         } => {
-            say(b"which holds ");
-            number(holds);
+            say(rt, "which holds ")?;
+            number(rt, holds)
         }
     }
 }
 
 // What an element maps, and onto what.
-pub fn explanation(e: Explained) {
+pub fn explanation(rt: &impl Print, e: Explained) -> io::Result<()> {
     match e {
-        Explained::Other(_) => say(b"    it maps nothing\n"),
+        Explained::Other(_) => say(rt, "    it maps nothing\n"),
         Explained::Misaligned {
             index,
             sub_index,
@@ -52,13 +53,13 @@ pub fn explanation(e: Explained) {
             length_bits,
             target,
         } => {
-            say(b"    it maps ");
-            number(length_bits as u64);
-            say(b" bits onto ");
-            place(index, sub_index);
-            say(b", ");
-            holding(target);
-            say(b"\n");
+            say(rt, "    it maps ")?;
+            number(rt, length_bits as u64)?;
+            say(rt, " bits onto ")?;
+            place(rt, index, sub_index)?;
+            say(rt, ", ")?;
+            holding(rt, target)?;
+            say(rt, "\n")
         }
         Explained::Field {
             index,
@@ -67,32 +68,32 @@ pub fn explanation(e: Explained) {
             length,
             target,
         } => {
-            say(b"    it maps ");
-            number(length as u64);
-            say(b" bytes onto ");
-            place(index, sub_index);
-            say(b", ");
-            holding(target);
-            say(b"\n");
+            say(rt, "    it maps ")?;
+            number(rt, length as u64)?;
+            say(rt, " bytes onto ")?;
+            place(rt, index, sub_index)?;
+            say(rt, ", ")?;
+            holding(rt, target)?;
+            say(rt, "\n")
         }
-        Explained::Refused(_) => say(b"    there is no such element\n"),
+        Explained::Refused(_) => say(rt, "    there is no such element\n"),
     }
 }
 
-pub fn answer(a: Checked) {
-    say(b"  the check: ");
+pub fn answer(rt: &impl Print, a: Checked) -> io::Result<()> {
+    say(rt, "  the check: ")?;
     match a {
-        Checked::Pass => say(b"channel 0 passes"),
-        Checked::NoSender => say(b"channel 0 has no sender"),
-        Checked::NoList => say(b"channel 0 maps nothing"),
+        Checked::Pass => say(rt, "channel 0 passes")?,
+        Checked::NoSender => say(rt, "channel 0 has no sender")?,
+        Checked::NoList => say(rt, "channel 0 maps nothing")?,
         Checked::Element { element, fault } => {
-            say(b"channel 0, element ");
-            number(element as u64);
-            say(b": ");
-            reason(fault);
+            say(rt, "channel 0, element ")?;
+            number(rt, element as u64)?;
+            say(rt, ": ")?;
+            reason(rt, fault)?;
         }
-        Checked::TooFar => say(b"channel 0 reaches past 1490 bytes"),
-        Checked::Refused(_) => say(b"no dictionary"),
+        Checked::TooFar => say(rt, "channel 0 reaches past 1490 bytes")?,
+        Checked::Refused(_) => say(rt, "no dictionary")?,
     }
-    say(b"\n");
+    say(rt, "\n")
 }

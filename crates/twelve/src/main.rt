@@ -5,6 +5,8 @@
 mod codec;
 mod rig;
 
+use std::io;
+
 #[derive(Clone, Copy)]
 struct Tally {
     run: u64,
@@ -39,10 +41,9 @@ fn rig_cases(before: Tally) -> Tally {
     case(t, rig::case_12())
 }
 
-fn main() {
+fn main(rt: HostRuntime) -> io::Result<()> {
     let all = rig_cases(codec_cases(Tally { run: 0, differ: 0 }));
-    io::print_decimal(1, all.run);
-    io::write_all(1, b" ");
-    io::print_decimal(1, all.differ);
-    io::write_all(1, b"\n");
+    let run = all.run;
+    let differ = all.differ;
+    println!(rt; "{run} {differ}")
 }
