@@ -87,13 +87,13 @@ module _ (w : Width) (half x : ℕ) (z : ℤ) (e : z ≡ integer half x) (p : 0 
   small = rw e (mag_integer half x p)
 
   pub wide_same : to_z w64 (of_z w64 z) ≡ z
-  wide_same = to_z-of_z (record { sfits = omega (arith, small) })
+  wide_same = to_z-of_z {w = w64} (record { sfits = omega (arith, small) })
 
   pub narrow_fits : SFits w (to_z w64 (of_z w64 z))
   narrow_fits = rw wide_same (record { sfits = omega (arith, small) })
 
   pub narrow_same : to_z w (of_z w (to_z w64 (of_z w64 z))) ≡ integer half x
-  narrow_same = to_z-of_z narrow_fits ∙ wide_same ∙ e
+  narrow_same = to_z-of_z {w = w} narrow_fits ∙ wide_same ∙ e
 
 -- ---- a narrower type, into 64 bits
 module _ (w : Width) (z : ℤ) (f : SFits w z) (h : hbits w ≤ 63) where

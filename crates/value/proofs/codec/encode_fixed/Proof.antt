@@ -19,31 +19,31 @@ use Rattle.value.proofs.codec.encode_fixed.Tie as tie
 bytes : (c : tie.Start) → encoding c.args.t c.args.word [] ≡ bytes_of (size_of c.args.t) c.args.word
 bytes c = encoding_fixed c.args.t c.args.word [] c.requires.1
 
-size : (c : tie.After-size-of) → length (encoding c.before.before.before.before.args.t c.before.before.before.before.args.word []) ≡ c.type_size.result
+size : (c : tie.After-size_of-n) → length (encoding c.args.t c.args.word []) ≡ c.size_of-n.result
 size c =
     let a = c.before.before.before.before in
-    ap length (bytes a) ∙ length-bytes_of (size_of a.args.t) a.args.word ∙ sym c.type_size.ensures
+    ap length (bytes a) ∙ length-bytes_of (size_of a.args.t) a.args.word ∙ sym c.size_of-n.ensures
 
-fitting : (c : tie.Else1) → sayable c.before.before.before.args.t c.before.before.before.args.word [] ≡ true
+fitting : (c : tie.Else-not-fits) → sayable c.args.t c.args.word [] ≡ true
 fitting c =
-    let a = c.before.before.before in
-    sayable_fixed a.args.t a.args.word [] a.requires.0 a.requires.1 ∙ sym c.before.fits2.ensures ∙ not-false _ c.if1.false
+    let a = c in
+    sayable_fixed a.args.t a.args.word [] a.requires.0 a.requires.1 ∙ sym c.fits.ensures ∙ c.if-not-fits.false
 
-returns : tie.Need-returns
+returns : tie.Need-returns-then-not-fits
 returns c =
-    let a = c.before.before.before in
-    sym (encode_bad a.args.t a.args.word [] a.args.out.now (sayable_fixed a.args.t a.args.word [] a.requires.0 a.requires.1 ∙ sym c.before.fits2.ensures ∙ not-true _ c.if1.true))
+    let a = c in
+    sym (encode_bad a.args.t a.args.word [] a.args.out.now (sayable_fixed a.args.t a.args.word [] a.requires.0 a.requires.1 ∙ sym c.fits.ensures ∙ c.if-not-fits.true))
 
-returns-2 : tie.Need-returns-2
+returns-2 : tie.Need-returns-then-out-n
 returns-2 c =
     let k = c.before in
-    let a = k.before.before.before.before in
+    let a = k in
     sym (encode_short a.args.t a.args.word [] a.args.out.now (fitting k.before) (omega (arith, size k)))
 
-put-number-requires : tie.Need-put-number-requires
+put-number-requires : tie.Need-put_number-requires
 put-number-requires c κs = search rules
 
-returns-3 : tie.Need-returns-3
+returns-3 : tie.Need-returns
 returns-3 c =
     let p = c.before.before in
     let k = p.before.before.before in
@@ -51,13 +51,13 @@ returns-3 c =
     let t = a.args.t in
     let w = a.args.word in
     let o = a.args.out.now in
-    let n = k.type_size.result in
-    let e : bytes_of n w ≡ encoding t w [] = ap (λ m. bytes_of m w) k.type_size.ensures ∙ sym (bytes a) in
-    ap₂ (λ m l. after_encode (Wrote m) l) (sym (size k)) (p.put-number.ensures ∙ ap (over o 0) e)
+    let n = k.size_of-n.result in
+    let e : bytes_of n w ≡ encoding t w [] = ap (λ m. bytes_of m w) k.size_of-n.ensures ∙ sym (bytes a) in
+    ap₂ (λ m l. after_encode (Wrote m) l) (sym (size k)) (p.put_number.ensures ∙ ap (over o 0) e)
     ∙ sym (encode_done t w [] o (fitting k.before) (omega (arith, size k)))
 
-pub encode-fixed-spec : {M : Type 1} → statement M
-encode-fixed-spec =
+pub encode_fixed_spec : {M : Type 1} → statement M
+encode_fixed_spec =
     tie.close
     (tie.spec
     (λ c κs. search rules)

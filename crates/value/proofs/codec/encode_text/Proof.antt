@@ -15,46 +15,46 @@ use Rattle.value.proofs.codec.encode_text.Tie as tie
 part-itself : (c : tie.Start) → encoding c.args.t c.args.word c.args.part.now ≡ c.args.part.now
 part-itself c = encoding_text c.args.t c.args.word c.args.part.now c.requires.1
 
-returns : tie.Need-returns
+returns : tie.Need-returns-then-word-part
 returns c =
-    let a = c.before.before.before in
+    let a = c in
     sym (encode_bad a.args.t a.args.word a.args.part.now a.args.out.now
-    (sayable_text a.args.t a.args.word a.args.part.now a.requires.0 a.requires.1 ∙ simp (ne_eqb _ _ c.if1.true)))
+    (sayable_text a.args.t a.args.word a.args.part.now a.requires.0 a.requires.1 ∙ simp (ne_eqb _ _ c.if-word-part.true)))
 
-returns-2 : tie.Need-returns-2
+returns-2 : tie.Need-returns-in_default
 returns-2 c =
-    let k = c.before.before in
-    let a = k.before.before.before.before in
+    let k = c in
+    let a = k in
     sym (encode_bad a.args.t a.args.word a.args.part.now a.args.out.now
     (sayable_text a.args.t a.args.word a.args.part.now a.requires.0 a.requires.1
-    ∙ simp (eq-eqb _ _ k.before.if1.false, sym k.decode-text.ensures ∙ c.enum-told2.given.1)))
+    ∙ simp (eq-eqb _ _ k.if-word-part.false, sym k.decode_text.ensures ∙ c.in_default.is)))
 
 -- the text is one of its type
-good : (c : tie.After-enum-told)
-    → sayable c.before.before.before.before.before.before.args.t c.before.before.before.before.before.before.args.word c.before.before.before.before.before.before.args.part.now
+good : (c : tie.In-Takes)
+    → sayable c.args.t c.args.word c.args.part.now
     ≡ true
 good c =
-    let k = c.before.before in
-    let a = k.before.before.before.before in
+    let k = c in
+    let a = k in
     sayable_text a.args.t a.args.word a.args.part.now a.requires.0 a.requires.1
-    ∙ simp (eq-eqb _ _ k.before.if1.false, sym k.decode-text.ensures ∙ c.enum_told.given.1)
+    ∙ simp (eq-eqb _ _ k.if-word-part.false, sym k.decode_text.ensures ∙ c.in-Takes.is)
 
-returns-3 : tie.Need-returns-3
+returns-3 : tie.Need-returns-then-out-part
 returns-3 c =
-    let a = c.before.before.before.before.before.before.before in
-    sym (encode_short a.args.t a.args.word a.args.part.now a.args.out.now (good c.before) (rw (part-itself a) c.if2.true))
+    let a = c.before.before.before.before.before.before in
+    sym (encode_short a.args.t a.args.word a.args.part.now a.args.out.now (good c.before) (rw (part-itself a) c.if-out-part.true))
 
-returns-4 : tie.Need-returns-4
+returns-4 : tie.Need-returns
 returns-4 c =
     let p = c.before.before in
     let k = p.before.before in
-    let a = k.before.before.before.before.before.before.before in
+    let a = k.before.before.before.before.before.before in
     let e = part-itself a in
     ap₂ (λ m l. after_encode (Wrote m) l) (sym (ap length e)) (p.lay.ensures ∙ ap (over a.args.out.now 0) (sym e))
-    ∙ sym (encode_done a.args.t a.args.word a.args.part.now a.args.out.now (good k.before) (rw e k.if2.false))
+    ∙ sym (encode_done a.args.t a.args.word a.args.part.now a.args.out.now (good k.before) (rw e k.if-out-part.false))
 
-pub encode-text-spec : {M : Type 1} → statement M
-encode-text-spec =
+pub encode_text_spec : {M : Type 1} → statement M
+encode_text_spec =
     tie.close
     (tie.spec
     returns

@@ -1,20 +1,15 @@
 -- `value::codec::fits` meets its contract: a word that has no bit over those of its type is below their power. Assumes nothing.
 use mathlib.Core.Path.{ap, ◌∙◌}
 use native.Mathlib.Omega.{arith}
-use borrow.Author.Rules.{rules}
 use Prim.Native.Nat.{◌*◌}
 use lib.Dec.{eqb}
 use lib.Bits.{bit_and}
 use Rattle.value.specs.Codec.{size_of}
 use Rattle.value.proofs.CodecLaws.{size_le, none_over}
-use Rattle.value.proofs.codec.fits.Statement.{statement}
-use Rattle.value.proofs.codec.fits.Tie as tie
+use Rattle.value.proofs.codec.fits.Goals as goal
 
-returns : tie.Need-returns
+pub returns : goal.returns
 returns c =
-    let a = c.before in
+    let a = c in
     ap (λ m. eqb (bit_and a.args.word m) 0) c.over.ensures
     ∙ none_over a.args.word (8 * size_of a.args.t) a.ranges.word.fits (omega (arith, size_le a.args.t))
-
-pub fits-spec : {M : Type 1} → statement M
-fits-spec = tie.close (tie.spec (λ c κs. search rules) returns)
