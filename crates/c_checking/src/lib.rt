@@ -29,8 +29,7 @@ fn element_of(a: Checked, lent: u64) -> u64
     }
 }
 
-#[unsafe(no_mangle)]
-pub extern "C" fn loomfinch_check(
+pub fn loomfinch_check(
     objects: &[u64],
     slots: &[u64],
     words: &[u64],
@@ -45,8 +44,7 @@ pub extern "C" fn loomfinch_check(
     channel::number(a)
 }
 
-#[unsafe(no_mangle)]
-pub extern "C" fn loomfinch_check_all(
+pub fn loomfinch_check_all(
     objects: &[u64],
     slots: &[u64],
     words: &[u64],
@@ -65,8 +63,7 @@ pub extern "C" fn loomfinch_check_all(
     }
 }
 
-#[unsafe(no_mangle)]
-pub extern "C" fn loomfinch_explain(
+pub fn loomfinch_explain(
     objects: &[u64],
     slots: &[u64],
     words: &[u64],

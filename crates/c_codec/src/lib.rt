@@ -23,8 +23,7 @@ fn give(v: ObjectValue, numbers: &mut [u64]) -> u64
     0
 }
 
-#[unsafe(no_mangle)]
-pub extern "C" fn loomfinch_decode(
+pub fn loomfinch_decode(
     type_number: u64,
     data: &[u8],
     numbers: &mut [u64],
@@ -43,8 +42,7 @@ pub extern "C" fn loomfinch_decode(
     }
 }
 
-#[unsafe(no_mangle)]
-pub extern "C" fn loomfinch_encode(
+pub fn loomfinch_encode(
     type_number: u64,
     word: u64,
     part: &[u8],
@@ -101,8 +99,7 @@ fn entry_numbers(word: u64) -> [u64; 9]
     ]
 }
 
-#[unsafe(no_mangle)]
-pub extern "C" fn loomfinch_from_u64(word: u64, numbers: &mut [u64]) -> u64
+pub fn loomfinch_from_u64(word: u64, numbers: &mut [u64]) -> u64
     ensures { lent result numbers.new ≡ results (entry_numbers word) numbers.old }
 {
     if numbers.len() < 9 {
@@ -113,13 +110,7 @@ pub extern "C" fn loomfinch_from_u64(word: u64, numbers: &mut [u64]) -> u64
     0
 }
 
-#[unsafe(no_mangle)]
-pub extern "C" fn loomfinch_to_u64(
-    index: u16,
-    sub_index: u8,
-    offset_bits: u16,
-    length_bits: u16,
-) -> u64
+pub fn loomfinch_to_u64(index: u16, sub_index: u8, offset_bits: u16, length_bits: u16) -> u64
     ensures { result ≡ word_of (record { index = index; sub_index = sub_index; offset_bits = offset_bits; length_bits = length_bits }) }
 {
     let e = PdoMappingEntry {

@@ -16,8 +16,7 @@ use names::ByName;
 use nodes::Listed;
 use od::{Number, Stored};
 
-#[unsafe(no_mangle)]
-pub extern "C" fn loomfinch_new(objects: &mut [u64], edition: u64) -> u64
+pub fn loomfinch_new(objects: &mut [u64], edition: u64) -> u64
     ensures answer { result ≡ answer_number (new_of edition objects.old).answer }
     ensures memory { objects.new ≡ (new_of edition objects.old).objects }
 {
@@ -57,8 +56,7 @@ fn head_of(
     }
 }
 
-#[unsafe(no_mangle)]
-pub extern "C" fn loomfinch_insert(
+pub fn loomfinch_insert(
     objects: &mut [u64],
     slots: &mut [u64],
     words: &mut [u64],
@@ -91,8 +89,7 @@ pub extern "C" fn loomfinch_insert(
     inserted(insertion::insert(objects, slots, words, bytes, head, name, vals, encodings))
 }
 
-#[unsafe(no_mangle)]
-pub extern "C" fn loomfinch_replace(
+pub fn loomfinch_replace(
     objects: &mut [u64],
     slots: &mut [u64],
     words: &mut [u64],
@@ -125,8 +122,7 @@ pub extern "C" fn loomfinch_replace(
     inserted(insertion::replace(objects, slots, words, bytes, head, name, vals, encodings))
 }
 
-#[unsafe(no_mangle)]
-pub extern "C" fn loomfinch_read(
+pub fn loomfinch_read(
     objects: &[u64],
     slots: &[u64],
     words: &[u64],
@@ -176,8 +172,7 @@ fn typed(
     }
 }
 
-#[unsafe(no_mangle)]
-pub extern "C" fn loomfinch_read_u8(
+pub fn loomfinch_read_u8(
     objects: &[u64],
     slots: &[u64],
     words: &[u64],
@@ -191,8 +186,7 @@ pub extern "C" fn loomfinch_read_u8(
     typed(objects, slots, words, bytes, index, sub_index, 5, number)
 }
 
-#[unsafe(no_mangle)]
-pub extern "C" fn loomfinch_read_u16(
+pub fn loomfinch_read_u16(
     objects: &[u64],
     slots: &[u64],
     words: &[u64],
@@ -206,8 +200,7 @@ pub extern "C" fn loomfinch_read_u16(
     typed(objects, slots, words, bytes, index, sub_index, 6, number)
 }
 
-#[unsafe(no_mangle)]
-pub extern "C" fn loomfinch_read_u32(
+pub fn loomfinch_read_u32(
     objects: &[u64],
     slots: &[u64],
     words: &[u64],
@@ -221,8 +214,7 @@ pub extern "C" fn loomfinch_read_u32(
     typed(objects, slots, words, bytes, index, sub_index, 7, number)
 }
 
-#[unsafe(no_mangle)]
-pub extern "C" fn loomfinch_read_u64(
+pub fn loomfinch_read_u64(
     objects: &[u64],
     slots: &[u64],
     words: &[u64],
@@ -236,8 +228,7 @@ pub extern "C" fn loomfinch_read_u64(
     typed(objects, slots, words, bytes, index, sub_index, 8, number)
 }
 
-#[unsafe(no_mangle)]
-pub extern "C" fn loomfinch_find_by_name(
+pub fn loomfinch_find_by_name(
     objects: &[u64],
     slots: &[u64],
     words: &[u64],
@@ -256,8 +247,7 @@ pub extern "C" fn loomfinch_find_by_name(
     }
 }
 
-#[unsafe(no_mangle)]
-pub extern "C" fn loomfinch_get_configured_cns(
+pub fn loomfinch_get_configured_cns(
     objects: &[u64],
     slots: &[u64],
     words: &[u64],
@@ -276,8 +266,7 @@ pub extern "C" fn loomfinch_get_configured_cns(
     }
 }
 
-#[unsafe(no_mangle)]
-pub extern "C" fn loomfinch_increment_counter(
+pub fn loomfinch_increment_counter(
     objects: &[u64],
     slots: &[u64],
     words: &mut [u64],

@@ -26,8 +26,7 @@ fn consumed(a: Consumed, count: &mut u64) -> u64
     }
 }
 
-#[unsafe(no_mangle)]
-pub extern "C" fn loomfinch_consume_pdo_payload(
+pub fn loomfinch_consume_pdo_payload(
     objects: &[u64],
     slots: &[u64],
     words: &mut [u64],
@@ -73,8 +72,7 @@ fn cycled(a: Cycle, consumed: &mut u64, count: &mut u64) -> u64
     }
 }
 
-#[unsafe(no_mangle)]
-pub extern "C" fn loomfinch_consume_cycle(
+pub fn loomfinch_consume_cycle(
     objects: &[u64],
     slots: &[u64],
     words: &mut [u64],
@@ -91,8 +89,7 @@ pub extern "C" fn loomfinch_consume_cycle(
     cycled(a, consumed, count)
 }
 
-#[unsafe(no_mangle)]
-pub extern "C" fn loomfinch_update_pdo_error_object(
+pub fn loomfinch_update_pdo_error_object(
     objects: &[u64],
     slots: &[u64],
     words: &[u64],

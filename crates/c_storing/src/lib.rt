@@ -29,8 +29,7 @@ fn wrote(a: Wrote, place: &mut u64, had: &mut u64) -> u64
     }
 }
 
-#[unsafe(no_mangle)]
-pub extern "C" fn loomfinch_write(
+pub fn loomfinch_write(
     objects: &mut [u64],
     slots: &[u64],
     words: &mut [u64],
@@ -65,8 +64,7 @@ pub extern "C" fn loomfinch_write(
     wrote(a, place, had)
 }
 
-#[unsafe(no_mangle)]
-pub extern "C" fn loomfinch_validate_pdo_mapping(
+pub fn loomfinch_validate_pdo_mapping(
     objects: &[u64],
     slots: &[u64],
     words: &[u64],
@@ -88,8 +86,7 @@ fn restored(a: Restored) -> u64
     }
 }
 
-#[unsafe(no_mangle)]
-pub extern "C" fn loomfinch_restore_power_on_values(
+pub fn loomfinch_restore_power_on_values(
     objects: &[u64],
     slots: &mut [u64],
     words: &mut [u64],
