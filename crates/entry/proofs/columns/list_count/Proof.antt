@@ -7,29 +7,29 @@ use borrow.Author.Rules.{rules}
 use Rattle.entry.proofs.columns.list_count.Statement.{statement}
 use Rattle.entry.proofs.columns.list_count.Tie as tie
 
-abbrev start : tie.After-is-mapping → tie.Start
+abbrev start : tie.After-is_mapping → tie.Start
 start c = c.before.before.before.before
 
-tested : (c : tie.After-is-mapping) → let a = (start c).args in
-    (eqb (edition_of a.objects.now) 2 && is_mapping (index_at a.objects.now a.i)) ≡ (eqb c.before.before.edition-of.result 2 && c.is-mapping.result)
-tested c = sym (ap₂ (λ e b. eqb e 2 && b) c.before.before.edition-of.ensures (c.is-mapping.ensures ∙ ap is_mapping c.before.index_at.ensures))
+tested : (c : tie.After-is_mapping) → let a = (start c).args in
+    (eqb (edition_of a.objects.now) 2 && is_mapping (index_at a.objects.now a.i)) ≡ (eqb c.edition_of.result 2 && c.is_mapping.result)
+tested c = sym (ap₂ (λ e b. eqb e 2 && b) c.edition_of.ensures (c.is_mapping.ensures ∙ ap is_mapping c.index_at.ensures))
 
-returns : tie.Need-returns
+returns : tie.Need-returns-then-edition_of-is_mapping
 unfolding list_count
 returns c =
     let m = c.before.before in
     let a = (start m).args in
-    sym (ap (λ b. cond b (kept_at a.objects.now a.i) (count_at a.objects.now a.i)) (tested m ∙ c.before.if1.true))
+    sym (ap (λ b. cond b (kept_at a.objects.now a.i) (count_at a.objects.now a.i)) (tested m ∙ c.if-edition_of-is_mapping.true))
 
-returns-2 : tie.Need-returns-2
+returns-2 : tie.Need-returns
 unfolding list_count
 returns-2 c =
     let m = c.before.before in
     let a = (start m).args in
-    c.count_at.ensures ∙ sym (ap (λ b. cond b (kept_at a.objects.now a.i) (count_at a.objects.now a.i)) (tested m ∙ c.before.if1.false))
+    c.count_at.ensures ∙ sym (ap (λ b. cond b (kept_at a.objects.now a.i) (count_at a.objects.now a.i)) (tested m ∙ c.if-edition_of-is_mapping.false))
 
-pub list-count-spec : {M : Type 1} → statement M
-list-count-spec =
+pub list_count_spec : {M : Type 1} → statement M
+list_count_spec =
     tie.close
     (tie.spec
     (λ c κs. search rules)

@@ -15,36 +15,36 @@ use borrow.Author.Rules.{rules}
 use Rattle.entry.proofs.encoding.lay_encoding.Statement.{statement}
 use Rattle.entry.proofs.encoding.lay_encoding.Tie as tie
 
-abbrev begin : tie.After-type-at → tie.Start
+abbrev begin : tie.After-type_at-t → tie.Start
 begin c = c.before.before.before.before.before
 
-texted : (c : tie.Then1) → let a = (begin c.before.before.before).args in is_text (type_at a.slots.now a.p) ≡ true
-texted c = rw c.before.before.before.type_at.ensures at (sym c.before.is-text.ensures ∙ c.if1.true)
+texted : (c : tie.Then-is_text) → let a = (begin c.before.before.before).args in is_text (type_at a.slots.now a.p) ≡ true
+texted c = rw c.type_at-t.ensures at (sym c.is_text.ensures ∙ c.if-is_text.true)
 
-untexted : (c : tie.Else1) → let a = (begin c.before.before.before).args in is_text (type_at a.slots.now a.p) ≡ false
-untexted c = rw c.before.before.before.type_at.ensures at (sym c.before.is-text.ensures ∙ c.if1.false)
+untexted : (c : tie.Else-is_text) → let a = (begin c.before.before.before).args in is_text (type_at a.slots.now a.p) ≡ false
+untexted c = rw c.type_at-t.ensures at (sym c.is_text.ensures ∙ c.if-is_text.false)
 
 -- the string lies within the bytes
-inside : (c : tie.After-start-at) → let a = (begin c.before.before.before.before).args in c.start-at.result + get_or a.words.now a.p 0 ≤ length a.bytes.now
-inside c = omega (arith, c.start-at.ensures, (begin c.before.before.before.before).requires.text (texted c.before))
+inside : (c : tie.After-start_at-start) → let a = (begin c.before.before.before.before).args in c.start_at-start.result + get_or a.words.now a.p 0 ≤ length a.bytes.now
+inside c = omega (arith, c.start_at-start.ensures, (begin c.before.before.before.before).requires.text (texted c.before))
 
-string : (c : tie.After-start-at) → let a = (begin c.before.before.before.before).args in
+string : (c : tie.After-start_at-start) → let a = (begin c.before.before.before.before).args in
     let w = get_or a.words.now a.p 0 in
-    take ((c.start-at.result + w) - c.start-at.result) (drop c.start-at.result a.bytes.now) ≡ encoding_in a.slots.now a.words.now a.bytes.now a.p
+    take ((c.start_at-start.result + w) - c.start_at-start.result) (drop c.start_at-start.result a.bytes.now) ≡ encoding_in a.slots.now a.words.now a.bytes.now a.p
 string c =
     let a = (begin c.before.before.before.before).args in
     let w = get_or a.words.now a.p 0 in
-    laid_text a.slots.now a.words.now a.bytes.now a.p c.start-at.result ((c.start-at.result + w) - c.start-at.result) (texted c.before) c.start-at.ensures (omega arith)
+    laid_text a.slots.now a.words.now a.bytes.now a.p c.start_at-start.result ((c.start_at-start.result + w) - c.start_at-start.result) (texted c.before) c.start_at-start.ensures (omega arith)
 
-number : (c : tie.After-size-of) → let a = (begin c.before.before.before.before).args in bytes_of c.type_size.result (get_or a.words.now a.p 0) ≡ encoding_in a.slots.now a.words.now a.bytes.now a.p
+number : (c : tie.After-size_of-n) → let a = (begin c.before.before.before.before).args in bytes_of c.size_of-n.result (get_or a.words.now a.p 0) ≡ encoding_in a.slots.now a.words.now a.bytes.now a.p
 number c =
     let a = (begin c.before.before.before.before).args in
-    laid_fixed a.slots.now a.words.now a.bytes.now a.p c.type_size.result (untexted c.before) (c.type_size.ensures ∙ ap size_of c.before.before.before.before.type_at.ensures)
+    laid_fixed a.slots.now a.words.now a.bytes.now a.p c.size_of-n.result (untexted c.before) (c.size_of-n.ensures ∙ ap size_of c.type_at-t.ensures)
 
-add-end : tie.Need-overflow-add-end
+add-end : tie.Need-overflow_add-end
 add-end c = omega (arith, inside c)
 
-part-lay-end : tie.Need-slice-bounds-lay-end
+part-lay-end : tie.Need-slice_bounds-lay-end
 part-lay-end c = omega (arith, inside c.before)
 
 lay-requires : tie.Need-lay-requires
@@ -52,28 +52,28 @@ lay-requires c κs =
     let s = c.before.before in
     omega (arith, ap length (string s), (begin s.before.before.before.before).requires.room)
 
-put-number-requires : tie.Need-put-number-requires
+put-number-requires : tie.Need-put_number-requires
 put-number-requires c κs =
     let n = c.before in
     let b = begin n.before.before.before.before in
-    omega (arith, ap length (number n), length-bytes_of n.type_size.result (get_or b.args.words.now b.args.p 0), b.pre.room)
+    omega (arith, ap length (number n), length-bytes_of n.size_of-n.result (get_or b.args.words.now b.args.p 0), b.requires.room)
 
-returns : tie.Need-returns
+returns : tie.Need-returns-then-is_text
 returns c =
     let l = c.before.before in
     let s = l.before.before.before in
     let a = (begin s.before.before.before.before).args in
     l.lay.ensures ∙ ap (over a.out.now a.at) (string s)
 
-returns-2 : tie.Need-returns-2
+returns-2 : tie.Need-returns-else-is_text
 returns-2 c =
     let l = c.before.before in
     let n = l.before.before in
     let a = (begin n.before.before.before.before).args in
-    l.put-number.ensures ∙ ap (over a.out.now a.at) (number n)
+    l.put_number.ensures ∙ ap (over a.out.now a.at) (number n)
 
-pub lay-encoding-spec : {M : Type 1} → statement M
-lay-encoding-spec =
+pub lay_encoding_spec : {M : Type 1} → statement M
+lay_encoding_spec =
     tie.close
     (tie.spec
     (λ c κs. search rules)

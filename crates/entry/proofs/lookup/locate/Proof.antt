@@ -8,27 +8,33 @@ use borrow.Author.Rules.{rules}
 use Rattle.entry.proofs.lookup.locate.Statement.{statement}
 use Rattle.entry.proofs.lookup.locate.Tie as tie
 
-returns : tie.Need-returns
+returns : tie.Need-returns-in_default
 returns c =
-    let f = c.before.before in
-    let a = f.before.before.args in
-    ap (on_row a.objects.now a.sub) (sym c.enum_told.given.1 ∙ f.find.ensures)
+    let f = c in
+    let a = f.args in
+    ap (on_row a.objects.now a.sub) (sym c.in_default.is ∙ f.find.ensures)
 
-sub-at-requires : tie.Need-sub-at-requires
+sub-at-requires : tie.Need-sub_at-requires
 sub-at-requires c κs =
-    let i = c.before in
-    let f = i.before.before in
-    let a = f.before.before in
+    let i = c in
+    let f = i in
+    let a = f in
     let s = a.args.objects.now in
-    (a.requires, omega (arith, (found_row s a.args.index (number_of s) 0 _ (sym f.find.ensures ∙ i.i.given.1)).below))
+    (a.requires, omega (arith, (found_row s a.args.index (number_of s) 0 _ (sym f.find.ensures ∙ i.in-At.is)).below))
 
-returns-2 : tie.Need-returns-2
+returns-2 : tie.Need-returns
 returns-2 c =
-    let i = c.before.before in
-    let f = i.before.before in
-    let a = f.before.before.args in
-    c.sub_at.ensures ∙ ap (on_row a.objects.now a.sub) (sym i.i.given.1 ∙ f.find.ensures)
+    let i = c in
+    let f = i in
+    let a = f.args in
+    c.sub_at.ensures ∙ ap (on_row a.objects.now a.sub) (sym i.in-At.is ∙ f.find.ensures)
 
-pub locate-spec : {M : Type 1} → statement M
-locate-spec =
-    tie.close (tie.spec (λ c κs. search rules) (λ c. search rules) (λ c. search rules) returns sub-at-requires returns-2)
+pub locate_spec : {M : Type 1} → statement M
+locate_spec =
+    tie.close (tie.spec
+    (λ c κs. search rules)
+    (λ c. search rules)
+    (λ c. search rules)
+    returns
+    sub-at-requires
+    returns-2)
