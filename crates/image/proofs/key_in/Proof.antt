@@ -9,24 +9,30 @@ use borrow.Author.Rules.{rules}
 use Rattle.image.proofs.key_in.Statement.{statement}
 use Rattle.image.proofs.key_in.Tie as tie
 
-small : (c : tie.After-number2) → (c.before.number.result < 65536) × (c.number2.result < 256)
+small : (c : tie.After-number-sub) → (c.number-index.result < 65536) × (c.number-sub.result < 256)
 small c =
-    let k = c.before.before in
-    let s = k.before in
-    let b : Bytes s.args.s.now = λ i. omega (arith, k.shared-slice-known.given i) in (
-      omega (arith, c.before.number.ensures, part_lt s.args.s.now s.args.a 2 (omega arith) b),
-      omega (arith, c.number2.ensures, part_lt s.args.s.now (s.args.a + 2) 1 (omega arith) b),
+    let k = c in
+    let s = k in
+    let b : Bytes s.args.s.now = λ i. omega (arith, k.shared_slice_known-1.given i) in (
+      omega (arith, c.number-index.ensures, part_lt s.args.s.now s.args.a 2 (omega arith) b),
+      omega (arith, c.number-sub.ensures, part_lt s.args.s.now (s.args.a + 2) 1 (omega arith) b),
     )
 
-mul-result : tie.Need-overflow-mul-result
+mul-result : tie.Need-overflow_mul-result
 mul-result c = omega (arith, (small c).0)
 
-add-result : tie.Need-overflow-add-result
+add-result : tie.Need-overflow_add-result
 add-result c = omega (arith, (small c).0, (small c).1)
 
 returns : tie.Need-returns
-returns c = ap₂ key_of c.before.number.ensures c.number2.ensures
+returns c = ap₂ key_of c.number-index.ensures c.number-sub.ensures
 
-pub key-in-spec : {M : Type 1} → statement M
-key-in-spec =
-    tie.close (tie.spec (λ c κs. search rules) (λ c. search rules) (λ c κs. search rules) mul-result add-result returns)
+pub key_in_spec : {M : Type 1} → statement M
+key_in_spec =
+    tie.close (tie.spec
+    (λ c κs. search rules)
+    (λ c. search rules)
+    (λ c κs. search rules)
+    mul-result
+    add-result
+    returns)
