@@ -10,26 +10,26 @@ use Rattle.pdo_channel.proofs.matches_at.Tie as tie
 abbrev D : tie.Start → Dict
 D s = dict s.args.objects.now s.args.slots.now s.args.words.now s.args.bytes.now
 
-returns : tie.Need-returns
+returns : tie.Need-returns-in_default
 returns c =
-    let s = c.before.before.before.before.before.before in
+    let s = c.before.before.before.before.before in
     let a = s.args in
-    sym (ap (λ f. matches_in a.sender (u8_in (D s) (on_row a.objects.now 1 f))) (sym s.requires.1 ∙ c.enum_told.given.1))
+    sym (ap (λ f. matches_in a.sender (u8_in (D s) (on_row a.objects.now 1 f))) (sym s.requires.1 ∙ c.in_default.is))
 
-u8-in-requires : tie.Need-u8-in-requires
+u8-in-requires : tie.Need-u8_in-requires
 u8-in-requires c κs =
-    let r = c.before in
-    let s = r.before.before.before.before.before.before in
-    (s.requires.0, sym s.requires.1 ∙ r.row.given.1)
+    let r = c in
+    let s = r in
+    (s.requires.0, sym s.requires.1 ∙ r.in-At.is)
 
-returns-2 : tie.Need-returns-2
-returns-2 c = let u = c.before.before in ap (matches_in _) (sym c.enum-told2.given.1 ∙ u.u8-in.ensures)
+returns-2 : tie.Need-returns-in_default-u8_in
+returns-2 c = let u = c in ap (matches_in _) (sym c.in_default-u8_in.is ∙ u.u8_in.ensures)
 
-returns-3 : tie.Need-returns-3
-returns-3 c = let v = c.before.before in let u = v.before.before in c.is-sender.ensures ∙ ap (matches_in _) (sym v.v.given.1 ∙ u.u8-in.ensures)
+returns-3 : tie.Need-returns
+returns-3 c = let v = c in let u = v in c.is_sender.ensures ∙ ap (matches_in _) (sym v.in-At-u8_in.is ∙ u.u8_in.ensures)
 
-pub matches-at-spec : {M : Type 1} → statement M
-matches-at-spec =
+pub matches_at_spec : {M : Type 1} → statement M
+matches_at_spec =
     tie.close
     (tie.spec
     (λ c. search rules)

@@ -14,28 +14,28 @@ D s = dict s.args.objects.now s.args.slots.now s.args.words.now s.args.bytes.now
 find-requires : tie.Need-find-requires
 find-requires c κs = let s = c.before.before.before.before in rows_of (D s) s.requires.0
 
-returns : tie.Need-returns
+returns : tie.Need-returns-in_default
 returns c =
-    let f = c.before.before in
+    let f = c.before in
     let s = f.before.before.before.before.before in
     let a = s.args in
-    sym (ap (λ g. or_zero (u8_in (D s) (on_row a.objects.now 2 g))) (sym f.find.ensures ∙ c.enum_told.given.1))
+    sym (ap (λ g. or_zero (u8_in (D s) (on_row a.objects.now 2 g))) (sym f.find.ensures ∙ c.in_default.is))
 
-u8-in-requires : tie.Need-u8-in-requires
+u8-in-requires : tie.Need-u8_in-requires
 u8-in-requires c κs =
-    let r = c.before in
-    let f = r.before.before in
-    let s = f.before.before.before.before.before in
-    (s.requires.0, sym f.find.ensures ∙ r.row.given.1)
+    let r = c in
+    let f = r in
+    let s = f in
+    (s.requires.0, sym f.find.ensures ∙ r.in-At.is)
 
-returns-2 : tie.Need-returns-2
-returns-2 c = let u = c.before.before in ap or_zero (sym c.enum-told2.given.1 ∙ u.u8-in.ensures)
+returns-2 : tie.Need-returns-in_default-u8_in
+returns-2 c = let u = c in ap or_zero (sym c.in_default-u8_in.is ∙ u.u8_in.ensures)
 
-returns-3 : tie.Need-returns-3
-returns-3 c = let v = c.before in let u = v.before.before in ap or_zero (sym v.v.given.1 ∙ u.u8-in.ensures)
+returns-3 : tie.Need-returns
+returns-3 c = let v = c in let u = v in ap or_zero (sym v.in-At-u8_in.is ∙ u.u8_in.ensures)
 
-pub version-of-spec : {M : Type 1} → statement M
-version-of-spec =
+pub version_of_spec : {M : Type 1} → statement M
+version_of_spec =
     tie.close
     (tie.spec
     (λ c. search rules)
