@@ -1,6 +1,6 @@
 -- A kept count that is set: the rows name the same objects, and the dictionary stays well_formed_lem.
 -- Assumes nothing.
-use mathlib.Core.Path.{◌≡◌, refl, ap, ◌∙◌}
+use mathlib.Core.Path.{◌≡◌, ◌∙◌}
 use mathlib.Core.Bool.{true}
 use mathlib.Core.List.{List}
 use mathlib.Core.Logic.{◌≢◌}
@@ -11,7 +11,7 @@ use borrow.Author.Tests.{le-leb}
 use lib.Dec.{leb}
 use lib.ListN.{length, get_or, length-set}
 use lib.Seq.{get_or-set_same, get_or-set_other}
-use Rattle.entry.specs.Table.{Dict, dict, edition_of, number_of, count_at, kept_at, extra_at, list_count}
+use Rattle.entry.specs.Table.{Dict, dict, edition_of, number_of, count_at, kept_at, extra_at}
 use Rattle.entry.specs.Rules.{extra_ok}
 use Rattle.entry.specs.Judge.{reserved, well_formed}
 use Rattle.entry.specs.Same.{SameRows}

@@ -11,17 +11,17 @@ use Rattle.rows.proofs.insert_row.Tie as tie
 
 grow-requires-2 : tie.Need-grow-requires-2
 grow-requires-2 c κs =
-    (search rules, λ j h. rw c.before.before.before.grow.ensures (c.before.before.before.before.before.before.requires.1.1 j h))
+    (search rules, λ j h. rw c.grow.ensures (c.requires.1.1 j h))
 
 returns : tie.Need-returns
 returns c =
-    let a = c.before.before.before.before.before.before.before.before.before.before.before.before.before.before.before.before.before.before.args in
+    let a = c.args in
     let s = grown 12 a.g (a.n - a.i) (12 * a.i + 17) (grown 12 a.u (a.n - a.i) (12 * a.i + 16) a.objects.now) in
     let l : length s ≡ length a.objects.now = length-grown 12 a.g (a.n - a.i) (12 * a.i + 17) (grown 12 a.u (a.n - a.i) (12 * a.i + 16) a.objects.now) ∙ length-grown 12 a.u (a.n - a.i) (12 * a.i + 16) a.objects.now in
-    c.before.before.lay-words.ensures ∙ rw (c.before.before.before.before.before.before.before.move_up.ensures, c.before.before.before.before.before.before.before.before.before.before.before.grow2.ensures, c.before.before.before.before.before.before.before.before.before.before.before.before.before.before.before.grow.ensures) (fill_gap s (12 * a.i + 12) (12 * a.n + 12) 12 a.row.now (search rules) (omega (arith, c.before.before.before.before.before.before.before.before.before.before.before.before.before.before.before.before.before.before.requires.0)) (omega (arith, c.before.before.before.before.before.before.before.before.before.before.before.before.before.before.before.before.before.before.requires.0, l)))
+    c.lay_words.ensures ∙ rw (c.move_up.ensures, c.grow-2.ensures, c.grow.ensures) (fill_gap s (12 * a.i + 12) (12 * a.n + 12) 12 a.row.now (search rules) (omega (arith, c.requires.0)) (omega (arith, c.requires.0, l)))
 
-pub insert-row-spec : {M : Type 1} → statement M
-insert-row-spec =
+pub insert_row_spec : {M : Type 1} → statement M
+insert_row_spec =
     tie.close
     (tie.spec
     (λ c. search rules)
