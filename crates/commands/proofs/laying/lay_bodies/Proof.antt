@@ -16,7 +16,7 @@ use borrow.Author.Rules.{rules}
 use Rattle.commands.proofs.laying.lay_bodies.Statement.{statement}
 use Rattle.commands.proofs.laying.lay_bodies.Tie as tie
 
-abbrev invariant-loop : tie.invariant-loop
+abbrev invariant-loop : tie.invariant-loop-i
 invariant-loop objects slots words bytes first last store₀ at end p₀ i₀ store p i =
     let d = dict objects slots words bytes in
     (i₀ ≤ i)
@@ -25,80 +25,80 @@ invariant-loop objects slots words bytes first last store₀ at end p₀ i₀ st
     × (p + room d first last i ≡ at + length (bodies (offered_in d first last)))
     × (over store₀ at (bodies (offered_in d first last)) ≡ over store p (bodies (rest d first last i)))
 
-abbrev decreases-loop : tie.decreases-loop
+abbrev decreases-loop : tie.decreases-loop-i
 decreases-loop objects slots words bytes first last store₀ at end p₀ i₀ store p i = end - i
 
 abbrev D : tie.Start invariant-loop decreases-loop → Dict
 D s = dict s.args.objects.now s.args.slots.now s.args.words.now s.args.bytes.now
 
-abbrev begin : tie.After-rows-in invariant-loop decreases-loop → tie.Start invariant-loop decreases-loop
+abbrev begin : tie.After-rows_in-rows invariant-loop decreases-loop → tie.Start invariant-loop decreases-loop
 begin c = c.before.before.before.before.before.before
 
-below : (c : tie.In-loop invariant-loop decreases-loop) → c.before.loop.i < number_of (begin c.before.before).args.objects.now
-below c = omega (arith, c.loop-test.true, c.before.before.rows_in.ensures.high.within)
+below : (c : tie.In-loop-i invariant-loop decreases-loop) → c.loop-i.i < number_of (begin c.before.before).args.objects.now
+below c = omega (arith, c.loop-i-test.true, c.rows_in-rows.ensures.high.within)
 
-offer : (c : tie.After-to-store invariant-loop decreases-loop) → let l = c.before.before in let s = begin l.before in
-    c.to-store.result ≡ offers s.args.objects.now s.args.first s.args.last l.loop.i
+offer : (c : tie.After-to_store-n invariant-loop decreases-loop) → let l = c.before.before in let s = begin l.before in
+    c.to_store-n.result ≡ offers s.args.objects.now s.args.first s.args.last l.loop-i.i
 offer c =
     let l = c.before.before in
     let s = begin l.before in
-    offers-row (D s) s.args.first s.args.last l.before.rows_in.ensures l.loop.i c.to-store.result l.loop.invariant.0 c.before.loop-test.true c.to-store.ensures
+    offers-row (D s) s.args.first s.args.last l.rows_in-rows.ensures l.loop-i.i c.to_store-n.result l.loop-i.invariant.0 c.loop-i-test.true c.to_store-n.ensures
 
-row : (c : tie.After-to-store invariant-loop decreases-loop) → let l = c.before.before in Row (D (begin l.before)).objects l.loop.i c.to-store.result
+row : (c : tie.After-to_store-n invariant-loop decreases-loop) → let l = c.before.before in Row (D (begin l.before)).objects l.loop-i.i c.to_store-n.result
 row c =
     let l = c.before.before in
     let s = begin l.before in
-    row_there (D s) s.args.first s.args.last l.loop.i (below c.before) c.to-store.result (offer c)
+    row_there (D s) s.args.first s.args.last l.loop-i.i (below c.before) c.to_store-n.result (offer c)
 
 -- what the row lays, and what is left
-turn : (c : tie.After-to-store invariant-loop decreases-loop) → let l = c.before.before in let s = begin l.before in let a = s.args in let i = l.loop.i in
-    room (D s) a.first a.last i ≡ length (bodies (recs_in (D s) i c.to-store.result 0)) + room (D s) a.first a.last (i + 1)
+turn : (c : tie.After-to_store-n invariant-loop decreases-loop) → let l = c.before.before in let s = begin l.before in let a = s.args in let i = l.loop-i.i in
+    room (D s) a.first a.last i ≡ length (bodies (recs_in (D s) i c.to_store-n.result 0)) + room (D s) a.first a.last (i + 1)
 turn c =
     let l = c.before.before in
     let s = begin l.before in
-    omega (arith, bytes_step (D s) s.args.first s.args.last l.loop.i (below c.before), ap (λ k. length (bodies (recs_in (D s) l.loop.i k 0))) (offer c))
+    omega (arith, bytes_step (D s) s.args.first s.args.last l.loop-i.i (below c.before), ap (λ k. length (bodies (recs_in (D s) l.loop-i.i k 0))) (offer c))
 
-rows-in-requires : tie.Need-rows-in-requires invariant-loop decreases-loop
+rows-in-requires : tie.Need-rows_in-rows-requires invariant-loop decreases-loop
 rows-in-requires c κs = let s = c.before.before.before.before.before in rows_of (D s) s.requires.0
 
-loop-holds : tie.Need-loop-init invariant-loop decreases-loop
+loop-holds : tie.Need-loop-i-init invariant-loop decreases-loop
 loop-holds c =
     let s = begin c in
-    let e = offered_from_lem (D s) s.args.first s.args.last c.rows_in.ensures in
-    (omega arith, c.rows_in.ensures.low.within, refl, omega (arith, ap (λ rs. length (bodies rs)) e), ap (λ rs. over s.args.store.now s.args.at (bodies rs)) e)
+    let e = offered_from_lem (D s) s.args.first s.args.last c.rows_in-rows.ensures in
+    (omega arith, c.rows_in-rows.ensures.low.within, refl, omega (arith, ap (λ rs. length (bodies rs)) e), ap (λ rs. over s.args.store.now s.args.at (bodies rs)) e)
 
-to-store-requires : tie.Need-to-store-requires invariant-loop decreases-loop
-to-store-requires c κs = let s = begin c.before.before in let l = row_lies (D s) s.pre.0 c.before.loop.i (below c) in (l.small, l.inside)
+to-store-requires : tie.Need-to_store-n-requires invariant-loop decreases-loop
+to-store-requires c κs = let s = begin c.before.before in let l = row_lies (D s) s.requires.0 c.loop-i.i (below c) in (l.small, l.inside)
 
-row-bodies-requires : tie.Need-row-bodies-requires invariant-loop decreases-loop
+row-bodies-requires : tie.Need-row_bodies-p-requires invariant-loop decreases-loop
 row-bodies-requires c κs =
     let o = c.before in
     let l = o.before.before in
     let s = begin l.before in
-    (s.pre.0, (row o, omega (arith, turn o, l.loop.invariant.2, l.loop.invariant.3, s.pre.1)))
+    (s.requires.0, (row o, omega (arith, turn o, l.loop-i.invariant.2, l.loop-i.invariant.3, s.requires.1)))
 
-loop-again : tie.Need-loop-preserved invariant-loop decreases-loop
+loop-again : tie.Need-loop-i-preserved invariant-loop decreases-loop
 loop-again c =
     let r = c.before.before in
     let o = r.before.before in
     let l = o.before.before in
     let s = begin l.before in (
-      omega (arith, l.loop.invariant.0),
+      omega (arith, l.loop-i.invariant.0),
       omega (arith, below o.before),
       omega arith,
-      omega (arith, turn o, r.row-bodies.ensures.0, l.loop.invariant.3),
-      l.loop.invariant.4 ∙ bodies_rows (D s) s.args.first s.args.last l.loop.i (below o.before) o.to-store.result (offer o) l.loop.store _ l.loop.p _ (omega (arith, l.loop.invariant.2, l.loop.invariant.3, s.pre.1)) r.row-bodies.ensures.0 r.row-bodies.ensures.1,
+      omega (arith, turn o, r.row_bodies-p.ensures.0, l.loop-i.invariant.3),
+      l.loop-i.invariant.4 ∙ bodies_rows (D s) s.args.first s.args.last l.loop-i.i (below o.before) o.to_store-n.result (offer o) l.loop-i.store _ l.loop-i.p _ (omega (arith, l.loop-i.invariant.2, l.loop-i.invariant.3, s.requires.1)) r.row_bodies-p.ensures.0 r.row_bodies-p.ensures.1,
     )
 
 returns : tie.Need-returns invariant-loop decreases-loop
 returns c =
-    let l = c.before.loop in
+    let l = c.loop-i in
     let f = c.before.before in
     let s = begin f in
-    sym (l.invariant.4 ∙ bodies_none l.store l.p _ (offered_end (D s) s.args.first s.args.last f.rows_in.ensures l.i c.loop-test.false l.invariant.1))
+    sym (l.invariant.4 ∙ bodies_none l.store l.p _ (offered_end (D s) s.args.first s.args.last f.rows_in-rows.ensures l.i c.loop-i-test.false l.invariant.1))
 
-pub lay-bodies-spec : {M : Type 1} → statement M
-lay-bodies-spec =
+pub lay_bodies_spec : {M : Type 1} → statement M
+lay_bodies_spec =
     tie.close
     (tie.spec
     invariant-loop

@@ -16,42 +16,42 @@ use Rattle.commands.proofs.laying.value_head.Tie as tie
 abbrev D : tie.Start → Dict
 D s = dict s.args.objects.now s.args.slots.now s.args.words.now s.args.bytes.now
 
-abbrev start : tie.After-first-at → tie.Start
+abbrev start : tie.After-first_at → tie.Start
 start c = c.before.before.before.before.before.before
 
 lies : (s : tie.Start) → RowLies (D s) s.args.i
 lies s = row_lies (D s) s.requires.0 s.args.i s.requires.1.0.below
 
-there : (c : tie.After-first-at) → let s = start c in let p = c.first-at.result + s.args.k in (p < 6144) × (3 * p + 3 ≤ length s.args.slots.now) × (p < length s.args.words.now)
+there : (c : tie.After-first_at) → let s = start c in let p = c.first_at.result + s.args.k in (p < 6144) × (3 * p + 3 ≤ length s.args.slots.now) × (p < length s.args.words.now)
 there c =
     let s = start c in
-    value_there (D s) s.pre.0 s.args.i (s.args.k + 1) s.pre.1.0 s.args.k (omega arith) c.first-at.result c.first-at.ensures
+    value_there (D s) s.requires.0 s.args.i (s.args.k + 1) s.requires.1.0 s.args.k (omega arith) c.first_at.result c.first_at.ensures
 
-length_is : (c : tie.After-length-at) → let f = c.before.before.before.before.before in let s = start f in c.length_at.result ≡ length (encoding_at (D s) (first_at (D s).objects s.args.i + s.args.k))
+length_is : (c : tie.After-length_at-len) → let f = c.before.before.before.before.before in let s = start f in c.length_at-len.result ≡ length (encoding_at (D s) (first_at (D s).objects s.args.i + s.args.k))
 length_is c =
     let f = c.before.before.before.before.before in
     let s = start f in
-    value-length (D s) s.pre.0 s.args.i (s.args.k + 1) s.pre.1.0 s.args.k (omega arith) f.first-at.result f.first-at.ensures c.length_at.result c.length_at.ensures
+    value-length (D s) s.requires.0 s.args.i (s.args.k + 1) s.requires.1.0 s.args.k (omega arith) f.first_at.result f.first_at.ensures c.length_at-len.result c.length_at-len.ensures
 
-first-at-requires : tie.Need-first-at-requires
+first-at-requires : tie.Need-first_at-requires
 first-at-requires c κs = let l = lies c.before.before.before.before.before in (l.small, l.inside)
 
-add-p : tie.Need-overflow-add-p
+add-p : tie.Need-overflow_add-p
 add-p c = omega (arith, (there c).0)
 
-index-at-requires : tie.Need-index-at-requires
+index-at-requires : tie.Need-index_at-index-requires
 index-at-requires c κs = let l = lies (start c) in (l.small, l.inside)
 
-kind-at-requires : tie.Need-kind-at-requires
+kind-at-requires : tie.Need-kind_at-requires
 kind-at-requires c κs = let l = lies (start c.before) in (l.small, l.inside)
 
-sub-in-requires : tie.Need-sub-in-requires
-sub-in-requires c κs = let s = start c.before.before in omega (arith, (lies s).few, s.pre.1.0.within)
+sub-in-requires : tie.Need-sub_in-sub-requires
+sub-in-requires c κs = let s = start c.before.before in omega (arith, (lies s).few, s.requires.1.0.within)
 
-type-at-requires : tie.Need-type-at-requires
+type-at-requires : tie.Need-type_at-t-requires
 type-at-requires c κs = let t = there c.before.before.before in (t.0, t.1)
 
-length-at-requires : tie.Need-length-at-requires
+length-at-requires : tie.Need-length_at-len-requires
 length-at-requires c κs = there c.before.before.before.before
 
 returns : tie.Need-returns
@@ -64,11 +64,11 @@ returns c =
     let f = x.before in
     let s = start f in (
       length_is n,
-      h.lay-head.ensures ∙ ap (over s.args.store.now s.args.at) (one_head (D s) s.args.i s.args.k x.index_at.result u.sub_in.result t.type_at.result s.args.start n.length_at.result x.index_at.ensures (u.sub_in.ensures ∙ ap (λ m. sub_in m s.args.k) u.before.kind_at.ensures) (t.type_at.ensures ∙ ap (λ m. type_at s.args.slots.now (m + s.args.k)) f.first-at.ensures) (length_is n)),
+      h.lay_head.ensures ∙ ap (over s.args.store.now s.args.at) (one_head (D s) s.args.i s.args.k x.index_at-index.result u.sub_in-sub.result t.type_at-t.result s.args.start n.length_at-len.result x.index_at-index.ensures (u.sub_in-sub.ensures ∙ ap (λ m. sub_in m s.args.k) u.kind_at.ensures) (t.type_at-t.ensures ∙ ap (λ m. type_at s.args.slots.now (m + s.args.k)) f.first_at.ensures) (length_is n)),
     )
 
-pub value-head-spec : {M : Type 1} → statement M
-value-head-spec =
+pub value_head_spec : {M : Type 1} → statement M
+value_head_spec =
     tie.close
     (tie.spec
     first-at-requires
