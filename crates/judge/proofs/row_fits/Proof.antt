@@ -11,57 +11,57 @@ use Rattle.judge.proofs.RoomLaws.{behind, beyond}
 use Rattle.judge.proofs.row_fits.Statement.{statement}
 use Rattle.judge.proofs.row_fits.Tie as tie
 
-abbrev begin : tie.After-values-of → tie.Start
+abbrev begin : tie.After-values_of → tie.Start
 begin u = u.before.before.before.before.before.before
 
 -- the values have their place
-placed : (c : tie.Else1) → let a = (begin c.before).args in
+placed : (c : tie.Else-values_of-v) → let a = (begin c.before).args in
     let s = a.objects.now in
     leb (count_at s a.i + default_at s a.i) (values_of s - a.v) ≡ true
 placed c =
     let u = c.before in
     let a = (begin u).args in
     let s = a.objects.now in
-    behind (count_at s a.i + default_at s a.i) a.v (values_of s) (omega (arith, c.if1.false, u.values_of.ensures, u.before.before.default-at.ensures, u.before.before.before.count_at.ensures))
+    behind (count_at s a.i + default_at s a.i) a.v (values_of s) (omega (arith, c.if-values_of-v.false, u.values_of.ensures, u.default_at.ensures, u.count_at.ensures))
 
-add-if1 : tie.Need-overflow-add-if1
-add-if1 c = omega (arith, (begin c).requires, c.before.before.default-at.ensures, c.before.before.before.count_at.ensures)
+add-if1 : tie.Need-overflow_add-v
+add-if1 c = omega (arith, (begin c).requires, c.default_at.ensures, c.count_at.ensures)
 
-returns : tie.Need-returns
+returns : tie.Need-returns-then-values_of-v
 unfolding row_fits
 returns c =
     let u = c.before in
     let a = begin u in
     let s = a.args.objects.now in
-    simp (beyond (count_at s a.args.i + default_at s a.args.i) a.args.v (values_of s) (omega (arith, a.pre)) (omega (arith, c.if1.true, u.values_of.ensures, u.before.before.default-at.ensures, u.before.before.before.count_at.ensures)))
+    simp (beyond (count_at s a.args.i + default_at s a.args.i) a.args.v (values_of s) (omega (arith, a.requires)) (omega (arith, c.if-values_of-v.true, u.values_of.ensures, u.default_at.ensures, u.count_at.ensures)))
 
-add-if2 : tie.Need-overflow-add-if2
-add-if2 c = let u = c.before.before in omega (arith, (begin u).requires, u.before.name-len-at.ensures)
+add-if2 : tie.Need-overflow_add-b
+add-if2 c = let u = c.before.before in omega (arith, (begin u).requires, u.name_len_at-len.ensures)
 
-returns-2 : tie.Need-returns-2
+returns-2 : tie.Need-returns-then-used_of-b
 unfolding row_fits
 returns-2 c =
     let e = c.before.before in
     let u = e.before in
     let a = begin u in
     let s = a.args.objects.now in
-    simp (placed e, beyond (name_len_at s a.args.i) a.args.b (used_of s) (omega (arith, a.pre)) (omega (arith, c.if2.true, c.before.used-of.ensures, u.before.name-len-at.ensures)))
+    simp (placed e, beyond (name_len_at s a.args.i) a.args.b (used_of s) (omega (arith, a.requires)) (omega (arith, c.if-used_of-b.true, c.used_of.ensures, u.name_len_at-len.ensures)))
 
-is-good-requires : tie.Need-is-good-requires
-is-good-requires c κs = omega (arith, c.if2.false, c.before.used-of.ensures, (begin c.before.before.before).requires)
+is-good-requires : tie.Need-is_good-requires
+is-good-requires c κs = omega (arith, c.if-used_of-b.false, c.used_of.ensures, (begin c.before.before.before).requires)
 
-returns-3 : tie.Need-returns-3
+returns-3 : tie.Need-returns
 unfolding row_fits
 returns-3 c =
     let e = c.before.before.before in
     let u = e.before in
     let a = (begin u).args in
     let s = a.objects.now in
-    simp (placed e, behind (name_len_at s a.i) a.b (used_of s) (omega (arith, c.before.if2.false, c.before.before.used-of.ensures, u.before.name-len-at.ensures)))
-    (rw u.before.name-len-at.ensures at c.is-good.ensures)
+    simp (placed e, behind (name_len_at s a.i) a.b (used_of s) (omega (arith, c.if-used_of-b.false, c.used_of.ensures, u.name_len_at-len.ensures)))
+    (rw u.name_len_at-len.ensures at c.is_good.ensures)
 
-pub row-fits-spec : {M : Type 1} → statement M
-row-fits-spec =
+pub row_fits_spec : {M : Type 1} → statement M
+row_fits_spec =
     tie.close
     (tie.spec
     (λ c κs. search rules)

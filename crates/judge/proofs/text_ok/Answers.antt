@@ -1,4 +1,5 @@
 -- `judge::text_ok` meets its contract: each branch is a case of `text_word`. Assumes nothing.
+-- a VisibleString, and the other three types
 use mathlib.Core.Path.{◌≡◌, refl, ◌∙◌}
 use mathlib.Core.Bool.{Bool, true, false, cond, not, ◌&&◌}
 use mathlib.Core.List.{List}
@@ -16,10 +17,8 @@ use Rattle.value.specs.declared.CodecFault.TheVariants.{Odd}
 use Rattle.value.specs.declared.Word.TheVariants.{Takes, Fails}
 use Rattle.value.specs.Codec.{takes, text_is, text_word}
 use Rattle.entry.specs.Rules.{is_good}
-use Rattle.judge.proofs.text_ok.Statement.{statement}
-use Rattle.judge.proofs.text_ok.Tie as tie
+use Rattle.judge.proofs.text_ok.Goals as goal
 
--- a VisibleString, and the other three types
 visible : (t : ℕ) (s : List ℕ) → t ≡ 11 → is_good (judge s) ≡ takes (text_word t s)
 unfolding text_word
 visible t s e = rw e (go (judge s))
@@ -36,19 +35,16 @@ other t n s h e = rw (ne_eqb t 11 h, e) (go (eqb t 13 && eqb (n % 2) 1))
     go true = refl
     go false = refl
 
-is-good-requires : tie.Need-is-good-requires
-is-good-requires c κs = search rules
+pub is_good-requires : goal.is_good-requires
+is_good-requires c = search rules
 
-returns : tie.Need-returns
+pub returns-then-t-eq11 : goal.returns-then-t-eq11
+returns-then-t-eq11 c =
+    let a = c.args in
+    c.is_good.ensures ∙ visible a.t (take a.len (drop a.start a.s.now)) c.if-t-eq11.true
+
+pub returns : goal.returns
 returns c =
-    let a = c.before.before.before.args in
-    c.is-good.ensures ∙ visible a.t (take a.len (drop a.start a.s.now)) c.before.if1.true
-
-returns-2 : tie.Need-returns-2
-returns-2 c =
-    let a = c.before.before.args in
-    other a.t a.len (take a.len (drop a.start a.s.now)) c.if1.false
+    let a = c.args in
+    other a.t a.len (take a.len (drop a.start a.s.now)) c.if-t-eq11.false
     (length-take-le a.len (drop a.start a.s.now) (rw length-drop (omega arith)))
-
-pub text-ok-spec : {M : Type 1} → statement M
-text-ok-spec = tie.close (tie.spec is-good-requires returns returns-2)
