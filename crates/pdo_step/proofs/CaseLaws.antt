@@ -1,19 +1,14 @@
 -- The cases of the definitions that several variants share. Assumes nothing.
 use mathlib.Core.Path.{◌≡◌, refl}
-use mathlib.Core.List.{List, [], ◌∷◌}
-use mathlib.Core.Logic.{⊎_elim}
+use mathlib.Core.List.{List}
 use Prim.Native.Nat.{ℕ}
-use native.Mathlib.Omega.{arith}
-use types.Run.{OneOf}
-use denote.Enum.Declared.{tag_of}
 use Rattle.entry.specs.Put.{Contents}
 use Rattle.pdo_step.specs.declared.Outcome.{Outcome}
 use Rattle.pdo_step.specs.declared.Outcome.TheVariants as outcome
 use Rattle.pdo_step.specs.Steps.{applied}
-use Rattle.pdo_step.specs.contracts.Outcome.{the_type as outcome-type}
 
 -- what is not stored changes nothing
-pub idle : (slots payload : List ℕ) (c : Contents) (o : Outcome) → OneOf (0 ∷ 1 ∷ 2 ∷ 3 ∷ 4 ∷ 5 ∷ 6 ∷ 7 ∷ 8 ∷ []) (tag_of outcome-type o) → c ≡ applied slots payload c o
+pub idle : (slots payload : List ℕ) (c : Contents) (o : Outcome) → ((p start n : ℕ) → o ≡ outcome.Stored p start n → ⊥) → c ≡ applied slots payload c o
 unfolding applied
 idle slots payload c outcome.Misaligned k = refl
 idle slots payload c outcome.Short k = refl
@@ -24,5 +19,4 @@ idle slots payload c outcome.Count k = refl
 idle slots payload c outcome.CountRefused k = refl
 idle slots payload c (outcome.Undecodable f) k = refl
 idle slots payload c outcome.TooLong k = refl
-idle slots payload c (outcome.Stored p start n) k =
-    absurd (⊎_elim (λ e. omega arith) (⊎_elim (λ e. omega arith) (⊎_elim (λ e. omega arith) (⊎_elim (λ e. omega arith) (⊎_elim (λ e. omega arith) (⊎_elim (λ e. omega arith) (⊎_elim (λ e. omega arith) (⊎_elim (λ e. omega arith) (λ e. omega arith)))))))) k)
+idle slots payload c (outcome.Stored p start n) k = absurd (k p start n refl)
