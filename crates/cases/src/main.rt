@@ -3,55 +3,72 @@
 // that are read at one go.
 #![tactic(auto)]
 
+ghost use Rattle.std.specs.Prelude.{◌≤◌, length, IfOk};
+
+use std::io::Read;
+use std::rt::Files;
+use std::{fs, io};
 use tables::State;
 
-// The lines of a table, on the memory that the one before left: a table in parts goes on where its last part ended.
-fn part(name: &[u8], before: State) -> State {
-    let mut buffer = io::large_buffer();
-    let file = os::open_read(name);
-    if file < 0 {
-        return tables::missing(before);
+// Reads until the buffer is full or the file ends, and answers how many bytes it put at the buffer's start.
+fn read_full(file: &mut impl Read, buffer: &mut [u8]) -> io::Result<usize>
+    ensures { IfOk result (λ n. n ≤ length buffer.new) }
+{
+    let mut done = 0;
+    while done < buffer.len() {
+        let n = file.read(&mut buffer[done..])?;
+        if n == 0 {
+            break;
+        }
+        done += n;
     }
-    let n = io::read_full(file, &mut buffer);
-    libc::close(file);
-    tables::run(&buffer[..n], before)
+    Ok(done)
+}
+
+// The lines of a table, on the memory that the one before left: a table in parts goes on where its last part ended.
+fn part(rt: &impl Files, name: &str, before: State) -> io::Result<State> {
+    let Ok(mut file) = fs::open(rt, name) else {
+        return Ok(tables::missing(before));
+    };
+    let mut buffer = [0u8; 65536];
+    let n = read_full(&mut file, &mut buffer)?;
+    Ok(tables::run(&buffer[..n], before))
 }
 
 // The same on memory of zeros.
-fn table(name: &[u8], before: State) -> State {
+fn table(rt: &impl Files, name: &str, before: State) -> io::Result<State> {
     let mut state = tables::fresh();
     state.run = before.run;
     state.differ = before.differ;
-    part(name, state)
+    part(rt, name, state)
 }
 
 // Our own.
-fn ours(before: State) -> State {
-    let codec = table(b"codec.txt", before);
-    let dictionary = table(b"dictionary.txt", codec);
-    let halving = table(b"halving.txt", dictionary);
-    let faults = table(b"faults.txt", halving);
-    let ranges = table(b"ranges.txt", faults);
-    table(b"editions.txt", ranges)
+fn ours(rt: &impl Files, before: State) -> io::Result<State> {
+    let codec = table(rt, "codec.txt", before)?;
+    let dictionary = table(rt, "dictionary.txt", codec)?;
+    let halving = table(rt, "halving.txt", dictionary)?;
+    let faults = table(rt, "faults.txt", halving)?;
+    let ranges = table(rt, "ranges.txt", faults)?;
+    table(rt, "editions.txt", ranges)
 }
 
-fn of_the_rust(before: State) -> State {
-    let sampled = table(b"rust_1.txt", before);
-    let sampled = part(b"rust_2.txt", sampled);
-    let told = table(b"histories_1.txt", sampled);
-    let told = part(b"histories_2.txt", told);
-    let kept = table(b"stores_1.txt", told);
-    let kept = part(b"stores_2.txt", kept);
-    let consumed = table(b"payloads_1.txt", kept);
-    let consumed = part(b"payloads_2.txt", consumed);
-    let checked = table(b"checks_1.txt", consumed);
-    part(b"checks_2.txt", checked)
+fn of_the_rust(rt: &impl Files, before: State) -> io::Result<State> {
+    let sampled = table(rt, "rust_1.txt", before)?;
+    let sampled = part(rt, "rust_2.txt", sampled)?;
+    let told = table(rt, "histories_1.txt", sampled)?;
+    let told = part(rt, "histories_2.txt", told)?;
+    let kept = table(rt, "stores_1.txt", told)?;
+    let kept = part(rt, "stores_2.txt", kept)?;
+    let consumed = table(rt, "payloads_1.txt", kept)?;
+    let consumed = part(rt, "payloads_2.txt", consumed)?;
+    let checked = table(rt, "checks_1.txt", consumed)?;
+    part(rt, "checks_2.txt", checked)
 }
 
-fn main() {
-    let all = of_the_rust(ours(tables::fresh()));
-    io::print_decimal(1, all.run);
-    io::write_all(1, b" ");
-    io::print_decimal(1, all.differ);
-    io::write_all(1, b"\n");
+fn main(rt: HostRuntime) -> io::Result<()> {
+    let all = of_the_rust(&rt, ours(&rt, tables::fresh())?)?;
+    let run = all.run;
+    let differ = all.differ;
+    println!(rt; "{run} {differ}")
 }
