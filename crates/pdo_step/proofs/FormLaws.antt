@@ -14,7 +14,7 @@ use Rattle.entry.specs.Table.{type_at}
 use Rattle.entry.specs.Find.{place_of}
 use Rattle.entry.specs.declared.Place.{Place}
 use Rattle.entry.specs.declared.Place.TheVariants.{NoObject, NoSub, Count, Value}
-use Rattle.aim.specs.Aims.{aim_of, between, class_at, class_in, class_of}
+use Rattle.aim.specs.Aims.{between, class_at, class_in, class_of}
 use Rattle.aim.specs.declared.Class.TheVariants as class
 use Rattle.pdo_step.specs.declared.Outcome.{Outcome}
 use Rattle.pdo_step.specs.declared.Outcome.TheVariants as outcome

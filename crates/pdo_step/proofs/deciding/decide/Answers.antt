@@ -5,7 +5,7 @@ use mathlib.Core.List.{List}
 use Prim.Native.Nat.{ℕ}
 use native.Mathlib.Omega.{arith}
 use borrow.Author.Tests.{lt-ltb, le-ltb}
-use Rattle.mapping.specs.Word.{entry_of, field_of}
+use Rattle.mapping.specs.Word.{entry_of}
 use Rattle.mapping.specs.declared.Field.{Field}
 use Rattle.mapping.specs.declared.Field.TheVariants.{Whole}
 use Rattle.mapping.proofs.WordLaws.{whole_field, entry_in_range}
