@@ -84,22 +84,22 @@ new_refused edition objects =
 pub insert_refused : (h : Head) (name vals encodings : List ℕ) (d : Dict) (r : Refusal) → answer_of h name vals encodings d ≡ inserting.Refused r → memory_of h name vals encodings d ≡ d
 insert_refused h name vals encodings d r e = rw e
 
-pub counter_refused : (d : Dict) (x sub : ℕ) → Refuses counter.AfterIncrement Answer (λ y. y.answer) answer.Refused (λ a. counter.afterIncrement a d.words) (counter_of d x sub)
+pub counter_refused : (d : Dict) (x sub : ℕ) → Refuses counter.AfterIncrement Answer (λ y. y.answer) answer.Refused (λ a. counter.after_increment a d.words) (counter_of d x sub)
 unfolding counter_of
 counter_refused d x sub = join (well_formed d) _ _ (λ r (e : answer.Done ≡ answer.Refused r). let z : ◌≡◌ {A = ℕ} 0 1 = cc in absurd (omega arith)) (λ r e. ap same e)
   where
     same : Answer → counter.AfterIncrement
-    same a = counter.afterIncrement a d.words
+    same a = counter.after_increment a d.words
 
     join : (b : Bool) (x y : counter.AfterIncrement) → Refuses counter.AfterIncrement Answer (λ y. y.answer) answer.Refused same x → Refuses counter.AfterIncrement Answer (λ y. y.answer) answer.Refused same y → Refuses counter.AfterIncrement Answer (λ y. y.answer) answer.Refused same (cond b x y)
     join = either (λ (y : counter.AfterIncrement). y.answer) answer.Refused same
 
-pub update_refused : (d : Dict) (x n : ℕ) → Refuses errors.AfterUpdate Answer (λ y. y.answer) answer.Refused (λ a. errors.afterUpdate a d.bytes) (update_of d x n)
+pub update_refused : (d : Dict) (x n : ℕ) → Refuses errors.AfterUpdate Answer (λ y. y.answer) answer.Refused (λ a. errors.after_update a d.bytes) (update_of d x n)
 unfolding update_of
 update_refused d x n = join (well_formed d) _ _ (λ r (e : answer.Done ≡ answer.Refused r). let z : ◌≡◌ {A = ℕ} 0 1 = cc in absurd (omega arith)) (λ r e. ap same e)
   where
     same : Answer → errors.AfterUpdate
-    same a = errors.afterUpdate a d.bytes
+    same a = errors.after_update a d.bytes
 
     join : (b : Bool) (x y : errors.AfterUpdate) → Refuses errors.AfterUpdate Answer (λ y. y.answer) answer.Refused same x → Refuses errors.AfterUpdate Answer (λ y. y.answer) answer.Refused same y → Refuses errors.AfterUpdate Answer (λ y. y.answer) answer.Refused same (cond b x y)
     join = either (λ (y : errors.AfterUpdate). y.answer) answer.Refused same
@@ -115,21 +115,21 @@ cns_refused d out = join (well_formed d) _ _ (join (ltb (length out) (length (no
     join = either (λ (y : AfterListing). y.answer) listing.Refused same
 
 -- ---- writing and restoring
-pub write_refused : (d : Dict) (store : List ℕ) (x sub t : ℕ) (s : List ℕ) → Refuses writing.AfterWrite Wrote (λ y. y.answer) wrote.Refused (λ a. writing.afterWrite a d.objects d.words d.bytes store) (write_of d store x sub t s)
-unfolding write_of writing.writeActOf save_of
+pub write_refused : (d : Dict) (store : List ℕ) (x sub t : ℕ) (s : List ℕ) → Refuses writing.AfterWrite Wrote (λ y. y.answer) wrote.Refused (λ a. writing.after_write a d.objects d.words d.bytes store) (write_of d store x sub t s)
+unfolding write_of writing.write_act_of save_of
 write_refused d store x sub t s = join (well_formed d) _ _ (act (judge_of d (length store) x sub t s)) (λ r e. ap same e)
   where
     same : Wrote → writing.AfterWrite
-    same a = writing.afterWrite a d.objects d.words d.bytes store
+    same a = writing.after_write a d.objects d.words d.bytes store
 
     join : (b : Bool) (x y : writing.AfterWrite) → Refuses writing.AfterWrite Wrote (λ y. y.answer) wrote.Refused same x → Refuses writing.AfterWrite Wrote (λ y. y.answer) wrote.Refused same y → Refuses writing.AfterWrite Wrote (λ y. y.answer) wrote.Refused same (cond b x y)
     join = either (λ (y : writing.AfterWrite). y.answer) wrote.Refused same
 
-    saving : (b : Bool) (st : List ℕ) → Refuses writing.AfterWrite Wrote (λ y. y.answer) wrote.Refused same (let y = cond b (commands.afterSave saved.Done st) (commands.afterSave (saved.Refused refusal.StoreFull) store) in writing.afterWrite (writing.savedAs y.answer) d.objects d.words d.bytes y.store)
+    saving : (b : Bool) (st : List ℕ) → Refuses writing.AfterWrite Wrote (λ y. y.answer) wrote.Refused same (let y = cond b (commands.after_save saved.Done st) (commands.after_save (saved.Refused refusal.StoreFull) store) in writing.after_write (writing.saved_as y.answer) d.objects d.words d.bytes y.store)
     saving true st = (λ r (e : wrote.Done ≡ wrote.Refused r). let z : ◌≡◌ {A = ℕ} 0 1 = cc in absurd (omega arith))
     saving false st = λ r e. ap same e
 
-    act : (j : Judged) → Refuses writing.AfterWrite Wrote (λ y. y.answer) wrote.Refused same (writing.writeActOf d store sub s j)
+    act : (j : Judged) → Refuses writing.AfterWrite Wrote (λ y. y.answer) wrote.Refused same (writing.write_act_of d store sub s j)
     act (judged.Put p) = (λ r (e : wrote.Done ≡ wrote.Refused r). let z : ◌≡◌ {A = ℕ} 0 1 = cc in absurd (omega arith))
     act judged.Accepted = (λ r (e : wrote.Done ≡ wrote.Refused r). let z : ◌≡◌ {A = ℕ} 0 1 = cc in absurd (omega arith))
     act (judged.Keep i n) = (λ r (e : wrote.Done ≡ wrote.Refused r). let z : ◌≡◌ {A = ℕ} 0 1 = cc in absurd (omega arith))
@@ -138,21 +138,21 @@ write_refused d store x sub t s = join (well_formed d) _ _ (act (judge_of d (len
     act (judged.NoValue f) = (λ r (e : wrote.NoValue f ≡ wrote.Refused r). let z : ◌≡◌ {A = ℕ} 0 1 = cc in absurd (omega arith))
     act (judged.Refused q) = λ r e. ap same e
 
-pub write_no-value_refused : (d : Dict) (store : List ℕ) (x sub t : ℕ) (s : List ℕ) → Refuses writing.AfterWrite Wrote (λ y. y.answer) wrote.NoValue (λ a. writing.afterWrite a d.objects d.words d.bytes store) (write_of d store x sub t s)
-unfolding write_of writing.writeActOf
+pub write_no-value_refused : (d : Dict) (store : List ℕ) (x sub t : ℕ) (s : List ℕ) → Refuses writing.AfterWrite Wrote (λ y. y.answer) wrote.NoValue (λ a. writing.after_write a d.objects d.words d.bytes store) (write_of d store x sub t s)
+unfolding write_of writing.write_act_of
 write_no-value_refused d store x sub t s = join (well_formed d) _ _ (act (judge_of d (length store) x sub t s)) (λ f (e : wrote.Refused refusal.Malformed ≡ wrote.NoValue f). let z : ◌≡◌ {A = ℕ} 0 1 = cc in absurd (omega arith))
   where
     same : Wrote → writing.AfterWrite
-    same a = writing.afterWrite a d.objects d.words d.bytes store
+    same a = writing.after_write a d.objects d.words d.bytes store
 
     join : (b : Bool) (x y : writing.AfterWrite) → Refuses writing.AfterWrite Wrote (λ y. y.answer) wrote.NoValue same x → Refuses writing.AfterWrite Wrote (λ y. y.answer) wrote.NoValue same y → Refuses writing.AfterWrite Wrote (λ y. y.answer) wrote.NoValue same (cond b x y)
     join = either (λ (y : writing.AfterWrite). y.answer) wrote.NoValue same
 
-    saving : (a : Saved) (st : List ℕ) → Refuses writing.AfterWrite Wrote (λ y. y.answer) wrote.NoValue same (writing.afterWrite (writing.savedAs a) d.objects d.words d.bytes st)
+    saving : (a : Saved) (st : List ℕ) → Refuses writing.AfterWrite Wrote (λ y. y.answer) wrote.NoValue same (writing.after_write (writing.saved_as a) d.objects d.words d.bytes st)
     saving saved.Done st = (λ f (e : wrote.Done ≡ wrote.NoValue f). let z : ◌≡◌ {A = ℕ} 0 1 = cc in absurd (omega arith))
     saving (saved.Refused r) st = (λ f (e : wrote.Refused r ≡ wrote.NoValue f). let z : ◌≡◌ {A = ℕ} 0 1 = cc in absurd (omega arith))
 
-    act : (j : Judged) → Refuses writing.AfterWrite Wrote (λ y. y.answer) wrote.NoValue same (writing.writeActOf d store sub s j)
+    act : (j : Judged) → Refuses writing.AfterWrite Wrote (λ y. y.answer) wrote.NoValue same (writing.write_act_of d store sub s j)
     act (judged.Put p) = (λ f (e : wrote.Done ≡ wrote.NoValue f). let z : ◌≡◌ {A = ℕ} 0 1 = cc in absurd (omega arith))
     act judged.Accepted = (λ f (e : wrote.Done ≡ wrote.NoValue f). let z : ◌≡◌ {A = ℕ} 0 1 = cc in absurd (omega arith))
     act (judged.Keep i n) = (λ f (e : wrote.Done ≡ wrote.NoValue f). let z : ◌≡◌ {A = ℕ} 0 1 = cc in absurd (omega arith))
@@ -161,23 +161,23 @@ write_no-value_refused d store x sub t s = join (well_formed d) _ _ (act (judge_
     act (judged.NoValue g) = λ f e. ap same e
     act (judged.Refused q) = (λ f (e : wrote.Refused q ≡ wrote.NoValue f). let z : ◌≡◌ {A = ℕ} 0 1 = cc in absurd (omega arith))
 
-pub restore_refused : (d : Dict) (s : List ℕ) (first last : ℕ) → Refuses restoring.AfterRestore Restored (λ y. y.answer) restored.Refused (λ a. restoring.afterRestore a d) (restore_of d s first last)
+pub restore_refused : (d : Dict) (s : List ℕ) (first last : ℕ) → Refuses restoring.AfterRestore Restored (λ y. y.answer) restored.Refused (λ a. restoring.after_restore a d) (restore_of d s first last)
 unfolding restore_of
 restore_refused d s first last = join (well_formed d) _ _ (join (rows_fit d s first last (number_of d.objects) 0) _ _ (λ r (e : restored.Done ≡ restored.Refused r). let z : ◌≡◌ {A = ℕ} 0 1 = cc in absurd (omega arith)) (λ r e. ap same e)) (λ r e. ap same e)
   where
     same : Restored → restoring.AfterRestore
-    same a = restoring.afterRestore a d
+    same a = restoring.after_restore a d
 
     join : (b : Bool) (x y : restoring.AfterRestore) → Refuses restoring.AfterRestore Restored (λ y. y.answer) restored.Refused same x → Refuses restoring.AfterRestore Restored (λ y. y.answer) restored.Refused same y → Refuses restoring.AfterRestore Restored (λ y. y.answer) restored.Refused same (cond b x y)
     join = either (λ (y : restoring.AfterRestore). y.answer) restored.Refused same
 
 -- ---- consuming
-pub consume_refused : (d : Dict) (payload : List ℕ) (sender version : ℕ) (ready : Bool) (room : ℕ) (log : List ℕ) → Refuses consume.AfterConsume Consumed (λ y. y.answer) consumed.Refused (λ a. consume.afterConsume a (contents d.words d.bytes) log) (consume_of d payload sender version ready room log)
+pub consume_refused : (d : Dict) (payload : List ℕ) (sender version : ℕ) (ready : Bool) (room : ℕ) (log : List ℕ) → Refuses consume.AfterConsume Consumed (λ y. y.answer) consumed.Refused (λ a. consume.after_consume a (contents d.words d.bytes) log) (consume_of d payload sender version ready room log)
 unfolding consume_of
 consume_refused d payload sender version ready room log = join (well_formed d) _ _ (join (ltb room 254) _ _ (λ r e. ap same e) (join (ltb 1490 (length payload)) _ _ (λ r e. ap same e) (λ r e. done e))) (λ r e. ap same e)
   where
     same : Consumed → consume.AfterConsume
-    same a = consume.afterConsume a (contents d.words d.bytes) log
+    same a = consume.after_consume a (contents d.words d.bytes) log
 
     join : (b : Bool) (x y : consume.AfterConsume) → Refuses consume.AfterConsume Consumed (λ y. y.answer) consumed.Refused same x → Refuses consume.AfterConsume Consumed (λ y. y.answer) consumed.Refused same y → Refuses consume.AfterConsume Consumed (λ y. y.answer) consumed.Refused same (cond b x y)
     join = either (λ (y : consume.AfterConsume). y.answer) consumed.Refused same
@@ -188,14 +188,14 @@ consume_refused d payload sender version ready room log = join (well_formed d) _
 pub received_refused : (d : Dict) (payload : List ℕ) (sender version : ℕ) (ready : Bool) (es : List EventRecord)
     → Refuses Received Consumed (λ y. y.answer) consumed.Refused (λ a. received a (contents d.words d.bytes) es) (received_of d payload sender version ready es)
 unfolding received_of
-received_refused d payload sender version ready es r e = ap (λ (a : consume.AfterConsume). listed a (consume.receivedBy (frame d.objects d.slots payload sender 0) (contents d.words d.bytes) version ready).events es) (consume_refused d payload sender version ready (length es) (replicate 254 0) r e)
+received_refused d payload sender version ready es r e = ap (λ (a : consume.AfterConsume). listed a (consume.received_by (frame d.objects d.slots payload sender 0) (contents d.words d.bytes) version ready).events es) (consume_refused d payload sender version ready (length es) (replicate 254 0) r e)
 
-pub cycle_refused : (d : Dict) (delivered ps log : List ℕ) → Refuses cycle.AfterCycle Cycle (λ y. y.answer) cycles.Refused (λ a. cycle.afterCycle a (contents d.words d.bytes) log) (cycle_of d delivered ps log)
+pub cycle_refused : (d : Dict) (delivered ps log : List ℕ) → Refuses cycle.AfterCycle Cycle (λ y. y.answer) cycles.Refused (λ a. cycle.after_cycle a (contents d.words d.bytes) log) (cycle_of d delivered ps log)
 unfolding cycle_of
 cycle_refused d delivered ps log = join (well_formed d) _ _ (join (are_shaped ps && are_placed (length delivered) ps) _ _ (join (are_short ps) _ _ (λ r e. done e) (λ r e. ap same e)) (λ r e. ap same e)) (λ r e. ap same e)
   where
     same : Cycle → cycle.AfterCycle
-    same a = cycle.afterCycle a (contents d.words d.bytes) log
+    same a = cycle.after_cycle a (contents d.words d.bytes) log
 
     join : (b : Bool) (x y : cycle.AfterCycle) → Refuses cycle.AfterCycle Cycle (λ y. y.answer) cycles.Refused same x → Refuses cycle.AfterCycle Cycle (λ y. y.answer) cycles.Refused same y → Refuses cycle.AfterCycle Cycle (λ y. y.answer) cycles.Refused same (cond b x y)
     join = either (λ (y : cycle.AfterCycle). y.answer) cycles.Refused same
@@ -204,12 +204,12 @@ cycle_refused d delivered ps log = join (well_formed d) _ _ (join (are_shaped ps
     done e = let z : ◌≡◌ {A = ℕ} 0 1 = cc in absurd (omega arith)
 
 -- ---- what is only laid into a lent list
-pub check_all_refused : (d : Dict) (out : List ℕ) → Refuses checking.AfterCheckAll CheckedAll (λ y. y.answer) checked.Refused (λ a. checking.afterCheckAll a out) (check_all_of d out)
+pub check_all_refused : (d : Dict) (out : List ℕ) → Refuses checking.AfterCheckAll CheckedAll (λ y. y.answer) checked.Refused (λ a. checking.after_check_all a out) (check_all_of d out)
 unfolding check_all_of
 check_all_refused d out = join (well_formed d) _ _ (join (ltb (length out) 768) _ _ (λ r e. ap same e) (λ r e. done e)) (λ r e. ap same e)
   where
     same : CheckedAll → checking.AfterCheckAll
-    same a = checking.afterCheckAll a out
+    same a = checking.after_check_all a out
 
     join : (b : Bool) (x y : checking.AfterCheckAll) → Refuses checking.AfterCheckAll CheckedAll (λ y. y.answer) checked.Refused same x → Refuses checking.AfterCheckAll CheckedAll (λ y. y.answer) checked.Refused same y → Refuses checking.AfterCheckAll CheckedAll (λ y. y.answer) checked.Refused same (cond b x y)
     join = either (λ (y : checking.AfterCheckAll). y.answer) checked.Refused same
@@ -217,12 +217,12 @@ check_all_refused d out = join (well_formed d) _ _ (join (ltb (length out) 768) 
     done : {A : Type 0} {n : ℕ} {r : Refusal} → checked.Done n ≡ checked.Refused r → A
     done e = let z : ◌≡◌ {A = ℕ} 0 1 = cc in absurd (omega arith)
 
-pub encode_refused : (t w : ℕ) (part out : List ℕ) → Refuses codec.AfterEncode Encoded (λ y. y.answer) encoded.Refused (λ a. codec.afterEncode a out) (encode_of t w part out)
+pub encode_refused : (t w : ℕ) (part out : List ℕ) → Refuses codec.AfterEncode Encoded (λ y. y.answer) encoded.Refused (λ a. codec.after_encode a out) (encode_of t w part out)
 unfolding encode_of
 encode_refused t w part out = join (sayable t w part) _ _ (join (ltb (length out) (length (encoding t w part))) _ _ (λ r e. ap same e) (λ r e. done e)) (λ r e. ap same e)
   where
     same : Encoded → codec.AfterEncode
-    same a = codec.afterEncode a out
+    same a = codec.after_encode a out
 
     join : (b : Bool) (x y : codec.AfterEncode) → Refuses codec.AfterEncode Encoded (λ y. y.answer) encoded.Refused same x → Refuses codec.AfterEncode Encoded (λ y. y.answer) encoded.Refused same y → Refuses codec.AfterEncode Encoded (λ y. y.answer) encoded.Refused same (cond b x y)
     join = either (λ (y : codec.AfterEncode). y.answer) encoded.Refused same

@@ -230,7 +230,7 @@ c_consume_refused d payload sender version ready log m r e = go x.answer refl e
     x : consume.AfterConsume
     x = consume_of d payload sender version ready (length log) log
 
-    go : (a : Consumed) → x.answer ≡ a → (consume_numbers (consume.afterConsume a c log) m).answer ≡ refusal_number r → consume_numbers x m ≡ heard (refusal_number r) c log 0 m
+    go : (a : Consumed) → x.answer ≡ a → (consume_numbers (consume.after_consume a c log) m).answer ≡ refusal_number r → consume_numbers x m ≡ heard (refusal_number r) c log 0 m
     go (consumed.Done n) q e = no_refusal r e
     go (consumed.Refused k) q e = ap (λ (y : consume.AfterConsume). consume_numbers y m) (consume_refused d payload sender version ready (length log) log k q) ∙ ap (λ a. heard a c log 0 m) e
 
@@ -244,7 +244,7 @@ c_consume_cycle_refused d delivered ps log j m r e = go x.answer refl e
     x : cycle.AfterCycle
     x = cycle_of d delivered ps log
 
-    go : (a : Cycle) → x.answer ≡ a → (cycle_numbers (cycle.afterCycle a c log) j m).answer ≡ refusal_number r → cycle_numbers x j m ≡ heard (refusal_number r) c log j m
+    go : (a : Cycle) → x.answer ≡ a → (cycle_numbers (cycle.after_cycle a c log) j m).answer ≡ refusal_number r → cycle_numbers x j m ≡ heard (refusal_number r) c log j m
     go (cycles.Done i n) q e = no_refusal r e
     go (cycles.Refused k) q e = ap (λ (y : cycle.AfterCycle). cycle_numbers y j m) (cycle_refused d delivered ps log k q) ∙ ap (λ a. heard a c log j m) e
 

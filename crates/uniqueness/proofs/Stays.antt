@@ -47,6 +47,10 @@ use Rattle.channel.proofs.check_all.Reads as check-all
 use Rattle.channel.proofs.check_all.Kinds as check-all-kinds
 use Rattle.events.specs.contracts.consume_pdo_payload as consume
 use Rattle.events.specs.contracts.consume_by_value as by_value
+use Rattle.events.proofs.consume_pdo_payload.Reads as consume-reads
+use Rattle.events.proofs.consume_pdo_payload.Kinds as consume-kinds
+use Rattle.events.proofs.consume_by_value.Reads as by_value-reads
+use Rattle.events.proofs.consume_by_value.Kinds as by_value-kinds
 use Rattle.uniqueness.specs.Refusing.{RefusedBy, Stays, ClaimStays}
 use Rattle.uniqueness.proofs.Walked.{consume_claim, by_value_claim}
 use Rattle.uniqueness.proofs.Refused.{encode_refused, new_refused, insert_refused, cns_refused, counter_refused, write_refused, write_no-value_refused, restore_refused, received_refused, cycle_refused, update_refused, check_all_refused}
@@ -84,12 +88,18 @@ update_pdo_error_object_stays κs a z w p r = ap (λ (x : errors.AfterUpdate). (
 pub check_all_stays : Stays 5 check-all-kinds.ps check-all-kinds.r check-all.Post (λ κs. RefusedBy checked.Refused) (λ κs a. (tt, (tt, (tt, (tt, (a.1.1.1.1.0.now, tt))))))
 check_all_stays κs a z w p r = ap (λ (x : checking.AfterCheckAll). (tt, (tt, (tt, (tt, (x.out, tt)))))) (p ∙ check_all_refused _ _ r.0 (sym (ap (λ (x : checking.AfterCheckAll). x.answer) p) ∙ r.1))
 
--- ---- those that are proved by hand (Walked.antt)
+-- ---- those whose claim is written out in full (Walked.antt), and the same over the plain reading
 pub consume_stays : ClaimStays consume.ended consume_claim (λ κs. RefusedBy consumed.Refused) (λ κs a. (tt, (tt, (a.1.1.0.now, (a.1.1.1.0.now, (tt, (tt, (tt, (tt, (a.1.1.1.1.1.1.1.1.0.now, tt))))))))))
 consume_stays κs a z w p r = ap (λ (x : Received). (tt, (tt, (x.contents.words, (x.contents.bytes, (tt, (tt, (tt, (tt, (x.events, tt)))))))))) (p ∙ received_refused _ _ _ _ _ _ r.0 (sym (ap (λ (x : Received). x.answer) p) ∙ r.1))
 
+pub consume_pdo_payload_stays : Stays 6 consume-kinds.ps consume-kinds.r consume-reads.Post (λ κs. RefusedBy consumed.Refused) (λ κs a. (tt, (tt, (a.1.1.0.now, (a.1.1.1.0.now, (tt, (tt, (tt, (tt, (a.1.1.1.1.1.1.1.1.0.now, tt))))))))))
+consume_pdo_payload_stays κs a z w p r = consume_stays κs a z w p r
+
 pub by_value_stays : ClaimStays by_value.ended by_value_claim (λ κs (z : Heard). RefusedBy consumed.Refused z.answer) (λ κs a. (tt, (tt, (a.1.1.0.now, (a.1.1.1.0.now, (tt, (tt, (tt, (tt, (tt, tt))))))))))
 by_value_stays κs a z w p r = ap (λ (x : Received). (tt, (tt, (x.contents.words, (x.contents.bytes, (tt, (tt, (tt, (tt, (tt, tt)))))))))) (p ∙ received_refused _ _ _ _ _ _ r.0 (sym (ap (λ (x : Received). x.answer) p) ∙ r.1))
+
+pub consume_by_value_stays : Stays 5 by_value-kinds.ps by_value-kinds.r by_value-reads.Post (λ κs (z : Heard). RefusedBy consumed.Refused z.answer) (λ κs a. (tt, (tt, (a.1.1.0.now, (a.1.1.1.0.now, (tt, (tt, (tt, (tt, (tt, tt))))))))))
+consume_by_value_stays κs a z w p r = by_value_stays κs a z w p r
 
 -- the records come and go by value: what comes back are those that were given
 pub by_value-same : (κs : Lfts (by_value.ended).signature.lifetimes) (a : Args (by_value.ended).signature κs) (z : Res (by_value.ended).signature κs) (e : AtExit by_value.ended κs)

@@ -1,6 +1,6 @@
 -- Each public call's contract leaves one outcome: the same answer, and the same contents of everything lent. The contract is the one
--- that Rattle reads off the source. (`read_part` returns a part of what was lent: its contract determines the part's bytes.) The two calls that
--- are walked by hand are in Walked.antt.
+-- that Rattle reads off the source. (`read_part` returns a part of what was lent: its contract determines the part's bytes.) The three calls
+-- whose claim is written out in full are in Walked.antt.
 -- Assumes nothing.
 use mathlib.Core.Path.{◌≡◌, refl, ap, ◌∙◌, sym}
 use Rattle.value.specs.Codec.{AfterEncode}
@@ -65,7 +65,7 @@ use Rattle.pdo_handler.proofs.update_pdo_error_object.Reads as update-pdo-error-
 use Rattle.pdo_handler.proofs.update_pdo_error_object.Kinds as update-pdo-error-object-kinds
 use Rattle.restoring.proofs.restore_power_on_values.Reads as restore
 use Rattle.restoring.proofs.restore_power_on_values.Kinds as restore-kinds
-use Rattle.uniqueness.specs.Contracts.{Unique}
+use Rattle.uniqueness.specs.Promises.{Unique}
 use Rattle.writing.proofs.write.Reads as write
 use Rattle.writing.proofs.write.Kinds as write-kinds
 

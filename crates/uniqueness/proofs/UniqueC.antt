@@ -1,12 +1,12 @@
 -- The same of each call for C. Assumes nothing.
 use mathlib.Core.List.{List}
 use Prim.Native.Nat.{ℕ}
-use mathlib.Core.Path.{◌≡◌, refl, ap, ap₂, ◌∙◌, sym}
+use mathlib.Core.Path.{◌≡◌, refl, ap, ◌∙◌, sym}
 use Rattle.entry.specs.Table.{Dict}
 use Rattle.c_answers.specs.Answers.{Told, Lent, Written}
 use Rattle.c_codec.specs.Codec.{AfterDecode}
 use Rattle.c_receiving.specs.Receiving.{Heard}
-use Rattle.uniqueness.specs.Contracts.{Unique}
+use Rattle.uniqueness.specs.Promises.{Unique}
 use Rattle.uniqueness.proofs.Unique.{both}
 use Rattle.c_codec.proofs.loomfinch_decode.Reads as c-decode
 use Rattle.c_codec.proofs.loomfinch_decode.Kinds as c-decode-kinds

@@ -1,5 +1,6 @@
--- `consume_pdo_payload` and `consume_by_value` lend a slice of records, so they are proved by hand, and Rattle makes no plain reading of their
--- contracts: here is one, equal to the contract that Rattle reads off the source, and that it leaves one outcome. Assumes nothing.
+-- `consume_pdo_payload` and `consume_by_value` lend a slice of records, and `read_part` returns a part of what was lent. Of each, here is the claim
+-- in full, equal to the contract that Rattle reads off the source, and that it leaves one outcome; of the first two also that the plain reading
+-- that Rattle makes of the contract does, as of the calls in Unique.antt. Assumes nothing.
 use mathlib.Core.Path.{◌≡◌, refl, ◌∙◌, sym}
 use mathlib.Core.List.{List}
 use contract.Lifetimes.{Lfts}
@@ -15,12 +16,16 @@ use Rattle.od.specs.Read.{read_of, part_in}
 use Rattle.od.specs.contracts.read_part as read-part
 use Rattle.events.specs.contracts.consume_pdo_payload as consume
 use Rattle.events.specs.contracts.consume_by_value as by_value
-use Rattle.uniqueness.specs.Contracts.{Contract, AsksNothing, Claim, SaysJust, OneOutcome}
+use Rattle.events.proofs.consume_pdo_payload.Reads as consume-reads
+use Rattle.events.proofs.consume_pdo_payload.Kinds as consume-kinds
+use Rattle.events.proofs.consume_by_value.Reads as by_value-reads
+use Rattle.events.proofs.consume_by_value.Kinds as by_value-kinds
+use Rattle.uniqueness.specs.Promises.{Unique, Contract, AsksNothing, Claim, SaysJust, OneOutcome}
 use Rattle.uniqueness.proofs.Unique.{both}
 
 -- ---- consume_pdo_payload
 abbrev pub consume_contract : Contract consume.ended
-consume_contract M 𝓤 = consume.clauses 𝓤
+consume_contract M 𝓤 𝓛 = consume.clauses 𝓛
 
 abbrev pub consume_claim : Claim consume.ended
 consume_claim κs a r e =
@@ -37,12 +42,15 @@ pub consume_unique : OneOutcome consume.ended consume_claim
 consume_unique κs a z₁ z₂ w₁ w₂ p q =
     both (λ (x : Received). x.answer) (λ x. (tt, (tt, (x.contents.words, (x.contents.bytes, (tt, (tt, (tt, (tt, (x.events, tt)))))))))) p q
 
+pub consume_pdo_payload_unique : Unique 6 consume-kinds.ps consume-kinds.r consume-reads.Post
+consume_pdo_payload_unique κs a z₁ z₂ w₁ w₂ p q = consume_unique κs a z₁ z₂ w₁ w₂ p q
+
 abbrev heard : Consumed → List EventRecord → Heard
 heard a es = record { answer = a; events = es }
 
 -- ---- consume_by_value: the records come and go by value
 abbrev pub by_value_contract : Contract by_value.ended
-by_value_contract M 𝓤 = by_value.clauses 𝓤
+by_value_contract M 𝓤 𝓛 = by_value.clauses 𝓛
 
 abbrev pub by_value_claim : Claim by_value.ended
 by_value_claim κs a r e =
@@ -59,9 +67,12 @@ pub by_value_unique : OneOutcome by_value.ended by_value_claim
 by_value_unique κs a z₁ z₂ w₁ w₂ p q =
     both (λ (x : Received). heard x.answer x.events) (λ x. (tt, (tt, (x.contents.words, (x.contents.bytes, (tt, (tt, (tt, (tt, (tt, tt)))))))))) p q
 
+pub consume_by_value_unique : Unique 5 by_value-kinds.ps by_value-kinds.r by_value-reads.Post
+consume_by_value_unique κs a z₁ z₂ w₁ w₂ p q = by_value_unique κs a z₁ z₂ w₁ w₂ p q
+
 -- ---- read_part returns a part of what was lent: its contract determines the part's bytes, and not where they stand
 abbrev pub part_contract : Contract read-part.ended
-part_contract M 𝓤 = read-part.clauses 𝓤
+part_contract M 𝓤 𝓛 = read-part.clauses 𝓛
 
 abbrev pub part_claim : Claim read-part.ended
 part_claim κs a r e = r.now ≡ part_in a.1.1.1.0.now (read_of (dict a.0.now a.1.0.now a.1.1.0.now a.1.1.1.0.now) a.1.1.1.1.0 a.1.1.1.1.1.0)

@@ -4,7 +4,7 @@ use contract.Lifetimes.{Lfts}
 use borrow.Fn.Kinds.{ParamKind, ResultKind, Dens, Out, res_t, ended_of}
 use denote.Triple.Entry.{Args, Res}
 use denote.Triple.Clauses.{Ended, Lasts, at_exit}
-use Rattle.uniqueness.specs.Contracts.{Claim}
+use Rattle.uniqueness.specs.Promises.{Claim}
 
 -- ---- of a definition: of an outcome x with an answer in it, where the answer is what is said of a refusal, the rest is what was lent; `same a` is the
 -- outcome of answer a in which nothing has changed. R is `Refusal`, or `CodecFault` of a write's data that does not decode.
