@@ -22,6 +22,7 @@ fn cause_of(kind: u64, start: u16, len: u16) -> Cause
     Cause::Odd
 }
 
+#[tactic(auto, unfolding(crate::specs::Record::event_of))]
 fn event_of(kind: u64, index: u16, start: u16, len: u16) -> Event
     ensures { result ≡ event_of kind index start len }
 {

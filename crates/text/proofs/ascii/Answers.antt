@@ -19,9 +19,6 @@ loop-i-init c =
 pub bounds-s-i : goal.bounds-s-i
 bounds-s-i c = omega arith
 
-pub returns-then-s-i-gt127 : goal.returns-then-s-i-gt127
-returns-then-s-i-gt127 c = search rules
-
 pub overflow_add-i : goal.overflow_add-i
 overflow_add-i c = omega arith
 
@@ -32,7 +29,7 @@ pub loop-i-preserved : goal.loop-i-preserved
 loop-i-preserved c =
     let l = c.loop-i in
     let a = c.args in
-    more a.s.now a.from l.i (l.i + 1) l.invariant refl (omega arith) c.if-s-i-gt127.false
+    more a.s.now a.from l.i (l.i + 1) l.invariant refl (omega arith) (omega arith)
 
 pub returns : goal.returns
 returns c = search rules
