@@ -99,6 +99,7 @@ fn entry_numbers(word: u64) -> [u64; 9]
     ]
 }
 
+#[tactic(auto, using(c_answers::proofs::ResultLaws::results_short, c_answers::proofs::ResultLaws::results_done), unfolding(crate::specs::Codec::entry_numbers))]
 pub fn loomfinch_from_u64(word: u64, numbers: &mut [u64]) -> u64
     ensures { lent result numbers.new ≡ results (entry_numbers word) numbers.old }
 {
