@@ -9,55 +9,55 @@ use native.Mathlib.Omega.{arith}
 use Rattle.fitting.proofs.looking.look_up.Statement.{statement}
 use Rattle.fitting.proofs.looking.look_up.Tie as tie
 
-found : (c : tie.After-seek) → record_of c.before.before.before.args.store.now c.before.before.before.args.key ≡ stopped c.before.before.before.args.store.now c.before.before.before.args.n c.seek.result c.before.before.before.args.key
+found : (c : tie.After-seek-r) → record_of c.args.store.now c.args.key ≡ stopped c.args.store.now c.args.n c.seek-r.result c.args.key
 found c =
-    let f = c.before in
-    let s = f.before.before in
-    looked_up s.args.store.now s.args.n f.start-from.result s.args.key c.seek.result s.requires.0 f.start-from.ensures c.seek.ensures
+    let f = c in
+    let s = f in
+    looked_up s.args.store.now s.args.n f.start_from-from.result s.args.key c.seek-r.result s.requires.0 f.start_from-from.ensures c.seek-r.ensures
 
-within : (c : tie.After-seek) → c.seek.result ≤ c.before.before.before.args.n
+within : (c : tie.After-seek-r) → c.seek-r.result ≤ c.args.n
 within c =
-    let f = c.before in
-    let s = f.before.before in
-    omega (arith, c.seek.ensures, sought_within s.args.store.now s.args.n f.start-from.result s.args.key f.start-from.ensures.here)
+    let f = c in
+    let s = f in
+    omega (arith, c.seek-r.ensures, sought_within s.args.store.now s.args.n f.start_from-from.result s.args.key f.start_from-from.ensures.here)
 
-there : (c : tie.Then1) → Lies c.before.before.before.before.args.store.now c.before.seek.result
+there : (c : tie.Then-r-n) → Lies c.args.store.now c.seek-r.result
 there c =
-    let s = c.before.before.before.before in lies s.args.store.now c.before.seek.result (omega (arith, s.requires.0, c.if1.true))
+    let s = c in lies s.args.store.now c.seek-r.result (omega (arith, s.requires.0, c.if-r-n.true))
 
-start-from-requires : tie.Need-start-from-requires
-start-from-requires c κs = c.before.requires
+start-from-requires : tie.Need-start_from-from-requires
+start-from-requires c κs = c.requires
 
-seek-requires : tie.Need-seek-requires
-seek-requires c κs = (c.before.before.requires.0, c.start-from.ensures.here)
+seek-requires : tie.Need-seek-r-requires
+seek-requires c κs = (c.requires.0, c.start_from-from.ensures.here)
 
-mul-a : tie.Need-overflow-mul-a
-mul-a c = let s = c.before.before.before.before in omega (arith, (there c).few, s.requires.0, c.if1.true)
+mul-a : tie.Need-overflow_mul-a
+mul-a c = let s = c in omega (arith, (there c).few, s.requires.0, c.if-r-n.true)
 
-add_a : tie.Need-overflow-add-a
-add_a c = let s = c.before.before.before.before in omega (arith, (there c).few, s.requires.0, c.if1.true)
+add_a : tie.Need-overflow_add-a
+add_a c = let s = c in omega (arith, (there c).few, s.requires.0, c.if-r-n.true)
 
-key-in-requires : tie.Need-key-in-requires
+key-in-requires : tie.Need-key_in-requires
 key-in-requires c κs = omega (arith, (there c).inside)
 
-returns : tie.Need-returns
+returns : tie.Need-returns-then-key_in-key
 returns c =
     let k = c.before in
     let i = k.before in
-    (sym (found i.before ∙ rw (lt-ltb _ _ i.if1.true, eq-eqb _ _ (sym k.key_in.ensures ∙ c.if2.true))), omega (arith, i.if1.true))
+    (sym (found i.before ∙ rw (lt-ltb _ _ i.if-r-n.true, eq-eqb _ _ (sym k.key_in.ensures ∙ c.if-key_in-key.true))), omega (arith, i.if-r-n.true))
 
-returns-2 : tie.Need-returns-2
+returns-2 : tie.Need-returns-else-key_in-key
 returns-2 c =
     let k = c.before in
     let i = k.before in
-    (sym (found i.before ∙ rw (lt-ltb _ _ i.if1.true, ne_eqb _ _ (λ z. c.if2.false (k.key_in.ensures ∙ z)))), omega (arith, i.if1.true))
+    (sym (found i.before ∙ rw (lt-ltb _ _ i.if-r-n.true, ne_eqb _ _ (λ z. c.if-key_in-key.false (k.key_in.ensures ∙ z)))), omega (arith, i.if-r-n.true))
 
-returns-3 : tie.Need-returns-3
+returns-3 : tie.Need-returns-else-r-n
 returns-3 c =
-    (sym (found c.before ∙ rw (le-ltb c.before.seek.result c.before.before.before.before.args.n (omega (arith, c.if1.false)))), within c.before)
+    (sym (found c.before ∙ rw (le-ltb c.seek-r.result c.args.n (omega (arith, c.if-r-n.false)))), within c.before)
 
-pub look-up-spec : {M : Type 1} → statement M
-look-up-spec =
+pub look_up_spec : {M : Type 1} → statement M
+look_up_spec =
     tie.close
     (tie.spec
     start-from-requires

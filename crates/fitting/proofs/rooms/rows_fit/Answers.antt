@@ -1,0 +1,72 @@
+-- `fitting::rooms::rows_fit` meets its contract: whether all rows fit is whether those from here on do. Assumes nothing.
+use mathlib.Core.Path.{◌≡◌, sym, ap, ◌∙◌}
+use mathlib.Core.Bool.{Bool, true, false, not, ◌&&◌, ◌||◌}
+use mathlib.Core.List.{List}
+use Prim.Native.Nat.{ℕ, ◌+◌, ◌-◌, ◌≤◌, ◌<◌}
+use Rattle.entry.specs.Table.{Dict, dict, number_of, index_at, count_at}
+use Rattle.entry.proofs.ValueLaws.{rows_of, row_lies}
+use Rattle.fitting.specs.Fit.{values_fit, restorable, rows_fit}
+use Rattle.fitting.proofs.WalkLaws.{rows_fit_step, rows_fit_from, rows_fit_end, in_range_lem}
+use Rattle.image.specs.Ranges.{Spans}
+use Rattle.image.specs.declared.ranging.Span.{Span}
+use borrow.Author.Tests.{not-true, not-false}
+use native.Mathlib.Omega.{arith}
+use Rattle.fitting.proofs.rooms.rows_fit.Goals as goal
+use Rattle.fitting.proofs.rooms.rows_fit.Goals.{then-restorable+else-not-f, else-restorable}
+
+module _ (d : Dict) (s : List ℕ) (first last : ℕ) (r : Span) (c : Spans d.objects first last r) (i : ℕ) (lo : r.from ≤ i) (hi : i < r.end)
+    (e : rows_fit d s first last (number_of d.objects - i) i ≡ rows_fit d s first last (number_of d.objects) 0)
+    (x : ℕ) (ix : x ≡ index_at d.objects i) (b : Bool) (q : b ≡ restorable x) where
+  -- the whole, as this row and those behind it
+  sofar : rows_fit d s first last (number_of d.objects) 0 ≡ ((not b || values_fit d s i (count_at d.objects i) 0) && rows_fit d s first last (number_of d.objects - (i + 1)) (i + 1))
+  sofar =
+      rw (in_range_lem c i b lo hi (q ∙ ap restorable ix)) (sym e ∙ rows_fit_step d s first last (number_of d.objects) i (omega (arith, c.high.within)))
+
+  fails : b ≡ true → (f : Bool) → f ≡ values_fit d s i (count_at d.objects i) 0 → f ≡ false → false ≡ rows_fit d s first last (number_of d.objects) 0
+  fails z f h g = sym (sofar ∙ rw (z, sym h ∙ g))
+
+  goes-on : (not b || values_fit d s i (count_at d.objects i) 0) ≡ true → rows_fit d s first last (number_of d.objects - (i + 1)) (i + 1) ≡ rows_fit d s first last (number_of d.objects) 0
+  goes-on z = sym (sofar ∙ rw z)
+
+passes : (b v f : Bool) → b ≡ true → f ≡ v → f ≡ true → (not b || v) ≡ true
+passes b v f e h g = rw (e, sym h ∙ g)
+
+skips : (b v : Bool) → b ≡ false → (not b || v) ≡ true
+skips b v e = rw e
+
+pub rows_in-rows-requires : goal.rows_in-rows-requires
+rows_in-rows-requires c = rows_of (dict c.args.objects.now c.args.slots.now c.args.words.now c.args.bytes.now) c.requires.bytes_value
+
+pub loop-i-init : goal.loop-i-init
+loop-i-init c =
+    let d = dict c.args.objects.now c.args.slots.now c.args.words.now c.args.bytes.now in
+    (omega arith, c.rows_in-rows.ensures.low.within, omega arith, sym (rows_fit_from d c.args.store.now c.args.first c.args.last c.rows_in-rows.ensures))
+
+pub index_at-requires : goal.index_at-requires
+index_at-requires c =
+    let d = dict c.args.objects.now c.args.slots.now c.args.words.now c.args.bytes.now in
+    let r = row_lies d c.requires.bytes_value c.loop-i.i (omega (arith, c.loop-i-test.true, c.rows_in-rows.ensures.high.within)) in
+    (r.small, r.inside)
+
+pub returns-then-not-f : goal.returns-then-not-f
+returns-then-not-f c =
+    let d = dict c.args.objects.now c.args.slots.now c.args.words.now c.args.bytes.now in
+    fails d c.args.store.now c.args.first c.args.last _ c.rows_in-rows.ensures c.loop-i.i c.loop-i.invariant.0 c.loop-i-test.true c.loop-i.invariant.3 _ c.index_at.ensures _ c.restorable.ensures c.if-restorable.true _ c.values_fit-f.ensures.fits (not-true _ c.if-not-f.true)
+
+pub loop-i-preserved : goal.loop-i-preserved
+loop-i-preserved c =
+    let d = dict c.args.objects.now c.args.slots.now c.args.words.now c.args.bytes.now in
+    let near : c.if-restorable.at ≤ c.args.n = elim c.if-restorable.branch [
+      | then-restorable+else-not-f w ↦ omega (arith, w.at-is, w.values_fit-f.ensures.near)
+      | else-restorable w ↦ omega (arith, w.at-is, c.loop-i.invariant.2)
+    ] in
+    let fine : (not c.restorable.result || values_fit d c.args.store.now c.loop-i.i (count_at d.objects c.loop-i.i) 0) ≡ true = elim c.if-restorable.branch [
+      | then-restorable+else-not-f w ↦ passes c.restorable.result _ _ w.if-restorable.true w.values_fit-f.ensures.fits (not-false _ w.if-not-f.false)
+      | else-restorable w ↦ skips c.restorable.result _ w.if-restorable.false
+    ] in
+    (omega arith, omega (arith, c.loop-i-test.true, c.rows_in-rows.ensures.high.within), near, goes-on d c.args.store.now c.args.first c.args.last _ c.rows_in-rows.ensures c.loop-i.i c.loop-i.invariant.0 c.loop-i-test.true c.loop-i.invariant.3 _ c.index_at.ensures _ c.restorable.ensures fine)
+
+pub returns : goal.returns
+returns c =
+    let d = dict c.args.objects.now c.args.slots.now c.args.words.now c.args.bytes.now in
+    sym (rows_fit_end d c.args.store.now c.args.first c.args.last c.rows_in-rows.ensures c.loop-i.i c.loop-i-test.false c.loop-i.invariant.1) ∙ c.loop-i.invariant.3

@@ -1,0 +1,47 @@
+-- `fitting::rooms::values_fit` meets its contract: whether all values fit is whether those from here on do. Assumes nothing.
+use mathlib.Core.Path.{◌≡◌, sym, ap, ◌∙◌}
+use mathlib.Core.Bool.{Bool, true, false, ◌&&◌}
+use mathlib.Core.List.{List}
+use Prim.Native.Nat.{ℕ, ◌+◌, ◌-◌, ◌<◌}
+use Rattle.entry.specs.Table.{Dict, dict}
+use Rattle.entry.proofs.ValueLaws.{row_lies}
+use Rattle.fitting.specs.Fit.{slot_in, chosen_at, fits_room, values_fit}
+use Rattle.fitting.proofs.WalkLaws.{fit_step, fit_end}
+use borrow.Author.Tests.{not-true, not-false}
+use native.Mathlib.Omega.{arith}
+use Rattle.fitting.proofs.rooms.values_fit.Goals as goal
+
+-- the whole, as this value and those behind it
+module _ (d : Dict) (s : List ℕ) (i n k : ℕ) (h : k < n) (e : values_fit d s i (n - k) k ≡ values_fit d s i n 0) (b : Bool) (q : b ≡ fits_room d s (slot_in d.objects i k) (chosen_at d s i k)) where
+  sofar : values_fit d s i n 0 ≡ (b && values_fit d s i (n - (k + 1)) (k + 1))
+  sofar = rw q (sym e ∙ fit_step d s i n k h)
+
+  fails : b ≡ false → false ≡ values_fit d s i n 0
+  fails z = sym (sofar ∙ rw z)
+
+  goes-on : b ≡ true → values_fit d s i (n - (k + 1)) (k + 1) ≡ values_fit d s i n 0
+  goes-on z = sym (sofar ∙ rw z)
+
+pub count_at-count-requires : goal.count_at-count-requires
+count_at-count-requires c =
+    let d = dict c.args.objects.now c.args.slots.now c.args.words.now c.args.bytes.now in
+    let r = row_lies d c.requires.bytes_value c.args.i c.requires.i_bound in
+    (r.small, r.inside)
+
+pub returns-then-not-f-clause-fits : goal.returns-then-not-f-clause-fits
+returns-then-not-f-clause-fits c =
+    let d = dict c.args.objects.now c.args.slots.now c.args.words.now c.args.bytes.now in
+    fails d c.args.store.now c.args.i c.count_at-count.result c.loop-k.k c.loop-k-test.true c.loop-k.invariant.2 _ c.value_fits-f.ensures.fits (not-true _ c.if-not-f.true)
+    ∙ ap (λ m. values_fit d c.args.store.now c.args.i m 0) c.count_at-count.ensures
+
+pub loop-k-preserved : goal.loop-k-preserved
+loop-k-preserved c =
+    let d = dict c.args.objects.now c.args.slots.now c.args.words.now c.args.bytes.now in
+    (omega arith, c.value_fits-f.ensures.near, goes-on d c.args.store.now c.args.i c.count_at-count.result c.loop-k.k c.loop-k-test.true c.loop-k.invariant.2 _ c.value_fits-f.ensures.fits (not-false _ c.if-not-f.false))
+
+pub returns-clause-fits : goal.returns-clause-fits
+returns-clause-fits c =
+    let d = dict c.args.objects.now c.args.slots.now c.args.words.now c.args.bytes.now in
+    sym (fit_end d c.args.store.now c.args.i c.count_at-count.result c.loop-k.k c.loop-k-test.false)
+    ∙ c.loop-k.invariant.2
+    ∙ ap (λ m. values_fit d c.args.store.now c.args.i m 0) c.count_at-count.ensures
