@@ -11,69 +11,69 @@ use borrow.Author.Rules.{rules}
 use Rattle.placing.proofs.fill_rooms.Statement.{statement}
 use Rattle.placing.proofs.fill_rooms.Tie as tie
 
-abbrev invariant-loop : tie.invariant-loop
+abbrev invariant-loop : tie.invariant-loop-j
 invariant-loop bytes₀ at vals encodings u j₀ p₀ t₀ bytes j p t =
     (j ≤ u) × (length bytes ≡ length bytes₀) × (p + rooms_in vals (u - j) j ≡ at + rooms_in vals u 0) × (t + lengths_in vals (u - j) j ≡ lengths_in vals u 0) × (over bytes₀ at (rooms (given vals encodings u 0 0)) ≡ over bytes p (rooms (given vals encodings (u - j) j t)))
 
-abbrev decreases-loop : tie.decreases-loop
+abbrev decreases-loop : tie.decreases-loop-j
 decreases-loop bytes₀ at vals encodings u j₀ p₀ t₀ bytes j p t = u - j
 
-abbrev start : tie.At-loop invariant-loop decreases-loop → tie.Start invariant-loop decreases-loop
+abbrev start : tie.At-loop-j invariant-loop decreases-loop → tie.Start invariant-loop decreases-loop
 start k = k.before.before.before.before
 
-fits : (c : tie.In-loop invariant-loop decreases-loop) → (c.before.loop.p + room_in (start c.before).args.vals.now c.before.loop.j ≤ length (start c.before).args.bytes.now) × (c.before.loop.t + length_in (start c.before).args.vals.now c.before.loop.j ≤ length (start c.before).args.encodings.now)
+fits : (c : tie.In-loop-j invariant-loop decreases-loop) → (c.loop-j.p + room_in (start c.before).args.vals.now c.loop-j.j ≤ length (start c.before).args.bytes.now) × (c.loop-j.t + length_in (start c.before).args.vals.now c.loop-j.j ≤ length (start c.before).args.encodings.now)
 fits c =
     let k = c.before in
     let s = start k in
     let a = s.args in (
-      omega (arith, rooms_more a.vals.now a.u k.loop.j c.loop-test.true, k.loop.invariant.2, s.pre.0),
-      omega (arith, lengths_more a.vals.now a.u k.loop.j c.loop-test.true, k.loop.invariant.3, s.pre.1.encoded),
+      omega (arith, rooms_more a.vals.now a.u k.loop-j.j c.loop-j-test.true, k.loop-j.invariant.2, s.requires.0),
+      omega (arith, lengths_more a.vals.now a.u k.loop-j.j c.loop-j-test.true, k.loop-j.invariant.3, s.requires.1.encoded),
     )
 
 -- how many bytes of its room the value takes
-held-is : (c : tie.After-held-of invariant-loop decreases-loop) → let k = c.before.before.before.before.before in c.held_of.result ≡ held_in (start k).args.vals.now k.loop.j
-held-is c = rw (c.before.type-in.ensures, c.before.before.length-in.ensures) at c.held_of.ensures
+held-is : (c : tie.After-held_of-held invariant-loop decreases-loop) → let k = c.before.before.before.before.before in c.held_of-held.result ≡ held_in (start k).args.vals.now k.loop-j.j
+held-is c = rw (c.type_in.ensures, c.length_in-len.ensures) at c.held_of-held.ensures
 
-loop-holds : tie.Need-loop-init invariant-loop decreases-loop
+loop-holds : tie.Need-loop-j-init invariant-loop decreases-loop
 loop-holds c =
-    let a = c.before.before.before.args in
+    let a = c.args in
     let f : a.u - 0 ≡ a.u = omega arith in
     (omega arith, refl, rw f, rw f (omega arith), rw f)
 
-fill-room-requires : tie.Need-fill-room-requires invariant-loop decreases-loop
+fill-room-requires : tie.Need-fill_room-requires invariant-loop decreases-loop
 fill-room-requires c κs =
     let k = c.before.before.before.before.before in
-    let w = (start k.before).pre.1.within k.before.loop.j k.loop-test.true in
-    let r = c.before.before.before.before.room_in.ensures in
+    let w = (start k.before).requires.1.within k.loop-j.j k.loop-j-test.true in
+    let r = c.room_in-room.ensures in
     let n = held-is c.before in
-    (omega (arith, (fits k).0, k.before.loop.invariant.1, r), omega (arith, (fits k).1, held_few (start k.before).args.vals.now k.before.loop.j, n), omega (arith, w, n, r))
+    (omega (arith, (fits k).0, k.loop-j.invariant.1, r), omega (arith, (fits k).1, held_few (start k.before).args.vals.now k.loop-j.j, n), omega (arith, w, n, r))
 
-add-p : tie.Need-overflow-add-p invariant-loop decreases-loop
+add-p : tie.Need-overflow_add-p invariant-loop decreases-loop
 add-p c = omega (arith, (fits c.before.before.before.before.before.before.before.before).0)
 
-add-t : tie.Need-overflow-add-t invariant-loop decreases-loop
+add-t : tie.Need-overflow_add-t invariant-loop decreases-loop
 add-t c = omega (arith, (fits c.before.before.before.before.before.before.before.before).1)
 
-loop-again : tie.Need-loop-preserved invariant-loop decreases-loop
+loop-again : tie.Need-loop-j-preserved invariant-loop decreases-loop
 loop-again c =
     let k = c.before.before.before.before.before.before.before.before in
-    let l = k.before.loop in
+    let l = k.loop-j in
     let a = (start k.before).args in
-    let h = k.loop-test.true in
+    let h = k.loop-j-test.true in
     let n = held-is c.before.before.before.before in (
       omega arith,
       omega arith,
       omega (arith, rooms_more a.vals.now a.u l.j h, l.invariant.2),
       omega (arith, lengths_more a.vals.now a.u l.j h, l.invariant.3),
-      l.invariant.4 ∙ rooms-laid a.vals.now a.encodings.now l.bytes a.u l.j l.p l.t h (omega (arith, (fits k).0, l.invariant.1)) ∙ rw (c.before.before.fill-room.ensures, n, c.before.before.before.before.before.before.before.room_in.ensures, c.before.before.before.before.before.before.length-in.ensures),
+      l.invariant.4 ∙ rooms-laid a.vals.now a.encodings.now l.bytes a.u l.j l.p l.t h (omega (arith, (fits k).0, l.invariant.1)) ∙ rw (c.fill_room.ensures, n, c.room_in-room.ensures, c.length_in-len.ensures),
     )
 
 returns : tie.Need-returns invariant-loop decreases-loop
 returns c =
-    sym (c.before.loop.invariant.4 ∙ none_left _ _ _ (length-rooms _ _ _ _ _ ∙ rooms_none _ _ _ (omega arith)))
+    sym (c.loop-j.invariant.4 ∙ none_left _ _ _ (length-rooms _ _ _ _ _ ∙ rooms_none _ _ _ (omega arith)))
 
-pub fill-rooms-spec : {M : Type 1} → statement M
-fill-rooms-spec =
+pub fill_rooms_spec : {M : Type 1} → statement M
+fill_rooms_spec =
     tie.close
     (tie.spec
     invariant-loop

@@ -11,45 +11,45 @@ use Rattle.given.proofs.GivenLaws.{rooms_more, slots_more, none_left, length-slo
 use Rattle.placing.proofs.fill_slots.Statement.{statement}
 use Rattle.placing.proofs.fill_slots.Tie as tie
 
-abbrev invariant-loop : tie.invariant-loop
+abbrev invariant-loop : tie.invariant-loop-j
 invariant-loop slots₀ v b vals u j₀ start₀ slots j start =
     (j ≤ u) × (length slots ≡ length slots₀) × (start + rooms_in vals (u - j) j ≡ b + rooms_in vals u 0) × (over slots₀ (3 * v) (slots_in vals u 0 b) ≡ over slots (3 * (v + j)) (slots_in vals (u - j) j start))
 
-abbrev decreases-loop : tie.decreases-loop
+abbrev decreases-loop : tie.decreases-loop-j
 decreases-loop slots₀ v b vals u j₀ start₀ slots j start = u - j
 
-abbrev start_of : tie.At-loop invariant-loop decreases-loop → tie.Start invariant-loop decreases-loop
+abbrev start_of : tie.At-loop-j invariant-loop decreases-loop → tie.Start invariant-loop decreases-loop
 start_of k = k.before.before.before
 
-room_fits : (c : tie.In-loop invariant-loop decreases-loop) → c.before.loop.start + room_in (start_of c.before).args.vals.now c.before.loop.j ≤ 32768
+room_fits : (c : tie.In-loop-j invariant-loop decreases-loop) → c.loop-j.start + room_in (start_of c.before).args.vals.now c.loop-j.j ≤ 32768
 room_fits c =
-    omega (arith, rooms_more (start_of c.before).args.vals.now (start_of c.before).args.u c.before.loop.j c.loop-test.true, c.before.loop.invariant.2, (start_of c.before).pre.1)
+    omega (arith, rooms_more (start_of c.before).args.vals.now (start_of c.before).args.u c.loop-j.j c.loop-j-test.true, c.loop-j.invariant.2, (start_of c.before).requires.1)
 
-loop-holds : tie.Need-loop-init invariant-loop decreases-loop
+loop-holds : tie.Need-loop-j-init invariant-loop decreases-loop
 loop-holds c =
-    let a = c.before.before.args in
+    let a = c.args in
     let f : a.u - 0 ≡ a.u = omega arith in
     (omega arith, refl, rw f, rw (f, add-zero))
 
-add_start : tie.Need-overflow-add-start invariant-loop decreases-loop
+add_start : tie.Need-overflow_add-start invariant-loop decreases-loop
 add_start c = omega (arith, room_fits c.before.before.before.before.before.before)
 
-loop-again : tie.Need-loop-preserved invariant-loop decreases-loop
+loop-again : tie.Need-loop-j-preserved invariant-loop decreases-loop
 loop-again c =
     let k = c.before.before.before.before.before.before in
-    let l = k.before.loop in
+    let l = k.loop-j in
     let a = (start_of k.before).args in (
       omega arith,
       omega arith,
-      omega (arith, rooms_more a.vals.now a.u l.j k.loop-test.true, l.invariant.2),
-      l.invariant.3 ∙ slots_more a.vals.now l.slots a.v a.u l.j l.start (omega arith) (omega arith) ∙ rw (c.before.before.set-slot.ensures, c.before.before.before.type-in.ensures, c.before.before.before.before.before.room_in.ensures),
+      omega (arith, rooms_more a.vals.now a.u l.j k.loop-j-test.true, l.invariant.2),
+      l.invariant.3 ∙ slots_more a.vals.now l.slots a.v a.u l.j l.start (omega arith) (omega arith) ∙ rw (c.set_slot.ensures, c.type_in.ensures, c.room_in-room.ensures),
     )
 
 returns : tie.Need-returns invariant-loop decreases-loop
-returns c = sym (c.before.loop.invariant.3 ∙ none_left _ _ _ (length-slots_in _ _ _ _ ∙ omega arith))
+returns c = sym (c.loop-j.invariant.3 ∙ none_left _ _ _ (length-slots_in _ _ _ _ ∙ omega arith))
 
-pub fill-slots-spec : {M : Type 1} → statement M
-fill-slots-spec =
+pub fill_slots_spec : {M : Type 1} → statement M
+fill_slots_spec =
     tie.close
     (tie.spec
     invariant-loop

@@ -11,13 +11,11 @@ use Rattle.entry.specs.Model.{rooms}
 use Rattle.given.specs.Given.{given}
 use Rattle.given.proofs.GivenLaws.{length-rooms}
 use native.Mathlib.Omega.{arith}
-use borrow.Author.Rules.{rules}
-use Rattle.placing.proofs.insert_bytes.Statement.{statement}
-use Rattle.placing.proofs.insert_bytes.Tie as tie
+use Rattle.placing.proofs.insert_bytes.Goals as goal
 
-returns : tie.Need-returns
+pub returns : goal.returns
 returns c =
-    let k = c.before.before.before.before.before.before.before.before.before.before.before.before.before.before.before.before in
+    let k = c in
     let a = k.args in
     let s = a.bytes.now in
     let r = rooms (given a.vals.now a.encodings.now a.u 0 0) in
@@ -27,16 +25,5 @@ returns c =
     let o = over s (a.b + a.g) (slice a.b a.used s) in
     let ln = length_over s (a.b + a.g) (slice a.b a.used s) (omega (arith, sl, k.requires)) in
     let ol : a.b + length a.name.now ≤ length o = omega (arith, ln, k.requires) in
-    c.before.before.fill-rooms.ensures ∙ rw (c.before.before.before.before.before.before.lay.ensures, c.before.before.before.before.before.before.before.before.before.before.move-up-bytes.ensures)
+    c.fill_rooms.ensures ∙ rw (c.lay.ensures, c.move_up_bytes.ensures)
     (over-over o a.b a.name.now (a.b + length a.name.now) r refl ol ∙ fill_gap s a.b a.used a.g (a.name.now ++ r) l k.requires.0 k.requires.1)
-
-pub insert-bytes-spec : {M : Type 1} → statement M
-insert-bytes-spec =
-    tie.close
-    (tie.spec
-    (λ c κs. search rules)
-    (λ c κs. search rules)
-    (λ c. search rules)
-    (λ c κs. search rules)
-    (λ c. search rules)
-    returns)
