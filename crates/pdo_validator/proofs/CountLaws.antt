@@ -1,5 +1,5 @@
 -- The walk over the mapping words. Assumes nothing.
-use mathlib.Core.Path.{◌≡◌}
+use mathlib.Core.Path.{◌≡◌, refl}
 use mathlib.Core.Bool.{cond}
 use mathlib.Core.List.{List}
 use Prim.Native.Nat.{ℕ, suc, ◌+◌, ◌-◌, ◌<◌, ◌≤◌}
@@ -9,6 +9,8 @@ use lib.Dec.{eqb}
 use lib.ListN.{get_or}
 use Rattle.mapping.specs.Word.{entry_of, end_of}
 use Rattle.entry.specs.Table.{type_at}
+use Rattle.entry.specs.declared.Place.{Place}
+use Rattle.entry.specs.declared.Place.TheVariants.{NoObject, NoSub, Count, Value}
 use Rattle.pdo_validator.specs.declared.Mapped.{Mapped}
 use Rattle.pdo_validator.specs.declared.Mapped.TheVariants.{Upto, Missing}
 use Rattle.pdo_validator.specs.Counting.{most, ends_from}
@@ -40,3 +42,10 @@ rest_all slots words n p k e a b =
     let x : n - 0 ≡ n = omega arith in
     let y : p + 0 ≡ p = omega arith in
     rw (a, b, x, y)
+
+-- what a definition comes to at a place that is no value's, where it says the same of the three others
+pub not_value : {A : Type 0} (f : Place → A) {x : A} → x ≡ f NoObject → x ≡ f NoSub → ((n : ℕ) → x ≡ f (Count n)) → (a : Place) → ((p : ℕ) → a ≡ Value p → ⊥) → x ≡ f a
+not_value f o s c NoObject k = o
+not_value f o s c NoSub k = s
+not_value f o s c (Count n) k = c n
+not_value f o s c (Value p) k = absurd (k p refl)

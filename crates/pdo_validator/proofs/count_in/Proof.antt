@@ -16,50 +16,50 @@ use Rattle.pdo_validator.proofs.count_in.Tie as tie
 abbrev D : tie.Start → Dict
 D s = dict s.args.objects.now s.args.slots.now s.args.words.now s.args.bytes.now
 
-abbrev start : tie.After-kind-at → tie.Start
+abbrev start : tie.After-kind_at → tie.Start
 start c = c.before.before.before.before.before
 
 inside : (s : tie.Start) → (s.args.i < 1024) × (12 * s.args.i + 24 ≤ length s.args.objects.now)
 inside s = let r = row_lies (D s) s.requires.0 s.args.i s.requires.1 in (r.small, r.inside)
 
-array : (c : tie.Else1) → eqb (kind_at (start c.before).args.objects.now (start c.before).args.i) 1 ≡ true
-array c = eq-eqb _ 1 (sym c.before.kind_at.ensures ∙ c.if1.false)
+array : (c : tie.Else-kind_at-ne1) → eqb (kind_at (start c.before).args.objects.now (start c.before).args.i) 1 ≡ true
+array c = eq-eqb _ 1 (sym c.kind_at.ensures ∙ c.if-kind_at-ne1.false)
 
-enough : (c : tie.Else2) → let a = (start c.before.before.before).args in leb a.n (count_at a.objects.now a.i) ≡ true
-enough c = let a = (start c.before.before.before).args in le-leb a.n (count_at a.objects.now a.i) (omega (arith, c.before.count_at.ensures, c.if2.false))
+enough : (c : tie.Else-count_at-n) → let a = (start c.before.before.before).args in leb a.n (count_at a.objects.now a.i) ≡ true
+enough c = let a = (start c.before.before.before).args in le-leb a.n (count_at a.objects.now a.i) (omega (arith, c.count_at.ensures, c.if-count_at-n.false))
 
-kind-at-requires : tie.Need-kind-at-requires
+kind-at-requires : tie.Need-kind_at-requires
 kind-at-requires c κs =
     inside c.before.before.before.before
 
-returns : tie.Need-returns
+returns : tie.Need-returns-then-kind_at-ne1
 unfolding count_on
 returns c =
-    let k = c.before in simp (ne_eqb _ 1 (λ q. c.if1.true (k.kind_at.ensures ∙ q)))
+    let k = c in simp (ne_eqb _ 1 (λ q. c.if-kind_at-ne1.true (k.kind_at.ensures ∙ q)))
 
-count-at-requires : tie.Need-count-at-requires
+count-at-requires : tie.Need-count_at-requires
 count-at-requires c κs =
     inside (start c.before)
 
-returns-2 : tie.Need-returns-2
+returns-2 : tie.Need-returns-then-count_at-n
 unfolding count_on
 returns-2 c =
     let n = c.before in
     let k = n.before.before in
     let s = start k in
-    simp (array n.before, lt-leb s.args.n (count_at s.args.objects.now s.args.i) (omega (arith, n.count_at.ensures, c.if2.true)))
+    simp (array n.before, lt-leb s.args.n (count_at s.args.objects.now s.args.i) (omega (arith, n.count_at.ensures, c.if-count_at-n.true)))
 
-first-at-requires : tie.Need-first-at-requires
+first-at-requires : tie.Need-first_at-first-requires
 first-at-requires c κs =
     inside (start c.before.before.before)
 
-ends-requires : tie.Need-ends-requires
+ends-requires : tie.Need-ends-found-requires
 ends-requires c κs =
     let i = c.before in
     let s = start i.before.before.before in
-    simp c.first-at.ensures (elements_lie (D s) s.pre.0 s.args.i s.args.n s.pre.1 (omega (arith, i.before.count_at.ensures, i.if2.false)))
+    simp c.first_at-first.ensures (elements_lie (D s) s.requires.0 s.args.i s.args.n s.requires.1 (omega (arith, i.count_at.ensures, i.if-count_at-n.false)))
 
-returns-3 : tie.Need-returns-3
+returns-3 : tie.Need-returns
 unfolding count_on
 returns-3 c =
     let e = c.before.before in
@@ -67,10 +67,10 @@ returns-3 c =
     let k = f.before.before.before.before in
     let s = start k in
     simp (array f.before.before.before, enough f.before)
-    (c.fits2.ensures ∙ ap₂ within_limit c.before.limit.ensures (e.ends.ensures ∙ ap (λ p. ends_from s.args.slots.now s.args.words.now s.args.n p 0) f.first-at.ensures))
+    (c.fits.ensures ∙ ap₂ within_limit c.limit.ensures (e.ends-found.ensures ∙ ap (λ p. ends_from s.args.slots.now s.args.words.now s.args.n p 0) f.first_at-first.ensures))
 
-pub count-in-spec : {M : Type 1} → statement M
-count-in-spec =
+pub count_in_spec : {M : Type 1} → statement M
+count_in_spec =
     tie.close
     (tie.spec
     kind-at-requires
