@@ -20,21 +20,27 @@ no-edition e = go (eqb e 1) (eqb e 2)
     go true b = refl
     go false b = refl
 
-an-edition : (c : tie.Else1) → is_edition c.before.before.args.edition ≡ true
-an-edition c = let e = c.before.before.args.edition in not-false (is_edition e) (sym (no-edition e) ∙ c.if1.false)
+an-edition : (c : tie.Else-edition) → is_edition c.args.edition ≡ true
+an-edition c = let e = c.args.edition in not-false (is_edition e) (sym (no-edition e) ∙ c.if-edition.false)
 
-returns : tie.Need-returns
-returns c = let e = c.before.before.args.edition in simp (not-true (is_edition e) (sym (no-edition e) ∙ c.if1.true))
+returns : tie.Need-returns-then-edition
+returns c = let e = c.args.edition in simp (not-true (is_edition e) (sym (no-edition e) ∙ c.if-edition.true))
 
-returns-2 : tie.Need-returns-2
-returns-2 c = simp (an-edition c.before.before, lt-ltb _ _ (rw c.before.row.ensures at c.if2.true))
+returns-2 : tie.Need-returns-then-objects-header
+returns-2 c = simp (an-edition c.before.before, lt-ltb _ _ (rw c.row-header.ensures at c.if-objects-header.true))
 
-returns-3 : tie.Need-returns-3
+returns-3 : tie.Need-returns
 returns-3 c =
     let l = c.before.before in
     let i = l.before.before in
     let r = i.before in
-    simp (an-edition r.before, le-ltb _ _ (rw r.row.ensures at i.if2.false)) (ap (made Done) l.lay-header.ensures)
+    simp (an-edition r.before, le-ltb _ _ (rw r.row-header.ensures at i.if-objects-header.false)) (ap (made Done) l.lay_header.ensures)
 
 pub new_spec : {M : Type 1} → statement M
-new_spec = tie.close (tie.spec returns (λ c κs. search rules) returns-2 (λ c κs. search rules) (λ c. search rules) returns-3)
+new_spec = tie.close (tie.spec
+    returns
+    (λ c κs. search rules)
+    returns-2
+    (λ c κs. search rules)
+    (λ c. search rules)
+    returns-3)
