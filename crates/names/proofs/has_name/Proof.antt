@@ -7,40 +7,45 @@ use Rattle.names.proofs.NameLaws.{NameLies, name_lies, name_apart}
 use Rattle.names.proofs.has_name.Statement.{statement}
 use Rattle.names.proofs.has_name.Tie as tie
 
-abbrev start : tie.After-shared-slice-known5 → tie.Start
+abbrev start : tie.After-shared_slice_known-5-1 → tie.Start
 start c = c.before.before.before.before.before
 
 abbrev D : tie.Start → Dict
 D s = dict s.args.objects.now s.args.slots.now s.args.words.now s.args.bytes.now
 
-lies : (c : tie.After-shared-slice-known5) → NameLies (D (start c)) (start c).args.i
-lies c = let s = start c in name_lies (D s) s.pre.0 s.args.i s.pre.1
+lies : (c : tie.After-shared_slice_known-5-1) → NameLies (D (start c)) (start c).args.i
+lies c = let s = start c in name_lies (D s) s.requires.0 s.args.i s.requires.1
 
-name-at-requires : tie.Need-name-at-requires
+name-at-requires : tie.Need-name_at-start-requires
 name-at-requires c κs = let l = lies c in (l.small, l.row)
 
-name-len-at-requires : tie.Need-name-len-at-requires
+name-len-at-requires : tie.Need-name_len_at-requires
 name-len-at-requires c κs = let l = lies c.before in (l.small, l.row)
 
-same-part-requires : tie.Need-same-part-requires
+same-part-requires : tie.Need-same_part-requires
 same-part-requires c κs =
     let n = c.before in
     let l = lies n.before.before in
-    rw n.before.name-at.ensures (l.start, rw (sym c.if1.true ∙ n.name-len-at.ensures) l.inside)
+    rw n.name_at-start.ensures (l.start, rw (sym c.if-name_len_at-name.true ∙ n.name_len_at.ensures) l.inside)
 
-returns : tie.Need-returns
+returns : tie.Need-returns-then-name_len_at-name
 returns c =
     let t = c.before in
     let n = t.before in
     let a = (start n.before.before).args in
-    c.same-part.ensures ∙ ap₂ (λ k p. same (take k (drop p a.bytes.now)) a.name.now) (sym c.before.if1.true ∙ n.name-len-at.ensures) n.before.name-at.ensures
+    c.same_part.ensures ∙ ap₂ (λ k p. same (take k (drop p a.bytes.now)) a.name.now) (sym c.if-name_len_at-name.true ∙ n.name_len_at.ensures) n.name_at-start.ensures
 
-returns-2 : tie.Need-returns-2
+returns-2 : tie.Need-returns-else-name_len_at-name
 returns-2 c =
     let n = c.before in
     let s = start n.before.before in
-    sym (name_apart (D s) s.pre.0 s.args.i s.pre.1 s.args.name.now (λ q. c.if1.false (n.name-len-at.ensures ∙ q)))
+    sym (name_apart (D s) s.requires.0 s.args.i s.requires.1 s.args.name.now (λ q. c.if-name_len_at-name.false (n.name_len_at.ensures ∙ q)))
 
-pub has-name-spec : {M : Type 1} → statement M
-has-name-spec =
-    tie.close (tie.spec name-at-requires name-len-at-requires same-part-requires returns returns-2)
+pub has_name_spec : {M : Type 1} → statement M
+has_name_spec =
+    tie.close (tie.spec
+    name-at-requires
+    name-len-at-requires
+    same-part-requires
+    returns
+    returns-2)
