@@ -1,5 +1,5 @@
 -- get_configured_cns: RULES.md 7. Assumes nothing.
-use Rattle.std.specs.Prelude.{ℕ, zero, suc, ◌+◌, ◌/◌, ◌%◌, Bool, cond, ◌&&◌, List, [], ◌∷◌, eqb, ltb, length, get_or}
+use Rattle.std.specs.Prelude.{ℕ, zero, suc, ◌/◌, ◌%◌, Bool, cond, ◌&&◌, List, [], ◌∷◌, eqb, ltb, length, get_or}
 use Rattle.lists.specs.Lists.{over}
 use Rattle.answers.specs.declared.Refusal.TheVariants.{Malformed, BufferTooShort}
 use Rattle.entry.specs.Table.{Dict, kind_at, count_at, first_at, type_at}
