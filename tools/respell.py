@@ -91,7 +91,7 @@ def respelled(path, text, turned, functions, finals=frozenset()):
             return new if new in finals and re.match(r"[a-z]+[A-Z-]", old) else old
         if before.endswith("."):
             owner = re.search(r"[^\s(){}\[\].,;:]*\.$", before).group(0)
-            if not owner[:1].isupper() and not is_field(path, old, functions):
+            if not owner[:1].isupper() and not re.match(r"[a-z]\w*[A-Z]", old) and not is_field(path, old, functions):
                 return old
         if path.endswith((".rt", ".edit")) and re.fullmatch(r"[a-z0-9_]+", old):
             return old

@@ -122,7 +122,7 @@ insert_bytes h name vals encodings d bn be b = go (answer_of h name vals encodin
 
 -- ---- a write
 pub write_bytes : (d : Dict) (store : List ℕ) (x sub t : ℕ) (s : List ℕ) → well_formed d ≡ true → Bytes s → Bytes d.bytes → Bytes (write_of d store x sub t s).bytes
-unfolding write_of writing.writeActOf
+unfolding write_of writing.write_act_of
 write_bytes d store x sub t s w bs b = rw w (go (judge_of d (length store) x sub t s) refl)
   where
     put : (p : ℕ) → judge_of d (length store) x sub t s ≡ judged.Put p → (y : Bool) → is_text (type_at d.slots p) ≡ y → Bytes (put_in d.slots (contents d.words d.bytes) p s).bytes
@@ -131,7 +131,7 @@ write_bytes d store x sub t s w bs b = rw w (go (judge_of d (length store) x sub
         rw (ap (λ (c : Contents). c.bytes) (put_text d.slots (contents d.words d.bytes) p s y)) (bytes_over d.bytes (start_at d.slots p) s (omega (arith, f.within, f.bytes)) b bs i)
     put p q false y i = rw (ap (λ (c : Contents). c.bytes) (put_fixed d.slots (contents d.words d.bytes) p s y)) (b i)
 
-    go : (j : Judged) → judge_of d (length store) x sub t s ≡ j → Bytes (writing.writeActOf d store sub s j).bytes
+    go : (j : Judged) → judge_of d (length store) x sub t s ≡ j → Bytes (writing.write_act_of d store sub s j).bytes
     go (judged.Put p) q = put p q (is_text (type_at d.slots p)) refl
     go judged.Accepted q = b
     go (judged.Keep i n) q = b
@@ -151,7 +151,7 @@ consume_bytes d payload sender version ready room log w bp b = rw w (go (ltb roo
     c : Contents
     c = contents d.words d.bytes
 
-    go : (x y : Bool) → Bytes (cond x (consume.afterConsume (consumed.Refused NoEventRoom) c log) (cond y (consume.afterConsume (consumed.Refused PayloadTooLong) c log) (consume.consumeDone (finished (received_by f c version ready) log 0)))).contents.bytes
+    go : (x y : Bool) → Bytes (cond x (consume.after_consume (consumed.Refused NoEventRoom) c log) (cond y (consume.after_consume (consumed.Refused PayloadTooLong) c log) (consume.consume_done (finished (received_by f c version ready) log 0)))).contents.bytes
     go true y = b
     go false true = b
     go false false = (received_sane f bp c version ready (record { well = w; bytes = b })).bytes
@@ -171,7 +171,7 @@ cycle_bytes d delivered ps log w bd b = rw w (go (are_shaped ps && are_placed (l
         let x = cycle_from v (payloads_in ps) 0 c (length log) in
         subst (λ (y : Contents). Bytes y.bytes) (sym (from_turns v (payloads_in ps) 0 c (length log)).leaves) (turns_sane v bd 0 x.consumed c (record { well = w; bytes = b })).bytes
 
-    go : (x y : Bool) → Bytes (cond x (cond y (cycle.cycleDone (ended (cycle_from v (payloads_in ps) 0 c (length log)) log 0 0)) (cycle.afterCycle (cycles.Refused PayloadTooLong) c log)) (cycle.afterCycle (cycles.Refused BadValue) c log)).contents.bytes
+    go : (x y : Bool) → Bytes (cond x (cond y (cycle.cycle_done (ended (cycle_from v (payloads_in ps) 0 c (length log)) log 0 0)) (cycle.after_cycle (cycles.Refused PayloadTooLong) c log)) (cycle.after_cycle (cycles.Refused BadValue) c log)).contents.bytes
     go true true = consumed_bytes
     go true false = b
     go false y = b
