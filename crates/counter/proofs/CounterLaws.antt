@@ -68,3 +68,10 @@ counter_keeps d x sub w = rw w (go (counter_at d x sub) refl)
         let back : number (bytes_of 4 v) ≡ v = number-bytes_of 4 v (omega arith) in
         let put : put_in d.slots (contents d.words d.bytes) p (bytes_of 4 v) ≡ contents (set d.words p v) d.bytes = put_fixed d.slots (contents d.words d.bytes) p (bytes_of 4 v) (ap is_text c.1) ∙ rw (c.1, whole, back) in
         subst (λ (c : Contents). well_formed (filled d c) ≡ true) put (put_element d (bytes_of 4 v) w (element_of_lem d w x sub p c.0) (bytes_bytes_of 4 v) v (record { taken = rw (c.1, long, whole, back); room = λ h. let z : false ≡ true = sym (ap is_text c.1) ∙ h in let u : ◌≡◌ {A = ℕ} 0 1 = cc in absurd (omega arith) }))
+
+-- what a definition comes to at a place that is no value's, where it says the same of the three others
+pub not_value : {A : Type 0} (f : Place → A) {x : A} → x ≡ f NoObject → x ≡ f NoSub → ((n : ℕ) → x ≡ f (Count n)) → (a : Place) → ((p : ℕ) → a ≡ Value p → ⊥) → x ≡ f a
+not_value f o s c NoObject k = o
+not_value f o s c NoSub k = s
+not_value f o s c (Count n) k = c n
+not_value f o s c (Value p) k = absurd (k p refl)
