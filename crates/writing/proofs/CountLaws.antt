@@ -21,7 +21,6 @@ use Rattle.entry.specs.declared.Place.{Place}
 use Rattle.entry.specs.declared.Place.TheVariants.{NoObject, NoSub, Count, Value}
 use Rattle.entry.proofs.ValueLaws.{found_lies}
 use Rattle.pdo_validator.specs.Counting.{limit_of, ends_from, within_limit, count_on, count_of}
-use Rattle.writing.specs.declared.Judged.{Judged}
 use Rattle.writing.specs.declared.Judged.TheVariants.{Put, Accepted, Keep, Refused}
 use Rattle.writing.specs.Judging.{outside, at_value, keep_of, in_place, in_object, count_first, judge_of}
 use Rattle.writing.proofs.ReachLaws.{reached}

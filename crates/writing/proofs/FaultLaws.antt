@@ -1,6 +1,6 @@
 -- R8.5: data that does not decode is refused with its fault, whatever it is written to, and the fault is what R3.9 says of the data.
 -- Assumes nothing.
-use mathlib.Core.Path.{◌≡◌, refl, sym, ap, ◌∙◌}
+use mathlib.Core.Path.{◌≡◌, refl, ap, ◌∙◌}
 use mathlib.Core.Bool.{Bool, true, false, cond, ◌&&◌, ◌||◌}
 use mathlib.Core.List.{List}
 use Prim.Native.Nat.{ℕ}
@@ -9,7 +9,7 @@ use lib.Dec.{eqb, ltb}
 use lib.ListN.{length, get_or}
 use Rattle.answers.specs.declared.Answer.{Answer}
 use Rattle.answers.specs.declared.Answer.TheVariants as answer
-use Rattle.answers.specs.declared.Refusal.TheVariants.{Malformed, TypeMismatch, ReadOnly, BadSignature, NoStorage, CountNotWritable, TooLong, OutOfRange}
+use Rattle.answers.specs.declared.Refusal.TheVariants.{Malformed, ReadOnly, NoStorage, CountNotWritable, TooLong, OutOfRange}
 use Rattle.lists.specs.Numbers.{number}
 use Rattle.value.specs.Codec.{is_text, exactly_of}
 use Rattle.value.specs.Fault.{Tells}
@@ -29,7 +29,6 @@ use Rattle.commands.specs.declared.Saved.TheVariants as saved
 use Rattle.commands.specs.Save.{save_of}
 use Rattle.writing.specs.declared.Judged.{Judged}
 use Rattle.writing.specs.declared.Judged.TheVariants.{Put, Accepted, Keep, Save, Restore, NoValue, Refused}
-use Rattle.writing.specs.declared.Wrote.{Wrote}
 use Rattle.writing.specs.declared.Wrote.TheVariants as wrote
 use Rattle.writing.specs.Judging.{save, load, signed_by, command_of, outside, at_value, keep_of, in_place, in_object, count_first, after_count, judge_value_of, only_value, judge_of}
 use Rattle.writing.specs.Writing.{after_write, saved_as, write_act_of, write_of}

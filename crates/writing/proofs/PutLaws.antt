@@ -1,6 +1,6 @@
 -- Where a write puts a value, the value is of its type and fits its room; so a write keeps a dictionary well_formed_lem.
 -- Assumes nothing.
-use mathlib.Core.Path.{◌≡◌, refl, sym, ap, subst, ◌∙◌}
+use mathlib.Core.Path.{◌≡◌, refl, sym, ap, ◌∙◌}
 use mathlib.Core.Bool.{Bool, true, false, cond, ◌&&◌, ◌||◌}
 use mathlib.Core.List.{List}
 use Prim.Native.Nat.{ℕ, ◌≤◌}
@@ -8,13 +8,9 @@ use native.Mathlib.Omega.{arith}
 use borrow.Author.Tests.{eqb-true, ltb-false}
 use lib.Dec.{eqb, ltb}
 use lib.ListN.{length, get_or}
-use Rattle.answers.specs.declared.Answer.{Answer}
-use Rattle.answers.specs.declared.Answer.TheVariants as answer
 use Rattle.lists.specs.Numbers.{number, Bytes}
-use Rattle.answers.specs.declared.Refusal.TheVariants.{ReadOnly, TypeMismatch, TooLong, OutOfRange, NoStorage, BadSignature, CountNotWritable}
-use Rattle.value.specs.Codec.{is_text, exactly_of, is_exact, exact}
-use Rattle.value.specs.declared.Exactness.{Exactness}
-use Rattle.value.specs.declared.Exactness.TheVariants as exactly
+use Rattle.answers.specs.declared.Refusal.TheVariants.{ReadOnly, TypeMismatch, TooLong, OutOfRange, CountNotWritable}
+use Rattle.value.specs.Codec.{is_text, exact}
 use Rattle.value.proofs.CodecLaws.{word_in, exact_facts}
 use Rattle.entry.specs.declared.Extra.{Extra}
 use Rattle.entry.specs.Table.{Dict, edition_of, access_at, extra_at, type_at, room_at, is_mapping}
@@ -28,7 +24,7 @@ use Rattle.entry.proofs.ValueLaws.{ValueFacts, element_of_lem, element_facts}
 use Rattle.entry.proofs.KeepLaws.{Fits, put_element}
 use Rattle.writing.specs.declared.Judged.{Judged}
 use Rattle.writing.specs.declared.Judged.TheVariants.{Put, Accepted, Keep, Save, Restore, NoValue, Refused}
-use Rattle.writing.specs.Judging.{save, load, signed_by, command_of, outside, at_value, keep_of, in_place, in_object, count_first, after_count, judge_value_of, only_value, judge_of}
+use Rattle.writing.specs.Judging.{outside, at_value, keep_of, in_place, in_object, judge_of}
 use Rattle.writing.specs.Writing.{written_in, write_act_of, write_of}
 use Rattle.rows.proofs.KeptLaws.{kept_well_formed}
 use Rattle.writing.proofs.ReachLaws.{reached}

@@ -13,30 +13,30 @@ use Rattle.writing.proofs.judging.count_first.Tie as tie
 abbrev D : tie.Start → Dict
 D s = dict s.args.objects.now s.args.slots.now s.args.words.now s.args.bytes.now
 
-abbrev start : tie.After-is-mapping → tie.Start
+abbrev start : tie.After-is_mapping → tie.Start
 start c = c.before.before.before.before.before.before
 
-tested : (c : tie.After-is-mapping) → let a = (start c).args in (eqb a.sub 0 && is_mapping a.index) ≡ (eqb a.sub 0 && c.is-mapping.result)
-tested c = ap (λ m. eqb (start c).args.sub 0 && m) (sym c.is-mapping.ensures)
+tested : (c : tie.After-is_mapping) → let a = (start c).args in (eqb a.sub 0 && is_mapping a.index) ≡ (eqb a.sub 0 && c.is_mapping.result)
+tested c = ap (λ m. eqb (start c).args.sub 0 && m) (sym c.is_mapping.ensures)
 
-returns : tie.Need-returns
+returns : tie.Need-returns-then-t-ne5
 returns c =
-    let m = c.before.before in let s = start m in sym (count_type (D s) s.args.index s.args.sub s.args.t s.args.«data».now (tested m ∙ c.before.if1.true) (ne_eqb _ 5 c.if2.true))
+    let m = c.before.before in let s = start m in sym (count_type (D s) s.args.index s.args.sub s.args.t s.args.«data».now (tested m ∙ c.if-sub-is_mapping.true) (ne_eqb _ 5 c.if-t-ne5.true))
 
-shared-slice-read-judge-count : tie.Need-shared-slice-read-judge-count
+shared-slice-read-judge-count : tie.Need-bounds-data-0
 shared-slice-read-judge-count c =
-    let i = c.before in let s = start i.before.before in omega (arith, one_byte s.args.t s.args.«data».now s.pre.1 i.if2.false)
+    let i = c.before in let s = start i.before.before in omega (arith, one_byte s.args.t s.args.«data».now s.requires.1 i.if-t-ne5.false)
 
-returns-2 : tie.Need-returns-2
+returns-2 : tie.Need-returns-then-sub-is_mapping
 returns-2 c =
-    let i = c.before.before in let m = i.before.before in let s = start m in c.judge-count.ensures ∙ sym (count_there (D s) s.args.index s.args.sub s.args.t s.args.«data».now (tested m ∙ i.before.if1.true) (eq-eqb _ 5 i.if2.false))
+    let i = c.before.before in let m = i.before.before in let s = start m in c.judge_count.ensures ∙ sym (count_there (D s) s.args.index s.args.sub s.args.t s.args.«data».now (tested m ∙ i.if-sub-is_mapping.true) (eq-eqb _ 5 i.if-t-ne5.false))
 
-returns-3 : tie.Need-returns-3
+returns-3 : tie.Need-returns
 returns-3 c =
-    let m = c.before in let s = start m in sym (count_else (D s) s.args.index s.args.sub s.args.t s.args.«data».now (tested m ∙ c.if1.false))
+    let m = c.before in let s = start m in sym (count_else (D s) s.args.index s.args.sub s.args.t s.args.«data».now (tested m ∙ c.if-sub-is_mapping.false))
 
-pub count-first-spec : {M : Type 1} → statement M
-count-first-spec =
+pub count_first_spec : {M : Type 1} → statement M
+count_first_spec =
     tie.close
     (tie.spec
     (λ c κs. search rules)

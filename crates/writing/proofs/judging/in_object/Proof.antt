@@ -17,26 +17,32 @@ find-requires : tie.Need-find-requires
 find-requires c κs =
     let s = c.before.before.before.before.before in rows_of (D s) s.requires.0
 
-returns : tie.Need-returns
+returns : tie.Need-returns-in_default
 returns c =
-    let f = c.before.before in
+    let f = c.before in
     let s = start f in
-    ap (in_object (D s) s.args.index s.args.sub s.args.t s.args.«data».now) (sym c.enum_told.given.1 ∙ f.find.ensures)
+    ap (in_object (D s) s.args.index s.args.sub s.args.t s.args.«data».now) (sym c.in_default.is ∙ f.find.ensures)
 
-in-row-requires : tie.Need-in-row-requires
+in-row-requires : tie.Need-in_row-requires
 in-row-requires c κs =
-    let i = c.before in
-    let f = i.before.before in
+    let i = c in
+    let f = i.before in
     let s = start f in
-    (s.pre.0, (sym f.find.ensures ∙ i.i.given.1, s.pre.1))
+    (s.requires.0, (sym f.find.ensures ∙ i.in-At.is, s.requires.1))
 
-returns-2 : tie.Need-returns-2
+returns-2 : tie.Need-returns
 returns-2 c =
-    let i = c.before.before in
-    let f = i.before.before in
+    let i = c.before in
+    let f = i.before in
     let s = start f in
-    c.in_row.ensures ∙ ap (in_object (D s) s.args.index s.args.sub s.args.t s.args.«data».now) (sym i.i.given.1 ∙ f.find.ensures)
+    c.in_row.ensures ∙ ap (in_object (D s) s.args.index s.args.sub s.args.t s.args.«data».now) (sym i.in-At.is ∙ f.find.ensures)
 
-pub in-object-spec : {M : Type 1} → statement M
-in-object-spec =
-    tie.close (tie.spec find-requires (λ c. search rules) (λ c. search rules) returns in-row-requires returns-2)
+pub in_object_spec : {M : Type 1} → statement M
+in_object_spec =
+    tie.close (tie.spec
+    find-requires
+    (λ c. search rules)
+    (λ c. search rules)
+    returns
+    in-row-requires
+    returns-2)

@@ -23,83 +23,83 @@ use Rattle.writing.proofs.judging.in_row.Tie as tie
 abbrev D : tie.Start → Dict
 D s = dict s.args.objects.now s.args.slots.now s.args.words.now s.args.bytes.now
 
-abbrev start : tie.After-access-at → tie.Start
+abbrev start : tie.After-access_at-access → tie.Start
 start c = c.before.before.before.before.before.before
 
 lies : (s : tie.Start) → RowLies (D s) s.args.i
 lies s = found_lies (D s) s.requires.0 s.args.index s.args.i s.requires.1.0
 
-tested : (c : tie.After-access-at) → let a = (start c).args in (eqb (access_at a.objects.now a.i) 0 || eqb (access_at a.objects.now a.i) 5) ≡ (eqb c.access-at.result 0 || eqb c.access-at.result 5)
-tested c = ap (λ x. eqb x 0 || eqb x 5) (sym c.access-at.ensures)
+tested : (c : tie.After-access_at-access) → let a = (start c).args in (eqb (access_at a.objects.now a.i) 0 || eqb (access_at a.objects.now a.i) 5) ≡ (eqb c.access_at-access.result 0 || eqb c.access_at-access.result 5)
+tested c = ap (λ x. eqb x 0 || eqb x 5) (sym c.access_at-access.ensures)
 
 -- access is given, and a place was found
-placed : (c : tie.After-sub-at) (q : Place) → c.sub_at.result ≡ q → let s = start c.before.before in let a = s.args in in_place (D s) a.i a.index a.t a.«data».now q ≡ in_object (D s) a.index a.sub a.t a.«data».now (At a.i)
+placed : (c : tie.After-sub_at) (q : Place) → c.sub_at.result ≡ q → let s = start c.before.before in let a = s.args in in_place (D s) a.i a.index a.t a.«data».now q ≡ in_object (D s) a.index a.sub a.t a.«data».now (At a.i)
 placed c q e =
     let s = start c.before.before in
     let a = s.args in
     ap (in_place (D s) a.i a.index a.t a.«data».now) (sym e ∙ c.sub_at.ensures)
-    ∙ sym (ap (λ b. cond b (Refused ReadOnly) (in_place (D s) a.i a.index a.t a.«data».now (sub_at (D s).objects a.i a.sub))) (tested c.before.before ∙ c.before.if1.false))
+    ∙ sym (ap (λ b. cond b (Refused ReadOnly) (in_place (D s) a.i a.index a.t a.«data».now (sub_at (D s).objects a.i a.sub))) (tested c.before.before ∙ c.if-access.false))
 
-access-at-requires : tie.Need-access-at-requires
+access-at-requires : tie.Need-access_at-access-requires
 access-at-requires c κs =
     let l = lies c.before.before.before.before.before in (l.small, l.inside)
 
-returns : tie.Need-returns
+returns : tie.Need-returns-then-access
 returns c =
-    let s = start c.before in sym (ap (λ b. cond b (Refused ReadOnly) (in_place (D s) s.args.i s.args.index s.args.t s.args.«data».now (sub_at (D s).objects s.args.i s.args.sub))) (tested c.before ∙ c.if1.true))
+    let s = start c.before in sym (ap (λ b. cond b (Refused ReadOnly) (in_place (D s) s.args.i s.args.index s.args.t s.args.«data».now (sub_at (D s).objects s.args.i s.args.sub))) (tested c.before ∙ c.if-access.true))
 
-sub-at-requires : tie.Need-sub-at-requires
+sub-at-requires : tie.Need-sub_at-requires
 sub-at-requires c κs =
-    let s = start c.before in (rows_of (D s) s.pre.0, (lies s).below)
+    let s = start c.before in (rows_of (D s) s.requires.0, (lies s).below)
 
 keep-requires : tie.Need-keep-requires
-keep-requires c κs = let s = start c.before.before.before.before.before.before in omega (arith, (headed (D s) s.pre.0).rows)
+keep-requires c κs = let s = start c.before.before.before.before.before in omega (arith, (headed (D s) s.requires.0).rows)
 
-extra-at-requires : tie.Need-extra-at-requires
-extra-at-requires c κs = let l = lies (start c.before.before.before.before.before) in (l.small, l.inside)
+extra-at-requires : tie.Need-extra_at-requires
+extra-at-requires c κs = let l = lies (start c.before.before.before) in (l.small, l.inside)
 
-at-value-requires : tie.Need-at-value-requires
+at-value-requires : tie.Need-at_value-requires
 at-value-requires c κs =
-    let p = c.before.before in
-    let u = p.before.before in
-    let s = start u.before.before in
-    let f = value_lies (D s) s.pre.0 s.args.index s.args.sub _ _ s.pre.1.0 (sym u.sub_at.ensures ∙ p.p.given.1) in
-    ((f.low, f.slot), (subst (λ (x : Extra). range_ok x.ranged x.low x.high ≡ true) (sym c.extra-at.ensures) (range_right (D s) s.pre.0 s.args.i (lies s).below), s.pre.1.1))
+    let p = c.before in
+    let u = p in
+    let s = start u.before.before.before in
+    let f = value_lies (D s) s.requires.0 s.args.index s.args.sub _ _ s.requires.1.0 (sym u.sub_at.ensures ∙ p.in-Value.is) in
+    ((f.low, f.slot), (subst (λ (x : Extra). range_ok x.ranged x.low x.high ≡ true) (sym c.extra_at.ensures) (range_right (D s) s.requires.0 s.args.i (lies s).below), s.requires.1.1))
 
-returns-2 : tie.Need-returns-2
+returns-2 : tie.Need-returns-in-NoObject
 returns-2 c =
-    let u = c.before.before in placed u _ c.enum_told.given.1
+    let u = c.before in placed u _ c.in-NoObject.is
 
-returns-3 : tie.Need-returns-3
+returns-3 : tie.Need-returns-in-NoSub
 returns-3 c =
-    let u = c.before.before in placed u _ c.enum-told2.given.1
+    let u = c.before in placed u _ c.in-NoSub.is
 
-returns-4 : tie.Need-returns-4
+returns-4 : tie.Need-returns-then-is_mapping
 returns-4 c =
     let h = c.before in
     let e = h.before.before in
-    let u = e.before.before in
+    let u = e.before in
     let a = (start u.before.before).args in
     c.keep.ensures
-    ∙ sym (ap (λ b. cond b (keep_of (edition_of a.objects.now) a.i (get_or a.«data».now 0 0)) (Refused CountNotWritable)) (sym h.before.is-mapping.ensures ∙ h.if2.true)) ∙ placed u _ e.enum-told3.given.1
+    ∙ sym (ap (λ b. cond b (keep_of (edition_of a.objects.now) a.i (get_or a.«data».now 0 0)) (Refused CountNotWritable)) (sym h.is_mapping.ensures ∙ h.if-is_mapping.true)) ∙ placed u _ e.in-Count.is
 
-returns-5 : tie.Need-returns-5
+returns-5 : tie.Need-returns-else-is_mapping
 returns-5 c =
     let e = c.before.before in
-    let u = e.before.before in
+    let u = e.before in
     let a = (start u.before.before).args in
-    sym (ap (λ b. cond b (keep_of (edition_of a.objects.now) a.i (get_or a.«data».now 0 0)) (Refused CountNotWritable)) (sym c.before.is-mapping.ensures ∙ c.if2.false)) ∙ placed u _ e.enum-told3.given.1
+    sym (ap (λ b. cond b (keep_of (edition_of a.objects.now) a.i (get_or a.«data».now 0 0)) (Refused CountNotWritable)) (sym c.is_mapping.ensures ∙ c.if-is_mapping.false)) ∙ placed u _ e.in-Count.is
 
-returns-6 : tie.Need-returns-6
+returns-6 : tie.Need-returns-in-Value
 returns-6 c =
     let x = c.before in
-    let p = x.before.before in
-    let u = p.before.before in
+    let p = x.before in
+    let u = p.before in
     let a = (start u.before.before).args in
-    c.at_value.ensures ∙ ap (λ e. at_value a.slots.now e p.p.given.0.0 a.t a.«data».now) x.extra-at.ensures ∙ placed u _ p.p.given.1
+    c.at_value.ensures ∙ ap (λ e. at_value a.slots.now e p.in-Value.p a.t a.«data».now) x.extra_at.ensures ∙ placed u _ p.in-Value.is
 
-pub in-row-spec : {M : Type 1} → statement M
-in-row-spec =
+pub in_row_spec : {M : Type 1} → statement M
+in_row_spec =
     tie.close
     (tie.spec
     access-at-requires

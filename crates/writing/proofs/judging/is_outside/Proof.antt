@@ -11,50 +11,55 @@ use native.Mathlib.Omega.{arith}
 use Rattle.writing.proofs.judging.is_outside.Statement.{statement}
 use Rattle.writing.proofs.judging.is_outside.Tie as tie
 
-abbrev start : tie.Else1 → tie.Start
+abbrev start : tie.Else-t-extra → tie.Start
 start c = c.before.before.before
 
-data_of : (c : tie.Else1) → Of (start c).args.extra (start c).args.t (number (start c).args.«data».now)
-data_of c = let a = (start c).args in outside_of a.extra a.t (number a.«data».now) c.if1.false
+data_of : (c : tie.Else-t-extra) → Of (start c).args.extra (start c).args.t (number (start c).args.«data».now)
+data_of c = let a = (start c).args in outside_of a.extra a.t (number a.«data».now) c.if-t-extra.false
 
-range-of : (c : tie.Else1) → let a = (start c).args in Ranged a.t a.extra.low a.extra.high
+range-of : (c : tie.Else-t-extra) → let a = (start c).args in Ranged a.t a.extra.low a.extra.high
 range-of c =
     let s = start c in
     let a = s.args in
     let o = data_of c in
-    ranged a.t a.extra.low a.extra.high o.some (subst (λ k. range_ok k a.extra.low a.extra.high ≡ true) o.same s.pre.0)
+    ranged a.t a.extra.low a.extra.high o.some (subst (λ k. range_ok k a.extra.low a.extra.high ≡ true) o.same s.requires.0)
 
-word_of : (c : tie.Else1) → let a = (start c).args in Integer a.t a.«data».now
+word_of : (c : tie.Else-t-extra) → let a = (start c).args in Integer a.t a.«data».now
 word_of c =
     let s = start c in
     let a = s.args in
-    let b : Bytes a.«data».now = λ k. omega (arith, c.before.before.shared-slice-known.given k) in
-    integer-word a.t a.«data».now b (data_of c).some (range-of c).small s.pre.1
+    let b : Bytes a.«data».now = λ k. omega (arith, c.shared_slice_known-1.given k) in
+    integer-word a.t a.«data».now b (data_of c).some (range-of c).small s.requires.1
 
-said : (n : tie.After-number) → n.number.result ≡ number (start n.before).args.«data».now
-said n = let s = (start n.before).args.«data».now in n.number.ensures ∙ ap number (take_all (length s) s (omega arith))
+said : (n : tie.After-number-w) → n.number-w.result ≡ number (start n.before).args.«data».now
+said n = let s = (start n.before).args.«data».now in n.number-w.ensures ∙ ap number (take_all (length s) s (omega arith))
 
-fitting : (n : tie.After-number) → fits_type (start n.before).args.t n.number.result ≡ true
+fitting : (n : tie.After-number-w) → fits_type (start n.before).args.t n.number-w.result ≡ true
 fitting n = rw (said n) (word_of n.before).fits
 
-returns : tie.Need-returns
-returns c = let a = c.before.before.before.args in sym (outside_none a.extra a.t (number a.«data».now) c.if1.true)
+returns : tie.Need-returns-then-t-extra
+returns c = let a = c.args in sym (outside_none a.extra a.t (number a.«data».now) c.if-t-extra.true)
 
-number-requires : tie.Need-number-requires
+number-requires : tie.Need-number-w-requires
 number-requires c κs = ((word_of c).long, omega arith)
 
-is-ordered-requires : tie.Need-is-ordered-requires
+is-ordered-requires : tie.Need-is_ordered-requires
 is-ordered-requires c κs = ((data_of c.before).some, (range-of c.before).low_fits, fitting c)
 
-is-ordered-requires-2 : tie.Need-is-ordered-requires-2
+is-ordered-requires-2 : tie.Need-is_ordered-requires-2
 is-ordered-requires-2 c κs = let n = c.before in ((data_of n.before).some, fitting n, (range-of n.before).high_fits)
 
-returns-2 : tie.Need-returns-2
+returns-2 : tie.Need-returns
 returns-2 c =
     let l = c.before in
     let n = l.before in
     let e = said n in
-    ap₂ (λ (x y : Bool). not (x && y)) (rw e at l.is-ordered.ensures) (rw e at c.is-ordered2.ensures) ∙ sym (data_of n.before).test
+    ap₂ (λ (x y : Bool). not (x && y)) (rw e at l.is_ordered.ensures) (rw e at c.is_ordered-2.ensures) ∙ sym (data_of n.before).test
 
-pub is-outside-spec : {M : Type 1} → statement M
-is-outside-spec = tie.close (tie.spec returns number-requires is-ordered-requires is-ordered-requires-2 returns-2)
+pub is_outside_spec : {M : Type 1} → statement M
+is_outside_spec = tie.close (tie.spec
+    returns
+    number-requires
+    is-ordered-requires
+    is-ordered-requires-2
+    returns-2)

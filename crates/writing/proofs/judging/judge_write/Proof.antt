@@ -23,25 +23,25 @@ judged c y e =
     let a = s.args in
     ap (λ x. only_value x (judge_value_of (D s) a.store a.index a.sub a.t a.«data».now)) (sym e ∙ c.exactly.ensures)
 
-judge-value-requires : tie.Need-judge-value-requires
+judge-value-requires : tie.Need-judge_value-requires
 unfolding exact
 judge-value-requires c κs =
-    let x = c.before.before in ((start x).requires, ap is_exact (sym x.exactly.ensures ∙ c.enum_told.given.1))
+    let x = c.before in ((start x).requires, ap is_exact (sym x.exactly.ensures ∙ c.in-Value.is))
 
-returns : tie.Need-returns
-returns c = let e = c.before in c.judge-value.ensures ∙ judged e.before.before _ e.enum_told.given.1
+returns : tie.Need-returns-in-Value
+returns c = let e = c.before in c.judge_value.ensures ∙ judged e.before _ e.in-Value.is
 
-returns-2 : tie.Need-returns-2
-returns-2 c = judged c.before.before _ c.enum-told2.given.1
+returns-2 : tie.Need-returns-in-NoType
+returns-2 c = judged c.before _ c.in-NoType.is
 
-returns-3 : tie.Need-returns-3
-returns-3 c = let f = c.before in judged f.before.before _ f.f.given.1
+returns-3 : tie.Need-returns-in-Fails
+returns-3 c = let f = c in judged f.before _ f.in-Fails.is
 
-returns-4 : tie.Need-returns-4
-returns-4 c = judged c.before.before _ c.enum-told3.given.1
+returns-4 : tie.Need-returns-in-Many
+returns-4 c = judged c.before _ c.in-Many.is
 
-pub judge-write-spec : {M : Type 1} → statement M
-judge-write-spec =
+pub judge_write_spec : {M : Type 1} → statement M
+judge_write_spec =
     tie.close
     (tie.spec
     (λ c κs. search rules)
