@@ -1,5 +1,3 @@
-pub mod Locals
-pub mod LocalArray
 pub mod RecordLaws
 pub mod OutcomeLaws
 pub mod ReceiveLaws

@@ -42,7 +42,7 @@ use Rattle.pdo_step.proofs.FormLaws.{on_place, on_index, on_field, outcome_form}
 use Rattle.pdo_channel.specs.Channel.{first_match, expected_of, right_version}
 use Rattle.pdo_run.specs.Run.{Frame, held, marked, decided, recorded, act_of, ran, behind, run_from, list_in, run_on}
 use Rattle.pdo_handler.specs.Consume.{map_version, consumed_by, received_by}
-use Rattle.events.specs.Telling.{TargetType, value, count, Undecoded, FieldFault, EventTells, AllTell}
+use Rattle.events.specs.Telling.{value, count, Undecoded, FieldFault, AllTell}
 
 -- ---- a word that does not decode
 module _ (f : Frame) (w : ℕ) (g : CodecFault) where

@@ -50,7 +50,7 @@ pub fn consume_pdo_payload(
     answer
 }
 
-// The same with the list by value, in and out: for programs, since whoever lends a slice of records is proved by hand.
+// The same with the list by value, in and out: for programs.
 pub fn consume_by_value(
     objects: &[u64],
     slots: &[u64],
