@@ -1,5 +1,5 @@
 -- One channel's turn in the check of all. Assumes nothing.
-use mathlib.Core.Path.{◌≡◌, refl}
+use mathlib.Core.Path.{◌≡◌, refl, sym, ap, ◌∙◌}
 use mathlib.Core.List.{List, [], ◌∷◌}
 use Prim.Native.Nat.{ℕ, suc, ◌+◌, ◌-◌, ◌<◌, ◌≤◌}
 use native.Mathlib.Omega.{arith}
@@ -8,6 +8,7 @@ use Rattle.lists.specs.Lists.{over}
 use Rattle.lists.proofs.ListLaws.{over_none, over-over}
 use Rattle.entry.specs.Table.{Dict}
 use Rattle.entry.specs.Find.{find_row}
+use Rattle.entry.specs.declared.Found.{Found}
 use Rattle.pdo_channel.specs.Channel.{comm_index}
 use Rattle.channel.specs.All.{on_comm, lines_from, laid_lines, laid_on}
 
@@ -28,3 +29,9 @@ module _ (out : List ℕ) (n : ℕ) where
   laid_line a b c rest h =
       let z : n + suc (suc (suc (length rest))) ≡ n + 3 + length rest = omega arith in
       rw (over-over out n (a ∷ b ∷ c ∷ []) (n + 3) rest refl h, z)
+
+-- what is found of channel i decides
+pub turned : (d : Dict) (lent : List ℕ) (m i : ℕ) (out : List ℕ) (n : ℕ) → i < 256 → laid_on (lines_from d (256 - i) i) out n ≡ laid_on (lines_from d 256 0) lent m
+    → (g : Found) → g ≡ find_row d.objects (comm_index i) → laid_on (on_comm d i (lines_from d (256 - (i + 1)) (i + 1)) g) out n ≡ laid_on (lines_from d 256 0) lent m
+turned d lent m i out n h e g q =
+    ap (λ x. laid_on (on_comm d i (lines_from d (256 - (i + 1)) (i + 1)) x) out n) q ∙ ap (λ x. laid_on x out n) (sym (lines_step d 256 i h)) ∙ e

@@ -1,22 +1,22 @@
 -- One element's turn, and the sender of a channel. Assumes nothing.
 use mathlib.Core.Path.{◌≡◌, refl, sym, ap, ◌∙◌}
 use mathlib.Core.Bool.{Bool, true, false, cond}
-use mathlib.Core.List.{List, [], ◌∷◌}
+use mathlib.Core.List.{List}
 use Prim.Native.Nat.{ℕ, ◌+◌, ◌<◌, ◌≤◌}
 use native.Mathlib.Numerals.{add-one}
 use native.Mathlib.Omega.{arith}
 use borrow.Author.Tests.{eqb-true, ltb-true}
 use lib.Dec.{eqb}
-use lib.ListN.{length, drop, get_or, drop_of_length-le}
-use lib.Seq.{drop-cons}
+use lib.ListN.{length, take, drop, get_or, drop_of_length-le, length-drop}
+use lib.Seq.{drop-cons, length-take-le, get_or-take, get_or-drop}
 use Rattle.value.specs.Codec.{is_text, size_of, fits_type}
-use Rattle.entry.specs.Table.{Dict, type_at}
-use Rattle.entry.specs.Find.{place_of}
+use Rattle.entry.specs.Table.{Dict, type_at, number_of, first_at, list_count}
+use Rattle.entry.specs.Find.{place_of, Elements}
 use Rattle.entry.specs.Judge.{well_formed}
 use Rattle.entry.specs.declared.Found.TheVariants.{At, Nothing}
 use Rattle.entry.specs.declared.Place.{Place}
 use Rattle.entry.specs.declared.Place.TheVariants.{NoObject, NoSub, Count, Value}
-use Rattle.entry.proofs.ValueLaws.{element_of_lem, element_facts}
+use Rattle.entry.proofs.ValueLaws.{element_of_lem, element_facts, elements_lie, list_count_le}
 use Rattle.pdo_channel.specs.Channel.{u8_in, u8_at}
 use Rattle.channel.specs.declared.Checked.{Checked}
 use Rattle.element.specs.Elements.{verdict_of}
@@ -31,6 +31,25 @@ module _ (objects slots : List ℕ) (p : ℕ) (list : List ℕ) (j : ℕ) (last 
   pub fault_step : j < length list → fault_from objects slots p (drop j list) j last ≡ on_verdict (j + 1) (fault_from objects slots p (drop (j + 1) list) (j + 1) last) (verdict_of objects slots (type_at slots (p + j)) (get_or list j 0))
   unfolding fault_from
   fault_step h = rw (drop-cons list j 0 h, add-one)
+
+-- ---- the n elements from slot `first` on
+pub as_long : (words : List ℕ) (first n : ℕ) → first + n ≤ length words → length (take n (drop first words)) ≡ n
+as_long words first n h = length-take-le n _ (rw length-drop (omega arith))
+
+-- the verdict on element j decides
+pub decided : (objects slots words : List ℕ) (first n j : ℕ) (last : Checked) → j < n → first + n ≤ length words
+    → on_verdict (j + 1) (fault_from objects slots first (drop (j + 1) (take n (drop first words))) (j + 1) last) (verdict_of objects slots (type_at slots (first + j)) (get_or words (first + j) 0)) ≡ fault_from objects slots first (drop j (take n (drop first words))) j last
+decided objects slots words first n j last l h =
+    let list = take n (drop first words) in
+    let word : get_or list j 0 ≡ get_or words (first + j) 0 = get_or-take n (drop first words) j 0 l ∙ get_or-drop first words j 0 in
+    ap (λ w. on_verdict (j + 1) (fault_from objects slots first (drop (j + 1) list) (j + 1) last) (verdict_of objects slots (type_at slots (first + j)) w)) (sym word)
+    ∙ sym (fault_step objects slots first list j last (omega (arith, as_long words first n h)))
+
+-- where the elements of a list that counts lie
+pub list_lies : (d : Dict) → well_formed d ≡ true → (r : ℕ) → r < number_of d.objects → (n p : ℕ) → n ≡ list_count d.objects r → p ≡ first_at d.objects r → Elements d.slots d.words n p
+list_lies d w r h n p a b =
+    let e = elements_lie d w r (list_count d.objects r) h (list_count_le d w r h) in
+    record { few = omega (arith, a, e.few); low = omega (arith, a, b, e.low); slotted = omega (arith, a, b, e.slotted); worded = omega (arith, a, b, e.worded) }
 
 -- the U8 of a well_formed_lem dictionary is a byte
 byte : (w : ℕ) → fits_type 5 w ≡ true → w < 256

@@ -1,0 +1,12 @@
+-- `channel::checking::check_judged` meets its contract: each way out is a case of the definition. Assumes nothing.
+use mathlib.Core.Path.{sym, ◌∙◌}
+use Rattle.channel.specs.Check.{check_of}
+use Rattle.channel.proofs.checking.check_judged.Goals as goal
+
+pub returns-then-not-has_sender : goal.returns-then-not-has_sender
+unfolding check_of
+returns-then-not-has_sender c = simp (c.requires, sym c.has_sender.ensures ∙ c.if-not-has_sender.true)
+
+pub returns : goal.returns
+unfolding check_of
+returns c = c.check_list.ensures ∙ sym (simp (c.requires, sym c.has_sender.ensures ∙ c.if-not-has_sender.false))
