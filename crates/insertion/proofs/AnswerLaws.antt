@@ -1,4 +1,4 @@
--- Each way through an insertion, and the theorems: it keeps a dictionary well_formed_lem and every other object, and the new one is found.
+-- Each way through an insertion, and the theorems: it keeps a dictionary well-formed and every other object, and the new one is found.
 -- Assumes nothing.
 use mathlib.Core.Path.{◌≡◌, refl, sym, ap, ◌∙◌}
 use mathlib.Core.Bool.{Bool, true, false, cond}
@@ -14,18 +14,18 @@ use Rattle.entry.specs.Table.{Dict, edition_of, model_of, number_of, values_of, 
 use Rattle.entry.specs.Judge.{well_formed}
 use Rattle.entry.specs.Find.{object_of}
 use Rattle.given.specs.Given.{obj_in, right_in, size_in}
-use Rattle.placing.specs.Place.{inserted}
+use Rattle.placing.specs.Place.{inserted, Room}
 use Rattle.insertion.specs.Insert.{below, taken, fits_in, answer_of, memory_after, memory_of}
-use Rattle.insertion.specs.Replace.{without, replaced, RoomIn}
+use Rattle.insertion.specs.Replace.{RoomIn}
 use Rattle.given.specs.declared.Head.{Head}
 use Rattle.given.specs.declared.Size.TheVariants as sz
 use Rattle.insertion.specs.declared.Inserted.{Inserted}
 use Rattle.insertion.specs.declared.Inserted.TheVariants.{Done, Refused}
-use Rattle.entry.proofs.JudgeLaws.{and_true, sound}
+use Rattle.entry.proofs.JudgeLaws.{and_true, sound, length_objs}
 use Rattle.entry.proofs.ModelLaws.{totals}
 use Rattle.given.proofs.RightLaws.{right}
+use Rattle.insertion.proofs.IndexLaws.{below_small}
 use Rattle.insertion.proofs.KeepLaws.{Kept, kept, other, itself}
-use Rattle.insertion.proofs.ReplaceLaws.{without_none, replaced_none}
 
 -- ---- the size says whether the object is right
 pub size_some : (h : Head) (name vals encodings : List ℕ) (g : ℕ) → size_in h name vals encodings ≡ sz.Upto g → (right_in h name vals encodings ≡ true) × (size (obj_in h name vals encodings) ≡ g)
@@ -66,21 +66,39 @@ module _ (h : Head) (name vals encodings : List ℕ) (d : Dict) where
       unfolding answer_of
       occupied_by e = let a : answer_of h name vals encodings d ≡ Refused Occupied = rw (w, s, e) in (sym a, sym (by_answer (Refused Occupied) a))
 
-      -- where the index is free, what is answered and left once there is room, or none
-      module _ (t : taken h.index (model_of d) ≡ false) (i u g : ℕ) (at : i ≡ below h.index (model_of d)) (p : u ≡ used o) (q : g ≡ size o) where
-        free_answer : (r : Inserted) → r ≡ cond (fits_in (without i 0 d) u g) Done (Refused Full) → r ≡ answer_of h name vals encodings d
+      module _ (t : taken h.index (model_of d) ≡ false) where
+        pub full : fits_in d (used o) (size o) ≡ false → (Refused Full ≡ answer_of h name vals encodings d) × (d ≡ memory_of h name vals encodings d)
         unfolding answer_of
-        free_answer r e = e ∙ rw (w, s, t, without_none d (sound d w).lies i, p, q)
+        full e = let a : answer_of h name vals encodings d ≡ Refused Full = rw (w, s, t, e) in (sym a, sym (by_answer (Refused Full) a))
 
-        pub put : (r : Inserted) (m : Dict) → r ≡ cond (fits_in (without i 0 d) u g) Done (Refused Full) → m ≡ memory_after r (replaced i 0 o d) d → (r ≡ answer_of h name vals encodings d) × (m ≡ memory_of h name vals encodings d)
-        put r m e f =
-            let a = free_answer r e in
-            (a, f ∙ ap (λ x. memory_after x (replaced i 0 o d) d) a ∙ ap (λ n. memory_after (answer_of h name vals encodings d) n d) (replaced_none d i o ∙ ap (λ j. inserted j o d) at))
+        pub done : fits_in d (used o) (size o) ≡ true → (Done ≡ answer_of h name vals encodings d) × (new ≡ memory_of h name vals encodings d)
+        unfolding answer_of
+        done e = let a : answer_of h name vals encodings d ≡ Done = rw (w, s, t, e) in (sym a, sym (by_answer Done a))
+
+pub room_is : (d : Dict) (x u g : ℕ) → fits_in d u g ≡ true → Room d.objects d.slots d.words d.bytes (below x (model_of d)) u g
+unfolding fits_in
+room_is d x u g e =
+    let x₀ = and_true _ _ e in
+    let x₁ = and_true _ _ x₀.1 in
+    let x₂ = and_true _ _ x₁.1 in
+    let x₃ = and_true _ _ x₂.1 in
+    let x₄ = and_true _ _ x₃.1 in
+    let x₅ = and_true _ _ x₄.1 in
+    record {
+      place = omega (arith, below_small x (model_of d), length_objs d (number_of d.objects) 0);
+      few = ltb-true _ _ x₀.0;
+      rows = leb-true _ _ x₁.0;
+      values = leb-true _ _ x₂.0;
+      slotted = leb-true _ _ x₃.0;
+      worded = leb-true _ _ x₄.0;
+      total = leb-true _ _ x₅.0;
+      arena = leb-true _ _ x₅.1;
+    }
 
 -- what the test for room says
-pub room_is : (d : Dict) (i u g : ℕ) → i ≤ number_of d.objects → fits_in d u g ≡ true → RoomIn d i u g
+pub room_at : (d : Dict) (i u g : ℕ) → i ≤ number_of d.objects → fits_in d u g ≡ true → RoomIn d i u g
 unfolding fits_in
-room_is d i u g h e =
+room_at d i u g h e =
     let x₀ = and_true _ _ e in
     let x₁ = and_true _ _ x₀.1 in
     let x₂ = and_true _ _ x₁.1 in
@@ -125,12 +143,12 @@ done_by h name vals encodings d e =
 
 -- ---- the theorems, for every head, name, description and memory
 module _ (h : Head) (name vals encodings : List ℕ) (d : Dict) where
-  -- where an insertion is done, the memory holds what it held with the new object in its place, and is well_formed_lem
+  -- where an insertion is done, the memory holds what it held with the new object in its place, and is well-formed
   pub keeps : answer_of h name vals encodings d ≡ Done → Kept (below h.index (model_of d)) (obj_in h name vals encodings) d
   keeps e =
       let a = done_by h name vals encodings d e in
       let u = sound d a.formed in
-      let r = room_is d 0 (used (obj_in h name vals encodings)) (size (obj_in h name vals encodings)) (omega arith) a.fits in
+      let r = room_is d h.index (used (obj_in h name vals encodings)) (size (obj_in h name vals encodings)) a.fits in
       let n = totals (edition_of d.objects) (model_of d) d.objects u.lies.objects in
       kept (obj_in h name vals encodings) d u (right h name vals encodings a.right).ok a.free (omega (arith, n.number, r.few)) (omega (arith, n.values, r.values)) (omega (arith, n.bytes, r.total))
 
@@ -142,7 +160,7 @@ module _ (h : Head) (name vals encodings : List ℕ) (d : Dict) where
       go Done q = q refl
       go (Refused r) q = p
 
-  -- whatever the answer: what was well_formed_lem stays so
+  -- whatever the answer: what was well-formed stays so
   pub stays : well_formed d ≡ true → well_formed (memory_of h name vals encodings d) ≡ true
   stays w = by_cases (λ m. well_formed m ≡ true) w (λ e. (keeps e).again)
 

@@ -3,14 +3,13 @@
 use mathlib.Core.Path.{◌≡◌, sym, ap, ◌∙◌}
 use mathlib.Core.Bool.{true, ◌&&◌}
 use mathlib.Core.List.{List, ◌++◌}
-use Prim.Native.Nat.{ℕ, ◌+◌, ◌-◌, ◌*◌, ◌≤◌}
+use Prim.Native.Nat.{ℕ, ◌+◌, ◌-◌, ◌≤◌}
 use native.Mathlib.Omega.{arith}
 use lib.Dec.{leb, ltb}
 use lib.ListN.{length, take, drop, length-append, length-drop, take-append-drop}
 use lib.Seq.{length-take-le, take-add}
-use Rattle.lists.specs.Lists.{over}
 use Rattle.lists.proofs.ListLaws.{length_over}
-use Rattle.entry.specs.Model.{Obj, rows_of, header, all_objects, all_slots, all_words, all_bytes}
+use Rattle.entry.specs.Model.{Obj, rows_of, header, all_slots, all_words, all_bytes}
 use Rattle.entry.specs.Table.{Dict, edition_of, model_of, number_of, values_of, used_of, values_before, bytes_before, row_end, slot_place}
 use Rattle.entry.specs.Judge.{well_formed}
 use Rattle.entry.proofs.JudgeLaws.{sound, headed, length_objs}

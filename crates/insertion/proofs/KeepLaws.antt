@@ -1,4 +1,4 @@
--- Insertion keeps a dictionary well_formed_lem, and every other object as it was.
+-- Insertion keeps a dictionary well-formed, and every other object as it was.
 -- Assumes nothing.
 use mathlib.Core.Path.{◌≡◌, refl, sym, ap, ◌∙◌, subst}
 use mathlib.Core.Bool.{Bool, true, false, cond, ◌&&◌, ◌||◌}
@@ -65,7 +65,7 @@ pub laid_edition : (os : List Obj) (d : Dict) → is_edition (edition_of d.objec
 unfolding over
 laid_edition os d e = e
 
--- ---- the theorem: after an insertion the memory holds the objects that it held, and the new one among them, and is well_formed_lem
+-- ---- the theorem: after an insertion the memory holds the objects that it held, and the new one among them, and is well-formed
 pub record Kept (i : ℕ) (o : Obj) (d : Dict) : Type 0 where
   pub holds : model_of (inserted i o d) ≡ insert_at i o (model_of d)
   pub again : well_formed (inserted i o d) ≡ true

@@ -14,15 +14,16 @@ use Rattle.lists.specs.Lists.{over}
 use Rattle.lists.proofs.SpliceLaws.{over_longer}
 use Rattle.entry.specs.Model.{Obj, rows_of, words_of, bytes_of, header, all_objects, all_slots, all_words, all_bytes, insert_at}
 use Rattle.entry.specs.Table.{Dict, Lies, edition_of, model_of, laid, number_of}
-use Rattle.entry.specs.Rules.{obj_ok, objs_ok}
-use Rattle.entry.specs.Judge.{Sound}
+use Rattle.entry.specs.Rules.{obj_ok, objs_ok, Few}
+use Rattle.entry.specs.Judge.{Sound, well_formed}
 use Rattle.entry.proofs.JudgeLaws.{and_true, length_objs}
 use Rattle.entry.proofs.ModelLaws.{length_rows, length_slots, words_append, bytes_append}
-use Rattle.entry.proofs.BackLaws.{read_back}
+use Rattle.entry.proofs.PutLaws.{objs_swap}
+use Rattle.entry.proofs.BackLaws.{read_back, complete}
 use Rattle.placing.specs.Place.{inserted}
 use Rattle.insertion.specs.Replace.{remove_at, replace_at, without, replaced, RoomIn}
 use Rattle.placing.proofs.ActLaws.{dict_is}
-use Rattle.insertion.proofs.KeepLaws.{laid_lies}
+use Rattle.insertion.proofs.KeepLaws.{laid_lies, laid_edition}
 
 -- ---- fewer objects keep the rules
 from_lower : (a b : ℕ) (os : List Obj) → a ≤ b → objs_ok b os ≡ true → objs_ok a os ≡ true
@@ -107,3 +108,11 @@ replaced_none d i o = ap (λ j. laid (take i (model_of d) ++ (o ∷ drop j (mode
 
 pub room_none : (d : Dict) → Lies (model_of d) d → (i u g : ℕ) → RoomIn d i u g → RoomIn (without i 0 d) i u g
 room_none d l i u g r = subst (λ m. RoomIn m i u g) (sym (without_none d l i)) r
+
+-- ---- the theorem for replacement: with q in o's place the memory holds q and all the others, and is well-formed again
+pub replaced_kept : (xs : List Obj) (o q : Obj) (ys : List Obj) (d : Dict) → Sound d → model_of d ≡ xs ++ (o ∷ ys) → q.index ≡ o.index → obj_ok q ≡ true → Few (xs ++ (q ∷ ys))
+    → (model_of (laid (xs ++ (q ∷ ys)) d) ≡ xs ++ (q ∷ ys)) × (well_formed (laid (xs ++ (q ∷ ys)) d) ≡ true)
+replaced_kept xs o q ys d s m i g f =
+    let h = objs_swap 0 xs ys o q i (λ k. g) (rw m at s.good) in
+    let l = laid_lies (xs ++ (q ∷ ys)) d in
+    (read_back (xs ++ (q ∷ ys)) (laid (xs ++ (q ∷ ys)) d) l h, complete (xs ++ (q ∷ ys)) (laid (xs ++ (q ∷ ys)) d) (laid_edition (xs ++ (q ∷ ys)) d s.edition) l h f)

@@ -1,4 +1,4 @@
--- Each way through a replacement, and the theorems: it keeps a dictionary well_formed_lem and every other object, the new one is found, and Full is
+-- Each way through a replacement, and the theorems: it keeps a dictionary well-formed and every other object, the new one is found, and Full is
 -- answered exactly where the rest would pass a total or the memory. Assumes nothing.
 use mathlib.Core.Path.{◌≡◌, refl, sym, ap, ◌∙◌}
 use mathlib.Core.Bool.{Bool, true, false, cond}
@@ -22,7 +22,7 @@ use Rattle.given.proofs.RightLaws.{right}
 use Rattle.insertion.proofs.KeepLaws.{insert_ok, few_more, laid_lies, laid_edition, other, itself}
 use Rattle.insertion.proofs.RestLaws.{Rest, rest}
 use Rattle.insertion.proofs.ReplaceLaws.{remove_ok, together, without_none, replaced_none}
-use Rattle.insertion.proofs.AnswerLaws.{room_is, fits-room}
+use Rattle.insertion.proofs.AnswerLaws.{room_at, fits-room}
 use Rattle.insertion.specs.declared.Inserted.{Inserted}
 use Rattle.insertion.specs.declared.Inserted.TheVariants.{Done, Refused}
 
@@ -97,7 +97,7 @@ module _ (h : Head) (name vals encodings : List ℕ) (d : Dict) (w : well_formed
   full_back n = rw (w, s) (go (fits_in (gone h.index d) (used (obj_in h name vals encodings)) (size (obj_in h name vals encodings))) refl)
     where
       go : (b : Bool) → fits_in (gone h.index d) (used (obj_in h name vals encodings)) (size (obj_in h name vals encodings)) ≡ b → cond b Done (Refused Full) ≡ Refused Full
-      go true e = absurd (n (room_is (gone h.index d) 0 (used (obj_in h name vals encodings)) (size (obj_in h name vals encodings)) (omega arith) e))
+      go true e = absurd (n (room_at (gone h.index d) 0 (used (obj_in h name vals encodings)) (size (obj_in h name vals encodings)) (omega arith) e))
       go false e = refl
 
 -- ---- the theorems, for every head, name, description and memory
@@ -114,7 +114,7 @@ module _ (h : Head) (name vals encodings : List ℕ) (d : Dict) where
   abbrev left : List Obj
   left = remove_at i k (model_of d)
 
-  -- where a replacement is done, the memory holds what it held without the old object, with the new one in its place, and is well_formed_lem
+  -- where a replacement is done, the memory holds what it held without the old object, with the new one in its place, and is well-formed
   pub record Holds : Type 0 where
     pub rest : Rest h.index (model_of d) left
     pub holds : model_of (replaced i k obj d) ≡ insert_at (below h.index left) obj left
@@ -127,7 +127,7 @@ module _ (h : Head) (name vals encodings : List ℕ) (d : Dict) where
       let t = rest h.index 0 (model_of d) u.good in
       let n : i + k ≤ number_of d.objects = omega (arith, t.inside, length_objs d (number_of d.objects) 0) in
       let same : insert_at (below h.index left) obj left ≡ replace_at i k obj (model_of d) = ap (λ j. insert_at j obj left) t.place ∙ together d u i k n obj in
-      let r = room_is (gone h.index d) 0 (used obj) (size obj) (omega arith) a.fits in
+      let r = room_at (gone h.index d) 0 (used obj) (size obj) (omega arith) a.fits in
       let m = totals (edition_of (gone h.index d).objects) left (gone h.index d).objects (laid_lies left d).objects in
       let ok = insert_ok 0 obj left (remove_ok 0 i k (model_of d) u.good) (right h name vals encodings a.right).ok (omega arith) t.free in
       let f = few_more (below h.index left) obj left (omega (arith, m.number, r.few)) (omega (arith, m.values, r.values)) (omega (arith, m.bytes, r.total)) in
@@ -147,7 +147,7 @@ module _ (h : Head) (name vals encodings : List ℕ) (d : Dict) where
       go Done q = q refl
       go (Refused r) q = p
 
-  -- whatever the answer: what was well_formed_lem stays so
+  -- whatever the answer: what was well-formed stays so
   pub stays : well_formed d ≡ true → well_formed (replace_memory_of h name vals encodings d) ≡ true
   stays w = by_cases (λ m. well_formed m ≡ true) w (λ e. (keeps e).again)
 

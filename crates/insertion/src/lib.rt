@@ -6,11 +6,11 @@ mod remove;
 mod replacing;
 mod room;
 
-ghost use Rattle.std.specs.Prelude.{◌≡◌, true, false, cond, ◌≤◌, eqb, ltb, length};
-ghost use Rattle.entry.specs.Table.{dict, number_of, row_place, index_at};
+ghost use Rattle.std.specs.Prelude.{◌≡◌, true, false, cond, ◌+◌, ◌≤◌, eqb, ltb, length};
+ghost use Rattle.entry.specs.Table.{dict, number_of, values_of, used_of, row_place, index_at};
 ghost use Rattle.entry.specs.Find.{Rows};
 ghost use Rattle.entry.specs.Judge.{well_formed};
-ghost use Rattle.insertion.specs.Insert.{place_from, answer_of, memory_of};
+ghost use Rattle.insertion.specs.Insert.{fits_in, place_from, answer_of, memory_of};
 
 use answers::Refusal;
 pub use given::Head;
@@ -43,6 +43,21 @@ fn occupied(objects: &[u64], i: usize, x: u64) -> bool
     false
 }
 
+// Whether there is room for one object more, of u values and g bytes.
+fn fits(objects: &[u64], slots: &[u64], words: &[u64], bytes: &[u8], u: usize, g: usize) -> bool
+    requires { (12 ≤ length objects.now) × (number_of objects.now ≤ 1024) × (values_of objects.now ≤ 6144) × (used_of objects.now ≤ 32768) × (u ≤ 255) × (g ≤ 400000) }
+    ensures { result ≡ fits_in (dict objects.now slots.now words.now bytes.now) u g }
+{
+    let n = entry::number_of(objects) as usize;
+    let m = entry::values_of(objects) as usize + u;
+    let b = entry::used_of(objects) as usize + g;
+    (n < 1024)
+        & ((entry::row_end(n) <= objects.len())
+            & ((m <= 6144)
+                & ((entry::slot(m) <= slots.len())
+                    & ((m <= words.len()) & ((b <= 32768) & (b <= bytes.len()))))))
+}
+
 // What `insert` does with a dictionary that was judged.
 pub fn insert_judged(
     objects: &mut [u64],
@@ -66,9 +81,14 @@ pub fn insert_judged(
     if occupied(objects, i, index) {
         return Inserted::Refused(Refusal::Occupied);
     }
-    room::put_in(
+    let u = vals.len() / 3;
+    if !fits(objects, slots, words, bytes, u, g) {
+        return Inserted::Refused(Refusal::Full);
+    }
+    act::replace_at(
         objects, slots, words, bytes, i, 0, head, name, vals, encodings, g,
-    )
+    );
+    Inserted::Done
 }
 
 // Inserts an object. `vals` has three words a value: type, size of its room, byte count of its encoding; `encodings` has all encodings

@@ -1,4 +1,4 @@
--- A kept count that is set: the rows name the same objects, and the dictionary stays well_formed_lem.
+-- A kept count that is set: the rows name the same objects, and the dictionary stays well-formed.
 -- Assumes nothing.
 use mathlib.Core.Path.{◌≡◌, ◌∙◌}
 use mathlib.Core.Bool.{true}

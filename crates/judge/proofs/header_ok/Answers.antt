@@ -1,4 +1,4 @@
--- `judge::header_ok_lem` meets its contract: each branch is a case of `header_ok`. Assumes nothing.
+-- `judge::header_ok` meets its contract: each branch is a case of `header_ok`. Assumes nothing.
 use borrow.Author.Tests.{le-leb, lt-leb}
 use mathlib.Core.Path.{sym}
 use Rattle.entry.specs.Judge.{header_ok}

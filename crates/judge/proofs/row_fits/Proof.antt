@@ -1,4 +1,4 @@
--- `judge::row_fits_lem` meets its contract: each branch is a case of `row_fits`. Assumes nothing.
+-- `judge::row_fits` meets its contract: each branch is a case of `row_fits`. Assumes nothing.
 use native.Mathlib.Omega.{arith}
 use mathlib.Core.Path.{◌≡◌}
 use mathlib.Core.Bool.{true}

@@ -1,4 +1,4 @@
--- `judge::slot_ok_lem` meets its contract: each branch is a case of it. Assumes nothing.
+-- `judge::slot_ok` meets its contract: each branch is a case of it. Assumes nothing.
 use native.Mathlib.Omega.{arith}
 use borrow.Author.Rules.{rules}
 use borrow.Author.Tests.{eq-eqb, ne_eqb}

@@ -2,16 +2,11 @@
 use mathlib.Core.Path.{sym}
 use Prim.Native.Nat.{zero-le}
 use native.Mathlib.Nat.{zero-add}
-use borrow.Author.Rules.{rules}
 use Rattle.entry.specs.Table.{number_of}
 use Rattle.insertion.proofs.IndexLaws.{place_lower}
-use Rattle.insertion.proofs.place.Statement.{statement}
-use Rattle.insertion.proofs.place.Tie as tie
+use Rattle.insertion.proofs.place.Goals as goal
 
-returns : tie.Need-returns
+pub returns : goal.returns
 returns c =
-    let a = c.before.before.args in
+    let a = c.args in
     sym (place_lower a.objects.now a.x c.lower.result c.lower.ensures (number_of a.objects.now) 0 (zero-add (number_of a.objects.now)) zero-le)
-
-pub place-spec : {M : Type 1} → statement M
-place-spec = tie.close (tie.spec (λ c κs. search rules) returns)
