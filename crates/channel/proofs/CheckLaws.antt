@@ -51,7 +51,7 @@ list_lies d w r h n p a b =
     let e = elements_lie d w r (list_count d.objects r) h (list_count_le d w r h) in
     record { few = omega (arith, a, e.few); low = omega (arith, a, b, e.low); slotted = omega (arith, a, b, e.slotted); worded = omega (arith, a, b, e.worded) }
 
--- the U8 of a well_formed_lem dictionary is a byte
+-- the U8 of a well-formed dictionary is a byte
 byte : (w : ℕ) → fits_type 5 w ≡ true → w < 256
 unfolding size_of
 byte w h = ltb-true w 256 h

@@ -1,4 +1,4 @@
--- Where a counter is, that it lies within the dictionary, and that counting keeps it well_formed_lem. Assumes nothing.
+-- Where a counter is, that it lies within the dictionary, and that counting keeps it well formed. Assumes nothing.
 use Rattle.std.proofs.Common.{◌≡◌, ℕ, ◌+◌, ◌%◌, ◌^◌, ◌<◌, Bool, true, false, cond, eqb, length, get_or, take, set, sym, refl, ap, ◌∙◌, subst, arith, take_all, ltb-true, eqb-true}
 use Rattle.lists.specs.Numbers.{number, bytes_of}
 use Rattle.lists.proofs.NumberLaws.{length-bytes_of, bytes_bytes_of, number-bytes_of}

@@ -1,0 +1,47 @@
+-- `pdo_validator::count_in` meets its contract. Assumes nothing.
+use mathlib.Core.Path.{◌≡◌, sym, ap, ap₂, ◌∙◌}
+use mathlib.Core.Bool.{true}
+use lib.Dec.{eqb, leb}
+use borrow.Author.Tests.{eq-eqb, ne_eqb, le-leb, lt-leb}
+use Rattle.entry.specs.Table.{dict, kind_at, count_at}
+use Rattle.entry.proofs.ValueLaws.{row_lies, elements_lie}
+use Rattle.pdo_validator.specs.Counting.{within_limit, ends_from, count_on}
+use native.Mathlib.Omega.{arith}
+use Rattle.pdo_validator.proofs.count_in.Goals as goal
+
+pub kind_at-requires : goal.kind_at-requires
+kind_at-requires c =
+    let r = row_lies (dict c.args.objects.now c.args.slots.now c.args.words.now c.args.bytes.now) c.requires.bytes_value c.args.i c.requires.i_bound in
+    (r.small, r.inside)
+
+pub count_at-requires : goal.count_at-requires
+count_at-requires c =
+    let r = row_lies (dict c.args.objects.now c.args.slots.now c.args.words.now c.args.bytes.now) c.requires.bytes_value c.args.i c.requires.i_bound in
+    (r.small, r.inside)
+
+pub first_at-first-requires : goal.first_at-first-requires
+first_at-first-requires c =
+    let r = row_lies (dict c.args.objects.now c.args.slots.now c.args.words.now c.args.bytes.now) c.requires.bytes_value c.args.i c.requires.i_bound in
+    (r.small, r.inside)
+
+pub returns-then-kind_at-ne1 : goal.returns-then-kind_at-ne1
+unfolding count_on
+returns-then-kind_at-ne1 c = simp (ne_eqb _ 1 (λ q. c.if-kind_at-ne1.true (c.kind_at.ensures ∙ q)))
+
+pub returns-then-count_at-n : goal.returns-then-count_at-n
+unfolding count_on
+returns-then-count_at-n c =
+    let array : eqb (kind_at c.args.objects.now c.args.i) 1 ≡ true = eq-eqb _ 1 (sym c.kind_at.ensures ∙ c.if-kind_at-ne1.false) in
+    simp (array, lt-leb c.args.n (count_at c.args.objects.now c.args.i) (omega (arith, c.count_at.ensures, c.if-count_at-n.true)))
+
+pub ends-found-requires : goal.ends-found-requires
+ends-found-requires c =
+    simp c.first_at-first.ensures (elements_lie (dict c.args.objects.now c.args.slots.now c.args.words.now c.args.bytes.now) c.requires.bytes_value c.args.i c.args.n c.requires.i_bound (omega (arith, c.count_at.ensures, c.if-count_at-n.false)))
+
+pub returns : goal.returns
+unfolding count_on
+returns c =
+    let array : eqb (kind_at c.args.objects.now c.args.i) 1 ≡ true = eq-eqb _ 1 (sym c.kind_at.ensures ∙ c.if-kind_at-ne1.false) in
+    let enough : leb c.args.n (count_at c.args.objects.now c.args.i) ≡ true = le-leb c.args.n _ (omega (arith, c.count_at.ensures, c.if-count_at-n.false)) in
+    simp (array, enough)
+    (c.fits.ensures ∙ ap₂ within_limit c.limit.ensures (c.ends-found.ensures ∙ ap (λ p. ends_from c.args.slots.now c.args.words.now c.args.n p 0) c.first_at-first.ensures))
