@@ -125,7 +125,8 @@ fn encode_text(t: u64, word: u64, part: &[u8], out: &mut [u8]) -> Encoded
     requires { (t ≤ 20) × (is_text t ≡ true) }
     ensures { after_encode result out.new ≡ encode_of t word part.now out.old }
 {
-    if word != (part.len() as u64) {
+    let length = part.len() as u64;
+    if word != length {
         return Encoded::Refused(Refusal::BadValue);
     }
     let Word::Takes(_) = decode_text(t, part) else {

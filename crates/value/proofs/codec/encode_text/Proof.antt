@@ -15,11 +15,11 @@ use Rattle.value.proofs.codec.encode_text.Tie as tie
 part-itself : (c : tie.Start) → encoding c.args.t c.args.word c.args.part.now ≡ c.args.part.now
 part-itself c = encoding_text c.args.t c.args.word c.args.part.now c.requires.1
 
-returns : tie.Need-returns-then-word-part
+returns : tie.Need-returns-then-word-length
 returns c =
     let a = c in
     sym (encode_bad a.args.t a.args.word a.args.part.now a.args.out.now
-    (sayable_text a.args.t a.args.word a.args.part.now a.requires.0 a.requires.1 ∙ simp (ne_eqb _ _ c.if-word-part.true)))
+    (sayable_text a.args.t a.args.word a.args.part.now a.requires.0 a.requires.1 ∙ simp (ne_eqb _ _ c.if-word-length.true)))
 
 returns-2 : tie.Need-returns-in_default
 returns-2 c =
@@ -27,7 +27,7 @@ returns-2 c =
     let a = k in
     sym (encode_bad a.args.t a.args.word a.args.part.now a.args.out.now
     (sayable_text a.args.t a.args.word a.args.part.now a.requires.0 a.requires.1
-    ∙ simp (eq-eqb _ _ k.if-word-part.false, sym k.decode_text.ensures ∙ c.in_default.is)))
+    ∙ simp (eq-eqb _ _ k.if-word-length.false, sym k.decode_text.ensures ∙ c.in_default.is)))
 
 -- the text is one of its type
 good : (c : tie.In-Takes)
@@ -37,7 +37,7 @@ good c =
     let k = c in
     let a = k in
     sayable_text a.args.t a.args.word a.args.part.now a.requires.0 a.requires.1
-    ∙ simp (eq-eqb _ _ k.if-word-part.false, sym k.decode_text.ensures ∙ c.in-Takes.is)
+    ∙ simp (eq-eqb _ _ k.if-word-length.false, sym k.decode_text.ensures ∙ c.in-Takes.is)
 
 returns-3 : tie.Need-returns-then-out-part
 returns-3 c =
