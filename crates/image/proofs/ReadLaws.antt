@@ -66,9 +66,9 @@ module _ (s : List ℕ) (n b : ℕ) where
 
 -- ---- the count
 module _ (s : List ℕ) where
-  pub no-count : length s < 2 → readable s ≡ false
+  pub no_count : length s < 2 → readable s ≡ false
   unfolding readable
-  no-count h = rw (lt-leb 2 (length s) h)
+  no_count h = rw (lt-leb 2 (length s) h)
 
   pub many : 2048 < field s 0 2 → readable s ≡ false
   unfolding readable

@@ -84,6 +84,7 @@ fn heads_ok(s: &[u8], count: usize) -> bool
     true
 }
 
+#[tactic(auto, using(crate::proofs::ReadLaws::no_count, crate::proofs::ReadLaws::many, crate::proofs::ReadLaws::short, crate::proofs::ReadLaws::counted))]
 pub fn judge_image(store: &[u8]) -> bool
     ensures { result ≡ readable store.now }
 {
