@@ -1,6 +1,6 @@
 -- The two answers of a save, and what StoreFull is judged by.
 -- Assumes nothing.
-use mathlib.Core.Path.{◌≡◌}
+use mathlib.Core.Path.{◌≡◌, sym, ap, ◌∙◌}
 use mathlib.Core.Bool.{true, false}
 use mathlib.Core.List.{List}
 use Prim.Native.Nat.{ℕ, ◌+◌, ◌*◌, ◌≤◌, ◌<◌}
@@ -10,12 +10,16 @@ use lib.Dec.{leb}
 use lib.ListN.{length}
 use Rattle.answers.specs.declared.Refusal.TheVariants.{StoreFull}
 use Rattle.lists.specs.Lists.{over}
+use Rattle.lists.specs.Numbers.{bytes_of}
 use Rattle.entry.specs.Table.{Dict}
 use Rattle.entry.proofs.WalkLaws.{and_false}
-use Rattle.image.specs.Image.{Rec, bodies, image_of, new_table}
-use Rattle.commands.specs.Save.{fits, after_save, save_of}
+use Rattle.image.specs.Image.{Rec, heads, bodies, image_of, new_table, offered_in, offered}
+use Rattle.image.specs.Ranges.{range_of}
+use Rattle.image.specs.declared.ranging.Range.{Range}
+use Rattle.commands.specs.Save.{fits, after_save, save_of, size_in}
 use Rattle.commands.specs.declared.Saved.TheVariants.{Done, Refused}
-use Rattle.commands.proofs.ImageLaws.{length-image}
+use Rattle.commands.specs.declared.offering.Size.{Size}
+use Rattle.commands.proofs.ImageLaws.{image-laid, length-image}
 
 module _ (rs : List Rec) (store : List ℕ) where
   pub many_records : 2048 < length rs → fits rs store ≡ false
@@ -47,3 +51,30 @@ module _ (d : Dict) (l : ℕ) (store : List ℕ) where
   pub save_done : fits (new_table d l store) store ≡ true → save_of d store l ≡ after_save Done (over store 0 (image_of (new_table d l store)))
   unfolding save_of
   save_done e = rw e
+
+-- ---- by what was measured
+module _ (d : Dict) (store : List ℕ) (l : ℕ) (range : Range) (e : range ≡ range_of l) (z : Size) (h : z ≡ size_in (offered_in d range.first range.last)) where
+  pub measured_records : z.records ≡ length (offered d l)
+  measured_records = ap (λ (z : Size). z.records) h ∙ ap (λ (r : Range). length (offered_in d r.first r.last)) e
+
+  pub measured_bytes : z.bytes ≡ length (bodies (offered d l))
+  measured_bytes = ap (λ (z : Size). z.bytes) h ∙ ap (λ (r : Range). length (bodies (offered_in d r.first r.last))) e
+
+  pub full_of_records : 2048 < z.records → after_save (Refused StoreFull) store ≡ save_of d store l
+  full_of_records k = sym (save-full d l store (many_records (offered d l) store (omega (arith, measured_records))))
+
+  pub full_of_bytes : 16384 < z.bytes → after_save (Refused StoreFull) store ≡ save_of d store l
+  full_of_bytes k = sym (save-full d l store (many_bytes (offered d l) store (omega (arith, measured_bytes))))
+
+  pub full_of_length : length store < 2 + 8 * z.records + z.bytes → after_save (Refused StoreFull) store ≡ save_of d store l
+  full_of_length k = sym (save-full d l store (short_store (offered d l) store (omega (arith, measured_records, measured_bytes))))
+
+  -- the count, the records and the bodies, laid one after the other, are the image
+  pub laid : z.records ≤ 2048 → z.bytes ≤ 16384 → 2 + 8 * z.records + z.bytes ≤ length store → (a b c : List ℕ) → a ≡ over store 0 (bytes_of 2 z.records) → b ≡ over a 2 (heads 0 (offered_in d range.first range.last))
+      → c ≡ over b (2 + 8 * z.records) (bodies (offered_in d range.first range.last)) → after_save Done c ≡ save_of d store l
+  laid k m n a b c p q r =
+      let rs = offered d l in
+      let listed : offered_in d range.first range.last ≡ rs = ap (λ (r : Range). offered_in d r.first r.last) e in
+      let w : length (image_of rs) ≤ length store = omega (arith, length-image rs, measured_records, measured_bytes) in
+      let f = it_fits rs store (omega (arith, measured_records)) (omega (arith, measured_bytes)) (omega (arith, measured_records, measured_bytes)) in
+      ap (after_save Done) (rw (r, q, p, listed, measured_records) (image-laid store rs w)) ∙ sym (save_done d l store f)

@@ -10,6 +10,7 @@ use crate::offering::measure;
 use answers::Refusal;
 
 // Lays the image of what the list offers over the store's start.
+#[tactic(auto, using(crate::proofs::SaveLaws::full_of_records, crate::proofs::SaveLaws::full_of_bytes, crate::proofs::SaveLaws::full_of_length))]
 pub fn save(
     objects: &[u64],
     slots: &[u64],
