@@ -54,17 +54,17 @@ pub gather_few-few-requires : goal.gather_few-few-requires
 gather_few-few-requires c =
     let a = c.args in
     let l = lies (dict a.objects.now a.slots.now a.words.now a.bytes.now) a.r _ _ c.requires.bytes_value c.requires.r_bound.0 c.first_at-first.ensures c.list_count-n.ensures in
-    (c.if-n-le16.true, l.held)
+    (omega arith, l.held)
 
 pub slice_bounds-few-end : goal.slice_bounds-few-end
-slice_bounds-few-end c = omega (arith, c.if-n-le16.true, c.gather_few-few.ensures.0)
+slice_bounds-few-end c = omega (arith, c.gather_few-few.ensures.0)
 
 pub run-requires : goal.run-requires
 run-requires c =
     let a = c.args in
     let l = lies (dict a.objects.now a.slots.now a.words.now a.bytes.now) a.r _ _ c.requires.bytes_value c.requires.r_bound.0 c.first_at-first.ensures c.list_count-n.ensures in
     let r = c.requires.r_bound in
-    let n : length (take c.list_count-n.result c.gather_few-few.result) ≡ c.list_count-n.result = as_long _ _ _ c.gather_few-few.ensures.0 (omega (arith, l.few, c.if-n-le16.true)) in
+    let n : length (take c.list_count-n.result c.gather_few-few.result) ≡ c.list_count-n.result = as_long _ _ _ c.gather_few-few.ensures.0 (omega (arith, l.few)) in
     record { bytes_value = c.requires.bytes_value; list_bound = (omega (arith, l.inside, n), omega (arith, l.few, n), r.1, r.2, omega (arith, l.few, n, r.3)) }
 
 pub returns-then-n-le16 : goal.returns-then-n-le16
@@ -96,7 +96,7 @@ run-requires-2 c =
     let a = c.args in
     let l = lies (dict a.objects.now a.slots.now a.words.now a.bytes.now) a.r _ _ c.requires.bytes_value c.requires.r_bound.0 c.first_at-first.ensures c.list_count-n.ensures in
     let r = c.requires.r_bound in
-    let n : length (take c.list_count-n.result c.gather-list.result) ≡ c.list_count-n.result = as_long _ _ _ c.gather-list.ensures.0 (omega (arith, l.few, c.if-n-le16.false)) in
+    let n : length (take c.list_count-n.result c.gather-list.result) ≡ c.list_count-n.result = as_long _ _ _ c.gather-list.ensures.0 (omega (arith, l.few)) in
     record { bytes_value = c.requires.bytes_value; list_bound = (omega (arith, l.inside, n), omega (arith, l.few, n), r.1, r.2, omega (arith, l.few, n, r.3)) }
 
 pub returns : goal.returns
