@@ -29,6 +29,7 @@ fn is_signed(signature: u64, sub: u8, t: u64, data: &[u8]) -> bool
 }
 
 // A command, where its signature is given and there is a store.
+#[tactic(auto, unfolding(crate::specs::Judging::command_of))]
 fn command(signature: u64, given: Judged, store: usize, sub: u8, t: u64, data: &[u8]) -> Judged
     ensures { result ≡ command_of signature given store sub t «data».now }
 {
@@ -83,6 +84,7 @@ fn first(data: &[u8]) -> u8
 }
 
 // A mapping's count in row i: edition 2 keeps it.
+#[tactic(auto, unfolding(crate::specs::Judging::keep_of))]
 fn keep(objects: &[u64], i: usize, data: &[u8]) -> Judged
     requires { 12 ≤ length objects.now }
     ensures { result ≡ keep_of (edition_of objects.now) i (get_or «data».now 0 0) }
@@ -147,6 +149,7 @@ fn in_object(
 }
 
 // The count of a mapping; Done elsewhere.
+#[tactic(auto, using(crate::proofs::WriteLaws::one_byte), unfolding(crate::specs::Judging::count_first))]
 fn count_first(
     objects: &[u64],
     slots: &[u64],
@@ -171,6 +174,7 @@ fn count_first(
 }
 
 // What a write of a value comes to.
+#[tactic(auto, unfolding(crate::specs::Judging::judge_value_of, lists::specs::Numbers::number))]
 fn judge_value(
     objects: &[u64],
     slots: &[u64],

@@ -1,0 +1,37 @@
+-- `writing::judging::in_row` meets its contract: the row lies in what is lent, and so does its value. Assumes nothing.
+use mathlib.Core.Path.{◌≡◌, sym, subst, ◌∙◌}
+use mathlib.Core.Bool.{true}
+use Rattle.entry.specs.Table.{dict}
+use Rattle.entry.specs.declared.Extra.{Extra}
+use Rattle.entry.specs.Rules.{range_ok}
+use Rattle.entry.proofs.ValueLaws.{rows_of, found_lies, value_lies}
+use Rattle.writing.proofs.WriteLaws.{range_right}
+use Rattle.writing.proofs.judging.in_row.Goals as goal
+
+pub access_at-access-requires : goal.access_at-access-requires
+access_at-access-requires c =
+    let l = found_lies (dict c.args.objects.now c.args.slots.now c.args.words.now c.args.bytes.now) c.requires.bytes_value c.args.index c.args.i c.requires.index_value in
+    (l.small, l.inside)
+
+pub sub_at-requires-clause-rows : goal.sub_at-requires-clause-rows
+sub_at-requires-clause-rows c = rows_of (dict c.args.objects.now c.args.slots.now c.args.words.now c.args.bytes.now) c.requires.bytes_value
+
+pub sub_at-requires-clause-i_bound : goal.sub_at-requires-clause-i_bound
+sub_at-requires-clause-i_bound c =
+    (found_lies (dict c.args.objects.now c.args.slots.now c.args.words.now c.args.bytes.now) c.requires.bytes_value c.args.index c.args.i c.requires.index_value).below
+
+pub extra_at-requires : goal.extra_at-requires
+extra_at-requires c =
+    let l = found_lies (dict c.args.objects.now c.args.slots.now c.args.words.now c.args.bytes.now) c.requires.bytes_value c.args.index c.args.i c.requires.index_value in
+    (l.small, l.inside)
+
+pub at_value-requires-clause-p_bound : goal.at_value-requires-clause-p_bound
+at_value-requires-clause-p_bound c =
+    let f = value_lies (dict c.args.objects.now c.args.slots.now c.args.words.now c.args.bytes.now) c.requires.bytes_value c.args.index c.args.sub _ _ c.requires.index_value (sym c.sub_at.ensures ∙ c.in-Value.is) in
+    (f.low, f.slot)
+
+pub at_value-requires-clause-high_value : goal.at_value-requires-clause-high_value
+at_value-requires-clause-high_value c =
+    let d = dict c.args.objects.now c.args.slots.now c.args.words.now c.args.bytes.now in
+    let l = found_lies d c.requires.bytes_value c.args.index c.args.i c.requires.index_value in
+    (subst (λ (x : Extra). range_ok x.ranged x.low x.high ≡ true) (sym c.extra_at.ensures) (range_right d c.requires.bytes_value c.args.i l.below), c.requires.data_value)
