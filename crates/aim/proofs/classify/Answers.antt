@@ -31,13 +31,11 @@ returns-in-4736-to-4863 c =
     sym (rw (between_high 0x1200 0x127F x (omega arith), between_in 0x1280 0x12FF x (omega arith) (omega arith))) ∙ fielded _ _ _ c.in-Whole.is
 
 -- outside of both ranges
-away : (c : goal.After-at_place) (low high : ℕ) → 0x1200 ≤ low → high ≤ 0x12FF → between low high c.args.a.entry.index ≡ false
-away c low high a b =
+pub returns-in_default-index : goal.returns-in_default-index
+returns-in_default-index c =
+    let away : (low high : ℕ) → 0x1200 ≤ low → high ≤ 0x12FF → between low high c.args.a.entry.index ≡ false = λ low high a b.
     elim c.in_default-index.branch [
       | in_default-index-via-then-index-lt4608 w ↦ between_low low high _ (omega arith)
       | in_default-index-via-else-index-lt4608+else-index-lt4736+else-index-lt4864 w ↦ between_high low high _ (omega arith)
-    ]
-
-pub returns-in_default-index : goal.returns-in_default-index
-returns-in_default-index c =
-    c.at_place.ensures ∙ sym (rw (away c 0x1200 0x127F (omega arith) (omega arith), away c 0x1280 0x12FF (omega arith) (omega arith))) ∙ fielded _ _ _ c.in-Whole.is
+    ] in
+    c.at_place.ensures ∙ sym (rw (away 0x1200 0x127F (omega arith) (omega arith), away 0x1280 0x12FF (omega arith) (omega arith))) ∙ fielded _ _ _ c.in-Whole.is
