@@ -2,7 +2,8 @@
 use mathlib.Core.Path.{◌≡◌, sym, ap, ◌∙◌}
 use mathlib.Core.Bool.{cond}
 use mathlib.Core.List.{List}
-use Prim.Native.Nat.{ℕ}
+use Prim.Native.Nat.{ℕ, ◌+◌}
+use lib.ListN.{length}
 use native.Mathlib.Omega.{arith}
 use borrow.Author.Tests.{lt-ltb, le-ltb}
 use Rattle.mapping.specs.Word.{entry_of}
@@ -41,7 +42,7 @@ overflow_add-start c =
 
 pub returns-then-payload-start : goal.returns-then-payload-start
 returns-then-payload-start c =
-    sym (ap (λ b. cond b Short (next c.args.slots.now c.args.payload.now c.aim_of-a.result)) (lt-ltb _ _ c.if-payload-start.true))
+    sym (ap (λ b. cond b Short (next c.args.slots.now c.args.payload.now c.aim_of-a.result)) (lt-ltb (length c.args.payload.now) (c.in-Whole.start + c.in-Whole.length) (omega arith)))
     ∙ found c.args.objects.now c.args.slots.now c.args.payload.now c.args.word _ _ c.aim_of-a.ensures c.in-Whole.is
 
 pub at_class-requires : goal.at_class-requires
@@ -52,11 +53,11 @@ at_class-requires c b n p e =
     let k : c.in-Whole.length ≡ n = cc in
     let q : place_of c.args.objects.now (entry_of c.args.word).index (entry_of c.args.word).sub_index ≡ Value p = sym (ap (λ (z : Aim). z.place) c.aim_of-a.ensures) ∙ v.placed in
     let r = c.requires.value _ _ _ q in
-    (r.0, r.1, omega (arith, h, k, c.if-payload-start.false))
+    (r.0, r.1, omega (arith, h, k))
 
 pub returns : goal.returns
 returns c =
     c.at_class.ensures
     ∙ ap (on_class c.args.slots.now c.args.payload.now c.aim_of-a.result.entry.index) c.classify.ensures
-    ∙ sym (ap (λ b. cond b Short (next c.args.slots.now c.args.payload.now c.aim_of-a.result)) (le-ltb _ _ c.if-payload-start.false))
+    ∙ sym (ap (λ b. cond b Short (next c.args.slots.now c.args.payload.now c.aim_of-a.result)) (le-ltb (length c.args.payload.now) (c.in-Whole.start + c.in-Whole.length) (omega arith)))
     ∙ found c.args.objects.now c.args.slots.now c.args.payload.now c.args.word _ _ c.aim_of-a.ensures c.in-Whole.is
