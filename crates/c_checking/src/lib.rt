@@ -63,6 +63,7 @@ pub fn loomfinch_check_all(
     }
 }
 
+#[tactic(auto, using(crate::proofs::ExplainedLaws::explained_short, crate::proofs::ExplainedLaws::explained_done))]
 pub fn loomfinch_explain(
     objects: &[u64],
     slots: &[u64],
