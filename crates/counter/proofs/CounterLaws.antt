@@ -1,5 +1,5 @@
 -- Where a counter is, that it lies within the dictionary, and that counting keeps it well formed. Assumes nothing.
-use Rattle.std.proofs.Common.{◌≡◌, ℕ, ◌+◌, ◌%◌, ◌^◌, ◌<◌, Bool, true, false, cond, eqb, length, get_or, take, set, sym, refl, ap, ◌∙◌, subst, arith, take_all, ltb-true, eqb-true}
+use Rattle.std.proofs.Common.{◌≡◌, ℕ, ◌+◌, ◌%◌, ◌^◌, ◌<◌, Bool, true, false, cond, eqb, length, get_or, take, set, sym, refl, ap, ◌∙◌, subst, arith, take_all, ltb-true, eqb-true, ne_eqb}
 use Rattle.lists.specs.Numbers.{number, bytes_of}
 use Rattle.lists.proofs.NumberLaws.{length-bytes_of, bytes_bytes_of, number-bytes_of}
 use Rattle.value.specs.Codec.{size_of, is_text, fits_type, word_at}
@@ -68,6 +68,11 @@ counter_keeps d x sub w = rw w (go (counter_at d x sub) refl)
         let back : number (bytes_of 4 v) ≡ v = number-bytes_of 4 v (omega arith) in
         let put : put_in d.slots (contents d.words d.bytes) p (bytes_of 4 v) ≡ contents (set d.words p v) d.bytes = put_fixed d.slots (contents d.words d.bytes) p (bytes_of 4 v) (ap is_text c.1) ∙ rw (c.1, whole, back) in
         subst (λ (c : Contents). well_formed (filled d c) ≡ true) put (put_element d (bytes_of 4 v) w (element_of_lem d w x sub p c.0) (bytes_bytes_of 4 v) v (record { taken = rw (c.1, long, whole, back); room = λ h. let z : false ≡ true = sym (ap is_text c.1) ∙ h in let u : ◌≡◌ {A = ℕ} 0 1 = cc in absurd (omega arith) }))
+
+-- of a row that is no Array's, what its place comes to
+pub placed : (d : Dict) (x sub i : ℕ) → find_row d.objects x ≡ At i → (kind_at d.objects i ≡ 1 → ⊥) → of_u32 d (sub_at d.objects i sub) ≡ counter_at d x sub
+unfolding counter_at
+placed d x sub i f n = sym (simp (f, ne_eqb _ 1 n))
 
 -- what a definition comes to at a place that is no value's, where it says the same of the three others
 pub not_value : {A : Type 0} (f : Place → A) {x : A} → x ≡ f NoObject → x ≡ f NoSub → ((n : ℕ) → x ≡ f (Count n)) → (a : Place) → ((p : ℕ) → a ≡ Value p → ⊥) → x ≡ f a

@@ -1,11 +1,11 @@
 -- `counter::counter_at` meets its contract: each branch is a case of `counter_at`. Assumes nothing.
-use Rattle.std.proofs.Common.{◌≡◌, false, eqb, sym, refl, ap, ◌∙◌, eq-eqb, ne_eqb}
-use Rattle.entry.specs.Table.{Dict, dict, kind_at}
+use Rattle.std.proofs.Common.{◌≡◌, sym, refl, ap, ◌∙◌, eq-eqb, ne_eqb}
+use Rattle.entry.specs.Table.{Dict, dict}
 use Rattle.entry.specs.Find.{find_row}
 use Rattle.entry.specs.declared.Found.TheVariants.{At}
 use Rattle.entry.proofs.ValueLaws.{rows_of, found_lies, value_lies}
 use Rattle.counter.specs.Counter.{of_u32, in_row, counter_at}
-use Rattle.counter.proofs.CounterLaws.{not_value}
+use Rattle.counter.proofs.CounterLaws.{placed, not_value}
 use Rattle.counter.proofs.counter_at.Goals as goal
 
 pub find-requires : goal.find-requires
@@ -33,13 +33,9 @@ pub sub_at-requires-clause-i_bound : goal.sub_at-requires-clause-i_bound
 sub_at-requires-clause-i_bound c = (found_lies (dict c.args.objects.now c.args.slots.now c.args.words.now c.args.bytes.now) c.requires c.args.index c.in-At.i (sym c.find.ensures ∙ c.in-At.is)).below
 
 pub returns-in_default-sub_at : goal.returns-in_default-sub_at
-unfolding counter_at
 returns-in_default-sub_at c =
     let d : Dict = dict c.args.objects.now c.args.slots.now c.args.words.now c.args.bytes.now in
-    let row : find_row c.args.objects.now c.args.index ≡ At c.in-At.i = sym c.find.ensures ∙ c.in-At.is in
-    let other : eqb (kind_at c.args.objects.now c.in-At.i) 1 ≡ false = ne_eqb _ _ (λ q. c.if-kind_at-eq1.false (c.kind_at.ensures ∙ q)) in
-    let placed : of_u32 d c.sub_at.result ≡ counter_at d c.args.index c.args.sub = ap (of_u32 d) c.sub_at.ensures ∙ sym (simp (row, other)) in
-    not_value (of_u32 d) refl refl (λ n. refl) c.sub_at.result c.in_default-sub_at.not-Value ∙ placed
+    not_value (of_u32 d) refl refl (λ n. refl) c.sub_at.result c.in_default-sub_at.not-Value ∙ ap (of_u32 d) c.sub_at.ensures ∙ placed d c.args.index c.args.sub c.in-At.i (sym c.find.ensures ∙ c.in-At.is) (λ q. c.if-kind_at-eq1.false (c.kind_at.ensures ∙ q))
 
 pub type_at-requires : goal.type_at-requires
 type_at-requires c =
@@ -48,19 +44,11 @@ type_at-requires c =
     (f.low, f.slot)
 
 pub returns-then-type_at-eq7 : goal.returns-then-type_at-eq7
-unfolding counter_at
 returns-then-type_at-eq7 c =
     let d : Dict = dict c.args.objects.now c.args.slots.now c.args.words.now c.args.bytes.now in
-    let row : find_row c.args.objects.now c.args.index ≡ At c.in-At.i = sym c.find.ensures ∙ c.in-At.is in
-    let other : eqb (kind_at c.args.objects.now c.in-At.i) 1 ≡ false = ne_eqb _ _ (λ q. c.if-kind_at-eq1.false (c.kind_at.ensures ∙ q)) in
-    let placed : of_u32 d c.sub_at.result ≡ counter_at d c.args.index c.args.sub = ap (of_u32 d) c.sub_at.ensures ∙ sym (simp (row, other)) in
-    sym (rw (eq-eqb _ 7 (sym c.type_at.ensures ∙ c.if-type_at-eq7.true))) ∙ ap (of_u32 d) (sym c.in-Value.is) ∙ placed
+    sym (rw (eq-eqb _ 7 (sym c.type_at.ensures ∙ c.if-type_at-eq7.true))) ∙ ap (of_u32 d) (sym c.in-Value.is ∙ c.sub_at.ensures) ∙ placed d c.args.index c.args.sub c.in-At.i (sym c.find.ensures ∙ c.in-At.is) (λ q. c.if-kind_at-eq1.false (c.kind_at.ensures ∙ q))
 
 pub returns : goal.returns
-unfolding counter_at
 returns c =
     let d : Dict = dict c.args.objects.now c.args.slots.now c.args.words.now c.args.bytes.now in
-    let row : find_row c.args.objects.now c.args.index ≡ At c.in-At.i = sym c.find.ensures ∙ c.in-At.is in
-    let other : eqb (kind_at c.args.objects.now c.in-At.i) 1 ≡ false = ne_eqb _ _ (λ q. c.if-kind_at-eq1.false (c.kind_at.ensures ∙ q)) in
-    let placed : of_u32 d c.sub_at.result ≡ counter_at d c.args.index c.args.sub = ap (of_u32 d) c.sub_at.ensures ∙ sym (simp (row, other)) in
-    sym (rw (ne_eqb _ 7 (λ z. c.if-type_at-eq7.false (c.type_at.ensures ∙ z)))) ∙ ap (of_u32 d) (sym c.in-Value.is) ∙ placed
+    sym (rw (ne_eqb _ 7 (λ z. c.if-type_at-eq7.false (c.type_at.ensures ∙ z)))) ∙ ap (of_u32 d) (sym c.in-Value.is ∙ c.sub_at.ensures) ∙ placed d c.args.index c.args.sub c.in-At.i (sym c.find.ensures ∙ c.in-At.is) (λ q. c.if-kind_at-eq1.false (c.kind_at.ensures ∙ q))

@@ -1,9 +1,7 @@
 -- `pdo_validator::count_in` meets its contract. Assumes nothing.
-use mathlib.Core.Path.{◌≡◌, sym, ap, ap₂, ◌∙◌}
-use mathlib.Core.Bool.{true}
-use lib.Dec.{eqb, leb}
+use mathlib.Core.Path.{sym, ap, ap₂, ◌∙◌}
 use borrow.Author.Tests.{eq-eqb, ne_eqb, le-leb, lt-leb}
-use Rattle.entry.specs.Table.{dict, kind_at, count_at}
+use Rattle.entry.specs.Table.{dict, count_at}
 use Rattle.entry.proofs.ValueLaws.{row_lies, elements_lie}
 use Rattle.pdo_validator.specs.Counting.{within_limit, ends_from, count_on}
 use native.Mathlib.Omega.{arith}
@@ -31,8 +29,7 @@ returns-then-kind_at-ne1 c = simp (ne_eqb _ 1 (λ q. c.if-kind_at-ne1.true (c.ki
 pub returns-then-count_at-n : goal.returns-then-count_at-n
 unfolding count_on
 returns-then-count_at-n c =
-    let array : eqb (kind_at c.args.objects.now c.args.i) 1 ≡ true = eq-eqb _ 1 (sym c.kind_at.ensures ∙ c.if-kind_at-ne1.false) in
-    simp (array, lt-leb c.args.n (count_at c.args.objects.now c.args.i) (omega (arith, c.count_at.ensures, c.if-count_at-n.true)))
+    simp (eq-eqb _ 1 (sym c.kind_at.ensures ∙ c.if-kind_at-ne1.false), lt-leb c.args.n (count_at c.args.objects.now c.args.i) (omega (arith, c.count_at.ensures, c.if-count_at-n.true)))
 
 pub ends-found-requires : goal.ends-found-requires
 ends-found-requires c =
@@ -41,7 +38,5 @@ ends-found-requires c =
 pub returns : goal.returns
 unfolding count_on
 returns c =
-    let array : eqb (kind_at c.args.objects.now c.args.i) 1 ≡ true = eq-eqb _ 1 (sym c.kind_at.ensures ∙ c.if-kind_at-ne1.false) in
-    let enough : leb c.args.n (count_at c.args.objects.now c.args.i) ≡ true = le-leb c.args.n _ (omega (arith, c.count_at.ensures, c.if-count_at-n.false)) in
-    simp (array, enough)
+    simp (eq-eqb _ 1 (sym c.kind_at.ensures ∙ c.if-kind_at-ne1.false), le-leb c.args.n (count_at c.args.objects.now c.args.i) (omega (arith, c.count_at.ensures, c.if-count_at-n.false)))
     (c.fits.ensures ∙ ap₂ within_limit c.limit.ensures (c.ends-found.ensures ∙ ap (λ p. ends_from c.args.slots.now c.args.words.now c.args.n p 0) c.first_at-first.ensures))
