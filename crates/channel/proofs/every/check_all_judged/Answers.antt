@@ -9,6 +9,9 @@ pub returns-then-out-lt768 : goal.returns-then-out-lt768
 unfolding check_all_of
 returns-then-out-lt768 c = simp (c.requires, lt-ltb (length c.args.out.now) 768 c.if-out-lt768.true)
 
+pub check_each-requires-clause-in_bounds : goal.check_each-requires-clause-in_bounds
+check_each-requires-clause-in_bounds c = c.if-out-lt768.false
+
 pub returns : goal.returns
 unfolding check_all_of
 returns c = ap check_all_done c.check_each.ensures ∙ sym (simp (c.requires, le-ltb (length c.args.out.now) 768 c.if-out-lt768.false))
