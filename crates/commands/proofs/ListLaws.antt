@@ -1,4 +1,4 @@
--- What the lists offer of a well_formed_lem dictionary: R10.1, "List 1 saves everything", "any other list nothing".
+-- What the lists offer of a well-formed dictionary: R10.1, "List 1 saves everything", "any other list nothing".
 -- Assumes nothing.
 use mathlib.Core.Path.{◌≡◌, refl, ◌∙◌}
 use mathlib.Core.Bool.{true, false}

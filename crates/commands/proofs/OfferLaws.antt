@@ -1,4 +1,4 @@
--- The walks over the rows and their values, one turn at a time, and what a well_formed_lem dictionary says of them.
+-- The walks over the rows and their values, one turn at a time, and what a well-formed dictionary says of them.
 -- Assumes nothing.
 use mathlib.Core.Path.{◌≡◌, refl, sym, ap, ◌∙◌}
 use mathlib.Core.Bool.{Bool, true, false, cond}
@@ -81,7 +81,7 @@ module _ (d : Dict) (first last : ℕ) where
     unfolding offers
     offers-row i m h k q = rw (row_covered c i h k) q
 
--- ---- of a well_formed_lem dictionary
+-- ---- of a well-formed dictionary
 module _ (d : Dict) (e : well_formed d ≡ true) (i n : ℕ) (r : Row d.objects i n) (k : ℕ) (h : k < n) where
   abbrev p : ℕ
   p = first_at d.objects i + k

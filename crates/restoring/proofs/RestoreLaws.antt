@@ -1,4 +1,4 @@
--- The two walks, one turn at a time; and the result: it is well_formed_lem, and all but the values of the range stays. Assumes nothing.
+-- The two walks, one turn at a time; and the result: it is well-formed, and all but the values of the range stays. Assumes nothing.
 use mathlib.Core.Path.{◌≡◌, refl, sym, ap, ◌∙◌, subst}
 use mathlib.Core.Bool.{Bool, true, false, cond, ◌||◌, not}
 use mathlib.Core.List.{List}

@@ -1,4 +1,4 @@
--- What a value gets, put as it fits, keeps the dictionary well_formed_lem and changes that value alone.
+-- What a value gets, put as it fits, keeps the dictionary well-formed and changes that value alone.
 -- Assumes nothing.
 use mathlib.Core.Path.{◌≡◌, refl, sym, ap, ◌∙◌}
 use mathlib.Core.Bool.{Bool, true, false}

@@ -1,4 +1,4 @@
--- Where a write puts a value, the value is of its type and fits its room; so a write keeps a dictionary well_formed_lem.
+-- Where a write puts a value, the value is of its type and fits its room; so a write keeps a dictionary well-formed.
 -- Assumes nothing.
 use mathlib.Core.Path.{◌≡◌, refl, sym, ap, ◌∙◌}
 use mathlib.Core.Bool.{Bool, true, false, cond, ◌&&◌, ◌||◌}

@@ -1,4 +1,4 @@
--- `writing::judging::at_value_lem` meets its contract. Assumes nothing.
+-- `writing::judging::at_value` meets its contract. Assumes nothing.
 use mathlib.Core.Path.{◌≡◌, sym, ap₂, ◌∙◌}
 use mathlib.Core.Bool.{true, ◌&&◌}
 use borrow.Author.Tests.{eq-eqb, ne_eqb}

@@ -1,4 +1,4 @@
--- `writing::writing::write` meets its contract: what is not well_formed_lem is refused, and the rest is the judged call's. Assumes nothing.
+-- `writing::writing::write` meets its contract: what is not well-formed is refused, and the rest is the judged call's. Assumes nothing.
 use mathlib.Core.Path.{sym, ◌∙◌}
 use Rattle.writing.specs.Writing.{write_of}
 use Rattle.writing.proofs.writing.write.Goals as goal
