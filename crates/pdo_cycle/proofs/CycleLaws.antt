@@ -50,7 +50,7 @@ module _ (l : List ℕ) (n i : ℕ) where
       let z : i + (1 + x.consumed) ≡ i + 1 + x.consumed = omega arith in
       rw (map-append event_number es x.events, over-over l n (map event_number es) (n + length es) (map event_number x.events) (omega (arith, m)) (omega (arith, m, h)), length-append es x.events, y, z)
 
--- ---- a payload leaves a well_formed_lem dictionary of bytes, and has at most 254 events
+-- ---- a payload leaves a well-formed dictionary of bytes, and has at most 254 events
 module _ (v : Delivery) (c : Contents) (i : ℕ) (w : well_formed (dict v.objects v.slots c.words c.bytes) ≡ true) where
   pub turn_few : length (received_at v c i).events ≤ 254
   turn_few = received_few (frame v.objects v.slots (payload_of v.delivered v.payloads i) (sender_of v.payloads i) i) c w (version_of v.payloads i) (ready_of v.payloads i)

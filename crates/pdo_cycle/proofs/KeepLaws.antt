@@ -1,4 +1,4 @@
--- A cycle keeps the dictionary well_formed_lem, and each payload's turn is a call of its own. Assumes nothing.
+-- A cycle keeps the dictionary well-formed, and each payload's turn is a call of its own. Assumes nothing.
 use mathlib.Core.Path.{◌≡◌}
 use mathlib.Core.Bool.{Bool, true, false, cond, ◌&&◌}
 use mathlib.Core.List.{List, []}
@@ -33,7 +33,7 @@ own_call v c i room log w h l =
       turn = received-numbered v.objects v.slots (payload_of v.delivered v.payloads i) (sender_of v.payloads i) i c (version_of v.payloads i) (ready_of v.payloads i);
     }
 
--- ---- a well_formed_lem dictionary of bytes
+-- ---- a well-formed dictionary of bytes
 pub record Sane (v : Delivery) (c : Contents) : Type 0 where
   pub well : well_formed (dict v.objects v.slots c.words c.bytes) ≡ true
   pub bytes : Bytes c.bytes

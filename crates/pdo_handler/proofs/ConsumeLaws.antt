@@ -1,4 +1,4 @@
--- Consuming keeps the dictionary well_formed_lem, whatever the payload and whatever is answered. Assumes nothing.
+-- Consuming keeps the dictionary well-formed, whatever the payload and whatever is answered. Assumes nothing.
 use mathlib.Core.Path.{◌≡◌}
 use mathlib.Core.Bool.{Bool, true, false, cond}
 use mathlib.Core.List.{List, [], ◌∷◌}
@@ -22,7 +22,7 @@ use Rattle.pdo_channel.specs.Channel.{first_match, expected_of, right_version}
 use Rattle.pdo_run.specs.Run.{Frame, frame, held, marked, decided, recorded, act_of, ran, behind, run_from, list_in, run_on, finished}
 use Rattle.pdo_handler.specs.Consume.{map_version, on_channel, consumed_by, received_by, after_consume, consume_done, consume_of}
 
--- a well_formed_lem dictionary of bytes
+-- a well-formed dictionary of bytes
 pub record Sane (f : Frame) (c : Contents) : Type 0 where
   pub well : well_formed (held f c) ≡ true
   pub bytes : Bytes c.bytes

@@ -63,7 +63,7 @@ goes_on_lem edition (outcome.Undecodable f) s = let z : ◌≡◌ {A = ℕ} 0 1 
 goes_on_lem edition outcome.TooLong s = refl
 goes_on_lem edition (outcome.Stored p start n) s = refl
 
--- a word that does not stop the run keeps the dictionary well_formed_lem
+-- a word that does not stop the run keeps the dictionary well-formed
 pub act_keeps : (d : Dict) (payload : List ℕ) (sender i w : ℕ) → well_formed d ≡ true → Bytes payload → (o : Outcome) → o ≡ outcome_of d.objects d.slots payload w → (effect_of o).stops ≡ false
     → well_formed (filled d (act_of (frame d.objects d.slots payload sender i) (contents d.words d.bytes) o)) ≡ true
 unfolding act_of

@@ -1,4 +1,4 @@
--- Setting an error bit keeps the dictionary well_formed_lem: it is a put of the same string with that bit. Assumes nothing.
+-- Setting an error bit keeps the dictionary well-formed: it is a put of the same string with that bit. Assumes nothing.
 use mathlib.Core.Path.{◌≡◌, refl, ap, ◌∙◌}
 use mathlib.Core.Bool.{Bool, true, false, cond, ◌&&◌, ◌||◌}
 use mathlib.Core.List.{List}

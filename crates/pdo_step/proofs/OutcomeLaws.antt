@@ -148,7 +148,7 @@ module _ (objects slots payload : List ℕ) (w : ℕ) where
       fielded field.Misaligned = omega arith
       fielded (field.Whole b m) = go b m (ltb (length payload) (b + m)) (between 0x1200 0x127F e.index) (between 0x1280 0x12FF e.index) refl
 
--- ---- a step keeps the dictionary well_formed_lem
+-- ---- a step keeps the dictionary well-formed
 pub step_keeps : (d : Dict) (payload : List ℕ) (w : ℕ) → well_formed d ≡ true → Bytes payload → well_formed (filled d (applied d.slots payload (contents d.words d.bytes) (outcome_of d.objects d.slots payload w))) ≡ true
 unfolding applied
 step_keeps d payload w e b = go (outcome_of d.objects d.slots payload w) refl
