@@ -100,6 +100,15 @@ def respelled(path, text, turned, functions, finals=frozenset()):
     return TOKEN.sub(turn, text)
 
 
+def in_code(text, turn):
+    """Turns the code of a text, and what its comments have in backquotes."""
+    lines = text.split("\n")
+    is_comment = [re.match(r" *(--|//)", line) is not None for line in lines]
+    code = turn("\n".join("" if c else line for line, c in zip(lines, is_comment))).split("\n")
+    quoted = lambda line: re.sub(r"`[^`\n]+`", lambda m: turn(m.group(0)), line)
+    return "\n".join(quoted(line) if c else done for line, done, c in zip(lines, code, is_comment))
+
+
 def together(path, text, turned):
     """Names of a file that were two and would be one."""
     by_new = {}
@@ -126,7 +135,7 @@ def main():
     if clashes:
         return 1
     for path in wholes:
-        write(path, respelled(path, read(path), turned, functions))
+        write(path, in_code(read(path), lambda text: respelled(path, text, turned, functions)))
     for path in sorted(glob.glob("crates/*/must-fail/*.edit")):
         write(path, respelled(path, read(path), turned, functions, finals))
     for path in ["README.md"] + sorted(glob.glob("docs/**/*.md", recursive=True)):

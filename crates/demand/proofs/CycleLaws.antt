@@ -32,7 +32,7 @@ from_turns v (suc k) i c room = go (ltb room 254) (from_turns v k (i + 1) (recei
         let z : 1 + x.consumed ≡ suc x.consumed = omega arith in
         record { few = omega (arith, f.few); leaves = rw z f.leaves; events = rw z (ap (λ es. (received_at v c i).events ++ es) f.events) }
 
--- a well_formed_lem dictionary of bytes stays one
+-- a well-formed dictionary of bytes stays one
 pub turns_sane : (v : Delivery) → Bytes v.delivered → (i n : ℕ) (c : Contents) → Sane v c → Sane v (contents_from v i n c)
 unfolding contents_from
 turns_sane v b i zero c s = s

@@ -32,7 +32,7 @@ use Rattle.demand.proofs.LastLaws.{pass_lasts, shaped_keeps}
 use Rattle.demand.proofs.CallLaws.{filled_shaped, write_shaped, shaped_trans, insert_shaped}
 use Rattle.demand.proofs.BytesLaws.{insert_bytes, write_bytes, consume_bytes, cycle_bytes}
 
--- ---- each call keeps the dictionary well_formed_lem and of bytes, a restore too
+-- ---- each call keeps the dictionary well-formed and of bytes, a restore too
 pub call_keeps : (c : Call) (d : Dict) → Given c → Kept d → Kept (left c d)
 unfolding update_of counter_of
 call_keeps look d g k = k

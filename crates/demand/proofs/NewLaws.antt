@@ -1,4 +1,4 @@
--- `new` makes a well_formed_lem dictionary, whatever else is lent. Assumes nothing.
+-- `new` makes a well-formed dictionary, whatever else is lent. Assumes nothing.
 use mathlib.Core.Path.{◌≡◌, refl, sym, ap, ◌∙◌}
 use mathlib.Core.Bool.{Bool, true, false, cond}
 use mathlib.Core.List.{List, []}

@@ -98,7 +98,7 @@ abbrev pub AllGiven : List Call → Type 0
 AllGiven [] = Unit {0}
 AllGiven (c ∷ cs) = Given c × AllGiven cs
 
--- what each call keeps: the dictionary is well_formed_lem, and of bytes
+-- what each call keeps: the dictionary is well-formed, and of bytes
 pub record Kept (d : Dict) : Type 0 where
   pub well : well_formed d ≡ true
   pub bytes : Bytes d.bytes

@@ -1,4 +1,4 @@
--- Where the names and the rooms of a well_formed_lem dictionary lie: each behind those before it, so that no two meet. Indices rise, and every
+-- Where the names and the rooms of a well-formed dictionary lie: each behind those before it, so that no two meet. Indices rise, and every
 -- value is one of a row's.
 -- Assumes nothing.
 use mathlib.Core.Path.{◌≡◌}
@@ -231,7 +231,7 @@ owner d (suc k) i v b low {v'} {b'} q p l h =
         let t = ih (omega arith) in
         record { row = t.row; k = t.k; below = omega (arith, t.below); inside = t.inside; place = t.place }
 
--- ---- of a well_formed_lem dictionary
+-- ---- of a well-formed dictionary
 walked : (d : Dict) → well_formed d ≡ true → rows_from d (number_of d.objects) 0 0 0 0 ≡ walk.Whole (values_of d.objects) (used_of d.objects)
 unfolding well_formed
 walked d e =

@@ -1,4 +1,4 @@
--- Rows that name the same objects are well_formed_lem together, where what each has beside these keeps the rules.
+-- Rows that name the same objects are well-formed together, where what each has beside these keeps the rules.
 -- Assumes nothing.
 use Prim.Native.Nat.{ℕ, zero, suc, ◌+◌, ◌-◌, ◌<◌, ◌≤◌}
 use mathlib.Core.Path.{◌≡◌, refl, ◌∙◌}

@@ -34,7 +34,7 @@ module _ (slots words bytes : List ℕ) (p : ℕ) where
   pub laid_fixed : (n : ℕ) → is_text (type_at slots p) ≡ false → n ≡ size_of (type_at slots p) → bytes_of n (get_or words p 0) ≡ encoding_in slots words bytes p
   laid_fixed n x a = rw a (sym (encoding_fixed (type_at slots p) (get_or words p 0) (take (get_or words p 0) (drop (start_at slots p) bytes)) x))
 
--- ---- of a well_formed_lem dictionary
+-- ---- of a well-formed dictionary
 -- a value of the type and the word that are stored, which the encoding decodes to
 pub record Decodes (d : Dict) (p : ℕ) : Type 0 where
   pub value : ObjectValue

@@ -1,4 +1,4 @@
--- What a well_formed_lem dictionary says of each of its rows and of each of its values.
+-- What a well-formed dictionary says of each of its rows and of each of its values.
 -- Assumes nothing.
 use mathlib.Core.Path.{◌≡◌}
 use mathlib.Core.Bool.{true}

@@ -1,4 +1,4 @@
--- Putting an encoded value that its type takes, and that its room holds, keeps a dictionary well_formed_lem.
+-- Putting an encoded value that its type takes, and that its room holds, keeps a dictionary well-formed.
 -- Assumes nothing.
 use mathlib.Core.Path.{◌≡◌, refl, sym, ap, ◌∙◌, subst}
 use mathlib.Core.Bool.{Bool, true, false}

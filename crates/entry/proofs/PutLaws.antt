@@ -1,4 +1,4 @@
--- Putting a value keeps a dictionary well_formed_lem.
+-- Putting a value keeps a dictionary well-formed.
 -- Assumes nothing.
 use mathlib.Core.Path.{◌≡◌, refl, sym, ap, ◌∙◌, subst}
 use mathlib.Core.Bool.{true, false, ◌&&◌}

@@ -1,4 +1,4 @@
--- From a lookup to facts: what `find` and `locate` need holds of a well_formed_lem dictionary, and the place that they answer is an element
+-- From a lookup to facts: what `find` and `locate` need holds of a well-formed dictionary, and the place that they answer is an element
 -- of which the judgement has said all that reading and putting need.
 -- Assumes nothing.
 use mathlib.Core.Path.{◌≡◌, refl, sym, ap, ◌∙◌, subst}

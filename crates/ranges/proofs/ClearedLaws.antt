@@ -1,4 +1,4 @@
--- A dictionary without its ranges has rows that are alike, and is well_formed_lem where it was with them.
+-- A dictionary without its ranges has rows that are alike, and is well-formed where it was with them.
 -- Assumes nothing.
 use Prim.Native.Nat.{ℕ, zero, suc, ◌+◌, ◌*◌, ◌%◌, ◌≤◌, ◌<◌}
 use mathlib.Core.Path.{◌≡◌, refl, sym, ap, ◌∙◌}

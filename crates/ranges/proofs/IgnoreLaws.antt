@@ -1,4 +1,4 @@
--- No call but a write looks at a range: of a well_formed_lem dictionary and of the same without its ranges each answers and leaves the same.
+-- No call but a write looks at a range: of a well-formed dictionary and of the same without its ranges each answers and leaves the same.
 -- Assumes nothing.
 use Prim.Native.Nat.{ℕ, zero, suc, ◌+◌}
 use mathlib.Core.Path.{◌≡◌, refl, sym}

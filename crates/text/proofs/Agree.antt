@@ -52,7 +52,7 @@ within_byte {lo} {hi} {b} {rs} {rs'} {bs} e d a =
 clash : {A : Type 0} → ◌≡◌ {A = ℕ} 0 1 → A
 clash z = absurd (omega arith)
 
--- ---- well_formed_lem bytes are found good
+-- ---- well-formed bytes are found good
 through : {rs : List Range} {bs : List ℕ} → Allows rs bs → (t : List ℕ) → ((k : ℕ) → judge_at k [] t ≡ Good) → (k : ℕ)
     → judge_at k rs (bs ++ t) ≡ Good
 unfolding judge_at
@@ -99,7 +99,7 @@ complete empty k = refl
 complete (char {s = t} m a w) k = first m a t (λ j. complete w j) k
 
 -- ---- a step back
--- what the state rs asks for, and a well_formed_lem text behind it
+-- what the state rs asks for, and a well-formed text behind it
 data After : List Range → List ℕ → Type 0 where
   after : {rs : List Range} {bs t : List ℕ} → Allows rs bs → WellFormed t → After rs (bs ++ t)
 

@@ -38,16 +38,16 @@ pub data Allows : List Range → List ℕ → Type 0 where
   end : Allows [] []
   byte : {lo hi b : ℕ} {rs : List Range} {bs : List ℕ} → lo ≤ b → b ≤ hi → Allows rs bs → Allows (lo to hi ∷ rs) (b ∷ bs)
 
--- well_formed_lem: characters one after another, each allowed by a row of the table
+-- well-formed: characters one after another, each allowed by a row of the table
 pub data WellFormed : List ℕ → Type 0 where
   empty : WellFormed []
   char : {row : List Range} {bs s : List ℕ} → Memᴰ row table → Allows row bs → WellFormed s → WellFormed (bs ++ s)
 
--- p begins a well_formed_lem text: some bytes behind it complete one
+-- p begins a well-formed text: some bytes behind it complete one
 abbrev pub Begins : List ℕ → Type 0
 Begins p = (q : List ℕ) × WellFormed (p ++ q)
 
--- k is the place at which s stops being well_formed_lem: what stands before k begins a text, and with the byte at k it no longer does;
+-- k is the place at which s stops being well-formed: what stands before k begins a text, and with the byte at k it no longer does;
 -- or s ends at k, within a character
 pub record Stops (s : List ℕ) (k : ℕ) : Type 0 where
   pub inside : k ≤ length s

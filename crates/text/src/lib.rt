@@ -1,4 +1,4 @@
-// Is a byte slice well_formed_lem UTF-8 (the Unicode Standard, Table 3-7), and if not, at which byte does it stop being so?
+// Is a byte slice well-formed UTF-8 (the Unicode Standard, Table 3-7), and if not, at which byte does it stop being so?
 // The bytes are gone through once, by a table of byte classes and a table of states.
 #![tactic(auto)]
 
@@ -10,7 +10,7 @@ ghost use Rattle.text.specs.Tables.{tables, asks, reach};
 
 use tables::{AFTER, CLASS};
 
-// Well-formed; or the place of the first byte with which no well_formed_lem text goes on: the length, where the bytes end within a character.
+// Well-formed; or the place of the first byte with which no well-formed text goes on: the length, where the bytes end within a character.
 #[derive(Clone, Copy)]
 pub enum Text {
     Good,

@@ -13,7 +13,7 @@ pub record TooFew (t : ℕ) (s : List ℕ) (needed had : ℕ) : Type 0 where
   pub had-is : had ≡ length s
   pub fewer : had < needed
 
--- of a VisibleString: the place at which it stops being well_formed_lem
+-- of a VisibleString: the place at which it stops being well-formed
 pub record BadText (t : ℕ) (s : List ℕ) (at : ℕ) : Type 0 where
   pub visible : t ≡ 11
   pub stops : Stops s at
