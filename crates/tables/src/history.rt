@@ -29,7 +29,7 @@
 //   H COUNT FIRST WIDTH INDEX ANSWER [ROW]                 looking an index up, in a dictionary of its own: COUNT rows, row i at
 //                                                          FIRST + i * WIDTH / (COUNT - 1)
 //   G COUNT FIRST WIDTH FOUND MISSING SUM                  the same at each row and beside each, with a sum over the answers
-use crate::rows::{lookup_line, sweep_line};
+use crate::looking::{lookup_line, sweep_line};
 use asking_lines::{
     channel_line, channels_line, count_line, element_line, name_line, nodes_line, read_line, sum,
     sum_with_store, typed_line,

@@ -3,7 +3,7 @@
 #![tactic(auto)]
 
 mod history;
-mod rows;
+mod looking;
 mod tally;
 
 pub use tally::{State, fresh, missing, run};
