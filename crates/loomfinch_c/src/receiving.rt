@@ -1,0 +1,63 @@
+// Received payloads: the calls of c_receiving.
+ghost use Rattle.std.specs.Prelude.{◌≡◌, not, eqb, length};
+ghost use Rattle.c_answers.specs.Answers.{answer_number};
+ghost use Rattle.entry.specs.Table.{dict};
+ghost use Rattle.entry.specs.Put.{contents};
+ghost use Rattle.pdo_handler.specs.Consume.{consume_of};
+ghost use Rattle.pdo_handler.specs.Errors.{update_of};
+ghost use Rattle.pdo_cycle.specs.Cycle.{cycle_of};
+ghost use Rattle.c_receiving.specs.Receiving.{heard, consume_numbers, cycle_numbers};
+
+#[unsafe(no_mangle)]
+pub extern "C" fn loomfinch_consume_pdo_payload(
+    objects: &[u64],
+    slots: &[u64],
+    words: &mut [u64],
+    bytes: &mut [u8],
+    payload: &[u8],
+    sender: u8,
+    version: u8,
+    ready: u64,
+    events: &mut [u64],
+    count: &mut u64,
+) -> u64
+    ensures { heard result (contents words.new bytes.new) events.new 0 count.new ≡ consume_numbers (consume_of (dict objects.now slots.now words.old bytes.old) payload.now sender version (not (eqb ready 0)) (length events.old) events.old) count.old }
+{
+    c_receiving::loomfinch_consume_pdo_payload(
+        objects, slots, words, bytes, payload, sender, version, ready, events, count,
+    )
+}
+
+#[unsafe(no_mangle)]
+pub extern "C" fn loomfinch_consume_cycle(
+    objects: &[u64],
+    slots: &[u64],
+    words: &mut [u64],
+    bytes: &mut [u8],
+    delivered: &[u8],
+    payloads: &[u64],
+    events: &mut [u64],
+    consumed: &mut u64,
+    count: &mut u64,
+) -> u64
+    ensures { heard result (contents words.new bytes.new) events.new consumed.new count.new ≡ cycle_numbers (cycle_of (dict objects.now slots.now words.old bytes.old) delivered.now payloads.now events.old) consumed.old count.old }
+{
+    c_receiving::loomfinch_consume_cycle(
+        objects, slots, words, bytes, delivered, payloads, events, consumed, count,
+    )
+}
+
+#[unsafe(no_mangle)]
+pub extern "C" fn loomfinch_update_pdo_error_object(
+    objects: &[u64],
+    slots: &[u64],
+    words: &[u64],
+    bytes: &mut [u8],
+    index: u16,
+    node: u8,
+) -> u64
+    ensures answer { result ≡ answer_number (update_of (dict objects.now slots.now words.now bytes.old) index node).answer }
+    ensures bytes { bytes.new ≡ (update_of (dict objects.now slots.now words.now bytes.old) index node).bytes }
+{
+    c_receiving::loomfinch_update_pdo_error_object(objects, slots, words, bytes, index, node)
+}

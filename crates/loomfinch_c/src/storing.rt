@@ -1,0 +1,75 @@
+// Writing, and what is stored: the calls of c_storing.
+ghost use Rattle.std.specs.Prelude.{◌≡◌};
+ghost use Rattle.c_answers.specs.Answers.{answer_number};
+ghost use Rattle.entry.specs.Table.{dict};
+ghost use Rattle.pdo_validator.specs.Counting.{valid_of};
+ghost use Rattle.restoring.specs.Restore.{restore_of};
+ghost use Rattle.writing.specs.Writing.{write_of};
+ghost use Rattle.c_storing.specs.Storing.{wrote_number, wrote_place, wrote_had, restored_number};
+
+#[unsafe(no_mangle)]
+pub extern "C" fn loomfinch_write(
+    objects: &mut [u64],
+    slots: &[u64],
+    words: &mut [u64],
+    bytes: &mut [u8],
+    store: &mut [u8],
+    index: u16,
+    sub_index: u8,
+    type_number: u64,
+    data: &[u8],
+    place: &mut u64,
+    had: &mut u64,
+) -> u64
+    ensures answer { result ≡ wrote_number (write_of (dict objects.old slots.now words.old bytes.old) store.old index sub_index type_number «data».now).answer }
+    ensures objects { objects.new ≡ (write_of (dict objects.old slots.now words.old bytes.old) store.old index sub_index type_number «data».now).objects }
+    ensures words { words.new ≡ (write_of (dict objects.old slots.now words.old bytes.old) store.old index sub_index type_number «data».now).words }
+    ensures bytes { bytes.new ≡ (write_of (dict objects.old slots.now words.old bytes.old) store.old index sub_index type_number «data».now).bytes }
+    ensures store { store.new ≡ (write_of (dict objects.old slots.now words.old bytes.old) store.old index sub_index type_number «data».now).store }
+    ensures place { place.new ≡ wrote_place (write_of (dict objects.old slots.now words.old bytes.old) store.old index sub_index type_number «data».now).answer place.old }
+    ensures had { had.new ≡ wrote_had (write_of (dict objects.old slots.now words.old bytes.old) store.old index sub_index type_number «data».now).answer had.old }
+{
+    c_storing::loomfinch_write(
+        objects,
+        slots,
+        words,
+        bytes,
+        store,
+        index,
+        sub_index,
+        type_number,
+        data,
+        place,
+        had,
+    )
+}
+
+#[unsafe(no_mangle)]
+pub extern "C" fn loomfinch_validate_pdo_mapping(
+    objects: &[u64],
+    slots: &[u64],
+    words: &[u64],
+    bytes: &[u8],
+    index: u16,
+    count: u8,
+) -> u64
+    ensures { result ≡ answer_number (valid_of (dict objects.now slots.now words.now bytes.now) index count) }
+{
+    c_storing::loomfinch_validate_pdo_mapping(objects, slots, words, bytes, index, count)
+}
+
+#[unsafe(no_mangle)]
+pub extern "C" fn loomfinch_restore_power_on_values(
+    objects: &[u64],
+    slots: &mut [u64],
+    words: &mut [u64],
+    bytes: &mut [u8],
+    store: &[u8],
+    first: u16,
+    last: u16,
+) -> u64
+    ensures answer { result ≡ restored_number (restore_of (dict objects.now slots.old words.old bytes.old) store.now first last).answer }
+    ensures memory { dict objects.now slots.new words.new bytes.new ≡ (restore_of (dict objects.now slots.old words.old bytes.old) store.now first last).memory }
+{
+    c_storing::loomfinch_restore_power_on_values(objects, slots, words, bytes, store, first, last)
+}
