@@ -28,7 +28,7 @@ AsksNothing T c =
     (M : Type 1) (𝓤 : Ura M) (𝓛 : Logic 𝓤) (mem : Memory → SProp 𝓤) (run : Routine → Fun 𝓤) (κs : Lfts T.signature.lifetimes) (a : Args T.signature κs) (g : (c M 𝓤 𝓛 mem run κs a).ghost)
     → (c M 𝓤 𝓛 mem run κs a).requires g ≡ emp 𝓤
 
--- ---- of a call that is proved by hand Rattle makes no plain reading: here is a claim of the arguments, the result and the parameters at exit
+-- ---- of a call whose claim is written out in full: of the arguments, the result and the parameters at exit
 abbrev pub Claim : Ended → Type 1
 Claim T = (κs : Lfts T.signature.lifetimes) → Args T.signature κs → Res T.signature κs → AtExit T κs → Type 0
 

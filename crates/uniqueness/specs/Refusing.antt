@@ -28,7 +28,7 @@ SlicesStay n ps r P refused B slices lent =
     (κs : Lfts n) (a : Dens κs ps) (z : (res_t r κs).Denot) (w : Lasts (ended_of n ps r) κs a)
     → P κs a z (at_exit (ended_of n ps r) κs a w) → refused κs z → slices κs a w ≡ lent κs a
 
--- the same of a claim that a contract proved by hand just says
+-- the same of a claim that a contract just says
 abbrev pub ClaimStays : (T : Ended) → Claim T → ((κs : Lfts T.signature.lifetimes) → Res T.signature κs → Type 0) → ((κs : Lfts T.signature.lifetimes) (a : Args T.signature κs) → Lasts T κs a) → Type 0
 ClaimStays T P refused lent =
     (κs : Lfts T.signature.lifetimes) (a : Args T.signature κs) (z : Res T.signature κs) (w : Lasts T κs a) → P κs a z (at_exit T κs a w) → refused κs z → w ≡ lent κs a
