@@ -1,4 +1,4 @@
-// The answers that calls share: done, and the refusals with their numbers.
+// The refusals that calls share, with their numbers.
 #![tactic(auto)]
 
 ghost use Rattle.std.specs.Prelude.{◌≡◌};
@@ -25,13 +25,6 @@ pub enum Refusal {
     Full,
     StoreFull,
     OutOfRange,
-}
-
-// Of a call that has nothing else to say.
-#[derive(Clone, Copy)]
-pub enum Answer {
-    Done,
-    Refused(Refusal),
 }
 
 pub fn number(r: Refusal) -> u64

@@ -1,6 +1,7 @@
 -- A number says a record exactly where it is that record's number. Assumes nothing.
+use Rattle.std.specs.Prelude.{Some, None}
 use mathlib.Core.Path.{◌≡◌, refl, sym, ap, subst, ◌∙◌}
-use mathlib.Core.Bool.{Bool, true, false, cond, ◌&&◌, ◌||◌}
+use mathlib.Core.Bool.{Bool, true, false, cond, ◌&&◌}
 use mathlib.Core.Logic.{◌≢◌}
 use Prim.Native.Nat.{ℕ, ◌+◌, ◌*◌, ◌/◌, ◌%◌, ◌<◌, ◌≤◌}
 use native.Mathlib.Omega.{arith}
@@ -11,9 +12,8 @@ use Rattle.event.specs.declared.Unwritten.TheVariants.{CountNotWritable, TooLong
 use Rattle.event.specs.declared.Event.{Event}
 use Rattle.event.specs.declared.Event.TheVariants.{MapVersion, PayloadShort, Server, Client, WriteRefused}
 use Rattle.event.specs.declared.EventRecord.{EventRecord}
-use Rattle.event.specs.declared.Recorded.TheVariants.{Is, Nothing}
 use Rattle.event.specs.Record.{kind_of, detail_of, packed, event_number, event_of, record_of, Small, recorded_of, may_have, is_record}
-use Rattle.event.proofs.RecordLaws.{event_short, record_number}
+use Rattle.event.proofs.RecordLaws.{record_number}
 
 -- ---- a number from 1 to 9 is one of them
 above : (k m : ℕ) → m ≤ k → k ≢ m → m + 1 ≤ k
@@ -117,11 +117,11 @@ module _ (e : ℕ) where
       let whole : packed i kind k x s n ≡ e = joined e (e / 16) (e / 4096) (e / 268435456) (e / 2199023255552) i kind k x s n (omega arith) (omega arith) (omega arith) (omega arith) (omega arith) in
       sym (ap (eqb (event_number (record_of e))) (sym whole) ∙ kinds i k x s n (omega arith) (omega arith) (omega arith) kind (omega arith))
 
-  pub recorded_is : is_record e ≡ true → Is (record_of e) ≡ recorded_of e
+  pub recorded_is : is_record e ≡ true → Some (record_of e) ≡ recorded_of e
   unfolding recorded_of
   recorded_is h = rw (sym is_record_lem ∙ h)
 
-  pub recorded_none : is_record e ≡ false → Nothing ≡ recorded_of e
+  pub recorded_none : is_record e ≡ false → None ≡ recorded_of e
   unfolding recorded_of
   recorded_none h = rw (sym is_record_lem ∙ h)
 
@@ -151,17 +151,17 @@ small e =
         go false false false false false false false false = (omega arith, omega arith, omega arith)
 
 -- ---- the theorem, both ways
-pub recorded-number : (e : ℕ) (r : EventRecord) → recorded_of e ≡ Is r → (event_number r ≡ e) × Small r
+pub recorded-number : (e : ℕ) (r : EventRecord) → recorded_of e ≡ Some r → (event_number r ≡ e) × Small r
 unfolding recorded_of
 recorded-number e r h = go (is_record e) refl
   where
     go : (b : Bool) → is_record e ≡ b → (event_number r ≡ e) × Small r
     go true p =
-        let i : Is (record_of e) ≡ Is r = recorded_is e p ∙ h in
+        let i : Some (record_of e) ≡ Some r = recorded_is e p ∙ h in
         let u : record_of e ≡ r = cc in
         (rw (sym u) (eqb-true _ e (sym (is_record_lem e) ∙ p)), rw u at (small e))
-    go false p = let n : Nothing ≡ Is r = recorded_none e p ∙ h in let z : ◌≡◌ {A = ℕ} 0 1 = cc in absurd (omega arith)
+    go false p = let n : None ≡ Some r = recorded_none e p ∙ h in let z : ◌≡◌ {A = ℕ} 0 1 = cc in absurd (omega arith)
 
-pub number-recorded : (r : EventRecord) → Small r → recorded_of (event_number r) ≡ Is r
+pub number-recorded : (r : EventRecord) → Small r → recorded_of (event_number r) ≡ Some r
 unfolding recorded_of
 number-recorded r s = let n = record_number r s in rw (n, eq-eqb (event_number r) (event_number r) refl)

@@ -1,13 +1,11 @@
 -- The record and the number of an event: RULES.md R11.14. Assumes nothing.
-use Rattle.std.specs.Prelude.{ℕ, ◌+◌, ◌*◌, ◌/◌, ◌%◌, ◌<◌, Bool, cond, ◌&&◌, ◌||◌, eqb, leb}
+use Rattle.std.specs.Prelude.{ℕ, ◌+◌, ◌*◌, ◌/◌, ◌%◌, ◌<◌, Bool, cond, ◌&&◌, ◌||◌, eqb, leb, Option, Some, None}
 use Rattle.event.specs.declared.Cause.{Cause}
 use Rattle.event.specs.declared.Cause.TheVariants.{Frame, Value, Text, Odd}
 use Rattle.event.specs.declared.Unwritten.TheVariants.{CountNotWritable, TooLong}
 use Rattle.event.specs.declared.Event.{Event}
 use Rattle.event.specs.declared.Event.TheVariants.{MapVersion, PayloadShort, Server, Client, WriteRefused}
 use Rattle.event.specs.declared.EventRecord.{EventRecord}
-use Rattle.event.specs.declared.Recorded.{Recorded}
-use Rattle.event.specs.declared.Recorded.TheVariants.{Is, Nothing}
 
 -- R11.14: "Kinds: 1 MapVersion; 2 to 5 PayloadShort, cause Frame, Value, Text, Odd; 6 Server; 7 Client; 8 WriteRefused(CountNotWritable);
 -- 9 WriteRefused(TooLong)"
@@ -81,13 +79,13 @@ pub record Small (r : EventRecord) : Type 0 where
   pub len : (detail_of r.event).len < 8192
 
 -- where the number is its record's, that; else nothing
-unfoldable pub recorded_of : ℕ → Recorded
-recorded_of e = cond (eqb (event_number (record_of e)) e) (Is (record_of e)) Nothing
+unfoldable pub recorded_of : ℕ → Option EventRecord
+recorded_of e = cond (eqb (event_number (record_of e)) e) (Some (record_of e)) None
 
 -- 0 is no event's number
-abbrev pub recorded_number : Recorded → ℕ
-recorded_number (Is r) = event_number r
-recorded_number Nothing = 0
+abbrev pub recorded_number : Option EventRecord → ℕ
+recorded_number (Some r) = event_number r
+recorded_number None = 0
 
 -- which numbers are records', by their parts: an event of that kind has these
 unfoldable pub may_have : ℕ → ℕ → ℕ → ℕ → Bool

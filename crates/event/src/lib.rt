@@ -40,10 +40,3 @@ pub struct EventRecord {
     pub element: u8,
     pub event: Event,
 }
-
-// The record that a number of the log says, or nothing where no record has that number.
-#[derive(Clone, Copy)]
-pub enum Recorded {
-    Is(EventRecord),
-    Nothing,
-}

@@ -2,46 +2,34 @@
 ghost use Rattle.std.specs.Prelude.{◌≡◌};
 ghost use Rattle.event.specs.Record.{cause_of, event_of, record_of, may_have, is_record, recorded_of};
 
-use crate::{Cause, Event, EventRecord, Recorded, Unwritten};
+use crate::{Cause, Event, EventRecord, Unwritten};
 
 fn cause_of(kind: u64, start: u16, len: u16) -> Cause
     ensures { result ≡ cause_of kind start len }
 {
-    if kind == 2 {
-        return Cause::Frame;
-    }
-    if kind == 3 {
-        return Cause::Value {
+    match kind {
+        2 => Cause::Frame,
+        3 => Cause::Value {
             needed: start,
             had: len,
-        };
+        },
+        4 => Cause::Text { at: start },
+        _ => Cause::Odd,
     }
-    if kind == 4 {
-        return Cause::Text { at: start };
-    }
-    Cause::Odd
 }
 
 #[tactic(auto, unfolding(crate::specs::Record::event_of))]
 fn event_of(kind: u64, index: u16, start: u16, len: u16) -> Event
     ensures { result ≡ event_of kind index start len }
 {
-    if kind == 1 {
-        return Event::MapVersion;
+    match kind {
+        1 => Event::MapVersion,
+        6 => Event::Server { index, start, len },
+        7 => Event::Client { index, start, len },
+        8 => Event::WriteRefused(Unwritten::CountNotWritable),
+        9 => Event::WriteRefused(Unwritten::TooLong),
+        _ => Event::PayloadShort(cause_of(kind, start, len)),
     }
-    if kind == 6 {
-        return Event::Server { index, start, len };
-    }
-    if kind == 7 {
-        return Event::Client { index, start, len };
-    }
-    if kind == 8 {
-        return Event::WriteRefused(Unwritten::CountNotWritable);
-    }
-    if kind == 9 {
-        return Event::WriteRefused(Unwritten::TooLong);
-    }
-    Event::PayloadShort(cause_of(kind, start, len))
 }
 
 // The record that a record's number says.
@@ -80,11 +68,11 @@ fn is_record(e: u64) -> bool
 }
 
 // The record that a number of the log says.
-pub fn event_record(e: u64) -> Recorded
+pub fn event_record(e: u64) -> Option<EventRecord>
     ensures { result ≡ recorded_of e }
 {
     if is_record(e) {
-        return Recorded::Is(record_of(e));
+        return Some(record_of(e));
     }
-    Recorded::Nothing
+    None
 }

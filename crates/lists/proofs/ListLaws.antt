@@ -4,11 +4,13 @@ use mathlib.Core.Path.{◌≡◌, sym, ap, ◌∙◌}
 use mathlib.Core.List.{List, [], ◌∷◌, ◌++◌, append_assoc}
 use Prim.Native.Nat.{ℕ, suc, ◌+◌, ◌-◌, ◌<◌, ◌≤◌}
 use native.Mathlib.Nat.{add-zero}
-use native.Mathlib.Numerals.{add-one}
+use Rattle.std.proofs.Common.{append-nil}
 use native.Mathlib.Omega.{arith}
 use native.Mathlib.Decide.{dec_lt}
-use lib.ListN.{length, take, drop, get_or, set, length-append, length-take, length-drop, take-append-drop, get_or-append}
-use lib.Seq.{drop-cons, get_or-take, get_or-drop, length-take-le, take-suc, take_at, drop_at, set_at, drop-drop, take-append-le, drop-append-le, get_or-append-add, drop-append-add, take-append_seam, ext_get_or, take-add, take-suc-set, drop-set-lt}
+use lib.ListN.{drop_of_length-le, length, take, drop, get_or, set, length-append, length-take, length-drop, take-append-drop, get_or-append}
+use lib.Seq.{get_or-take, get_or-drop, length-take-le, take_at, drop_at, drop-drop, take-append-le, drop-append-le, get_or-append-add, drop-append-add, take-append_seam, ext_get_or, take-add, take-suc-set, drop-set-lt, paste, slice, length-slice}
+use borrow.Rule.Slice.PartMut.{put_mid}
+use Rattle.std.proofs.lemmas.Slice.{between_is}
 use Rattle.lists.specs.Lists.{over}
 
 -- ---- how long it is, and what stands where
@@ -19,6 +21,13 @@ length_over xs a ys h = simp (length-append, length-take, length-drop) (omega ar
 pub over_none : (xs : List ℕ) (a : ℕ) → over xs a [] ≡ xs
 unfolding over
 over_none xs a = rw add-zero (take-append-drop a xs)
+
+-- as many as there are
+pub over_all : (xs ys : List ℕ) → length ys ≡ length xs → over xs 0 ys ≡ ys
+unfolding over
+over_all xs ys h =
+    let n : length xs ≤ 0 + length ys = omega arith in
+    rw (drop_of_length-le xs n) (append-nil ys)
 
 pub get_or-over-below : (xs : List ℕ) (a : ℕ) (ys : List ℕ) (i : ℕ) → i < a → a ≤ length xs → get_or (over xs a ys) i 0 ≡ get_or xs i 0
 unfolding over
@@ -85,24 +94,11 @@ over-same xs a n h =
     rw (l, ← append_assoc, ← take-add) (take-append-drop (a + n) xs)
 
 -- ---- one more
-pub over_snoc : (xs : List ℕ) (a : ℕ) (ys : List ℕ) (n y : ℕ) → n ≡ a + length ys → n < length xs → set (over xs a ys) n y ≡ over xs a (ys ++ (y ∷ []))
-unfolding over
-over_snoc xs a ys n y e h =
-    let k : length (take a xs ++ ys) ≡ n = simp (length-append, length-take) (omega arith) in
-    let g : a + length (ys ++ (y ∷ [])) ≡ suc n = simp length-append (omega arith) in
-    rw (g, ← e, drop-cons xs n 0 h, ← append_assoc, set_at (take a xs ++ ys) _ _ y n k) (simp append_assoc)
-
 pub over_first : (xs : List ℕ) (a y : ℕ) (ys : List ℕ) → a < length xs → over xs a (y ∷ ys) ≡ over (set xs a y) (suc a) ys
 unfolding over
 over_first xs a y ys h =
     let n : a + suc (length ys) ≡ suc a + length ys = omega arith in
     rw (n, take-suc-set xs a y h, drop-set-lt (suc a + length ys) xs a y (omega arith)) (simp append_assoc)
-
--- the next of src
-pub lay_more : (xs ys src : List ℕ) (a j : ℕ) → j < length src → a + length src ≤ length xs → ys ≡ over xs a (take j src) → set ys (a + j) (get_or src j 0) ≡ over xs a (take (j + 1) src)
-lay_more xs ys src a j h l e =
-    let k : length (take j src) ≡ j = length-take-le j src (omega arith) in
-    rw (add-one, take-suc src j 0 h, e) (over_snoc xs a (take j src) (a + j) (get_or src j 0) (omega arith) (omega arith))
 
 -- ---- two that don't meet
 -- laid behind what was laid
@@ -151,3 +147,16 @@ lay_two s a xs ys b e h = sym (over-over s a xs b ys e h)
 pub lay_next : (s : List ℕ) {s' : List ℕ} (a : ℕ) (xs ys : List ℕ) (b : ℕ) → s' ≡ over s a xs → b ≡ a + length xs → b ≤ length s
     → (over s a (xs ++ ys) ≡ over s' b ys) × (length s' ≡ length s)
 lay_next s {s'} a xs ys b q e h = (lay_two s a xs ys b e h ∙ ap (λ t. over t b ys) (sym q), ap length q ∙ length_over s a xs (omega arith))
+
+-- ---- by the library's methods
+-- after a write to the part from a up to e
+pub over_part : {A : Type 0} (xs : List A) (a e : ℕ) (ys : List A) → e ≡ a + length ys → put_mid a (e - a) xs ys ≡ over xs a ys
+unfolding over
+over_part xs a e ys h =
+    let k : e - a ≡ length ys = omega arith in
+    rw (k, drop-drop (length ys) a xs)
+
+-- after `copy_within`
+pub over_moved : {A : Type 0} (xs : List A) (a i j : ℕ) → j ≤ length xs → paste xs a (drop i xs) (j - i) ≡ over xs a (slice i j xs)
+unfolding over
+over_moved xs a i j h = rw (length-slice i j xs h) (append_assoc (take a xs) (take (j - i) (drop i xs)) (drop (a + (j - i)) xs) ∙ ap (λ t. take a xs ++ (t ++ drop (a + (j - i)) xs)) (between_is xs i j))

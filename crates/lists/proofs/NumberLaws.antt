@@ -4,11 +4,15 @@ use mathlib.Core.Path.{◌≡◌, refl, sym, ap, ◌∙◌}
 use mathlib.Core.List.{List, [], ◌∷◌, ◌++◌}
 use Prim.Native.Nat.{ℕ, zero, suc, ◌+◌, ◌-◌, ◌*◌, ◌/◌, ◌%◌, ◌^◌, ◌<◌, ◌≤◌}
 use native.Mathlib.Nat.{add_comm, zero-add, suc-add, mul_assoc, mul_left_comm, le_of_suc-le-suc, not-suc-le-zero, mod-eq_of_lt, div-eq_of_lt, add-mul-div_right, add-mul-mod_self_right}
+use native.Mathlib.Numerals.{add-one}
 use native.Mathlib.Omega.{arith}
 use native.Mathlib.Decide.{dec_lt}
 use lib.ListN.{length, take, drop, get_or, set, length-drop, drop_of_length-le}
-use lib.Seq.{drop-cons, drop-drop, take-add, length-take-le, get_or-take, get_or-drop, get_or-set_same, get_or-set_other}
+use lib.Seq.{drop-cons, length-take-le, get_or-take, get_or-drop, get_or-set_same, get_or-set_other}
 use lib.Pow.{pow-add, pow_mono, pow_pos, mod-pow-add, shr-shr}
+use Rattle.std.proofs.Common.{pow-suc}
+use Rattle.std.specs.Array.{IsWholeChunk}
+use Rattle.std.specs.Int.{w16, w32, w64, byte_worth, sum_through, from_le_bytes}
 use Rattle.lists.specs.Lists.{over}
 use Rattle.lists.specs.Numbers.{number, bytes_of, bits, Bytes}
 use Rattle.lists.proofs.ListLaws.{over_first, over_none, get_or-over-below, get_or-over-inside, get_or-over_above}
@@ -104,13 +108,6 @@ pub read_one : (s : List ℕ) (at : ℕ) → at < length s → number (take 1 (d
 unfolding number
 read_one s at h = rw (drop-cons s at 0 h) (omega arith)
 
-pub read_two : (s : List ℕ) (at m n : ℕ) {a b : ℕ} → at + m + n ≤ length s → a ≡ number (take m (drop at s)) → b ≡ number (take n (drop (at + m) s))
-    → a + 2 ^ (8 * m) * b ≡ number (take (m + n) (drop at s))
-read_two s at m n h e f =
-    let l : length (take m (drop at s)) ≡ m = length-take-le m (drop at s) (rw length-drop (omega arith)) in
-    let p : take (m + n) (drop at s) ≡ take m (drop at s) ++ take n (drop (at + m) s) = take-add m n (drop at s) ∙ ap (λ t. take m (drop at s) ++ take n t) (drop-drop m at s) in
-    rw (e, f, p, number_append (take m (drop at s)) (take n (drop (at + m) s)), l)
-
 pub bytes_of-append : (m n x : ℕ) → bytes_of (m + n) x ≡ bytes_of m x ++ bytes_of n (x / 2 ^ (8 * m))
 unfolding bytes_of
 bytes_of-append zero n x = let e : x / 1 ≡ x = omega arith in rw (zero-add, e)
@@ -183,15 +180,44 @@ read_fits64 n i sum b z l m h g =
     let w : 2 ^ (8 * (n - (i - 1))) ≤ 2 ^ 64 = pow_mono {i = 8 * (n - (i - 1))} {j = 64} (omega arith) in
     omega (arith, read_fits n i sum b z l h g)
 
--- ---- writing n bytes from place a on, from the first one up
-pub put_more : (xs : List ℕ) (a n j x : ℕ) → j < n → a + n ≤ length xs
-    → over xs (a + j) (bytes_of (n - j) x) ≡ over (set xs (a + j) (x % 256)) (a + (j + 1)) (bytes_of (n - (j + 1)) (x / 256))
+-- ---- writing n bytes over the first n, from the first one up
+pub put_more : (xs : List ℕ) (n j x : ℕ) → j < n → n ≤ length xs → over xs j (bytes_of (n - j) x) ≡ over (set xs j (x % 256)) (j + 1) (bytes_of (n - (j + 1)) (x / 256))
 unfolding bytes_of
-put_more xs a n j x h l =
+put_more xs n j x h l =
     let e : n - j ≡ suc (n - (j + 1)) = omega arith in
-    let f : a + (j + 1) ≡ suc (a + j) = omega arith in
-    rw (e, f) (over_first xs (a + j) (x % 256) (bytes_of (n - (j + 1)) (x / 256)) (omega arith))
+    rw (e, add-one) (over_first xs j (x % 256) (bytes_of (n - suc j) (x / 256)) (omega arith))
 
 pub put_all : (xs : List ℕ) (a n x : ℕ) → n ≡ 0 → over xs a (bytes_of n x) ≡ xs
 unfolding bytes_of
 put_all xs a n x e = rw e (over_none xs a)
+
+-- ---- read as `from_le_bytes` sums its bytes
+sum_more : (b : ℕ) (t : List ℕ) (k : ℕ) → sum_through (λ i. byte_worth i (get_or (b ∷ t) i 0)) (suc k) ≡ b + 256 * sum_through (λ i. byte_worth i (get_or t i 0)) k
+sum_more b t zero = omega arith
+sum_more b t (suc k) =
+    let x = get_or t (suc k) 0 in
+    let m : x * (256 * 256 ^ suc k) ≡ 256 * (x * 256 ^ suc k) = mul_left_comm x 256 (256 ^ suc k) in
+    let e : 256 ^ suc (suc k) ≡ 256 * 256 ^ suc k = omega (arith, pow-suc 256 (suc k)) in
+    rw e (omega (arith, sum_more b t k, m))
+
+sum_number : (k : ℕ) (s : List ℕ) → length s ≡ suc k → sum_through (λ i. byte_worth i (get_or s i 0)) k ≡ number s
+unfolding number
+sum_number k [] h = absurd (omega (arith, h))
+sum_number zero (b ∷ []) h = omega arith
+sum_number zero (b ∷ (_ ∷ _)) h = absurd (omega (arith, h))
+sum_number (suc k) (b ∷ t) h = sum_more b t k ∙ ap (λ n. b + 256 * n) (sum_number k t (omega (arith, h)))
+
+read_chunk : (s bytes : List ℕ) (at k : ℕ) → at + suc k ≤ length s → IsWholeChunk (take (at + suc k - at) (drop at s)) bytes (suc k) → sum_through (λ i. byte_worth i (get_or bytes i 0)) k ≡ number (take (suc k) (drop at s))
+read_chunk s bytes at k h w =
+    let n : at + suc k - at ≡ suc k = omega arith in
+    let e : bytes ≡ take (suc k) (drop at s) = w.same ∙ ap (λ m. take m (drop at s)) n in
+    rw e (sum_number k (take (suc k) (drop at s)) (length-take-le (suc k) (drop at s) (simp length-drop (omega arith))))
+
+pub read_2 : (s bytes : List ℕ) (at r : ℕ) → IsWholeChunk (take (at + 2 - at) (drop at s)) bytes 2 → at + 2 ≤ length s → r ≡ from_le_bytes w16 bytes → r ≡ number (take 2 (drop at s))
+read_2 s bytes at r w h e = e ∙ read_chunk s bytes at 1 h w
+
+pub read_4 : (s bytes : List ℕ) (at r : ℕ) → IsWholeChunk (take (at + 4 - at) (drop at s)) bytes 4 → at + 4 ≤ length s → r ≡ from_le_bytes w32 bytes → r ≡ number (take 4 (drop at s))
+read_4 s bytes at r w h e = e ∙ read_chunk s bytes at 3 h w
+
+pub read_8 : (s bytes : List ℕ) (at r : ℕ) → IsWholeChunk (take (at + 8 - at) (drop at s)) bytes 8 → at + 8 ≤ length s → r ≡ from_le_bytes w64 bytes → r ≡ number (take 8 (drop at s))
+read_8 s bytes at r w h e = e ∙ read_chunk s bytes at 7 h w

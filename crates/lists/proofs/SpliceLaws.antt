@@ -6,61 +6,28 @@ use Prim.Native.Nat.{ℕ, zero, suc, ◌+◌, ◌-◌, ◌*◌, ◌<◌, ◌≤�
 use native.Mathlib.Nat.{mul-suc, mul-le-mul_left, zero-add, suc-add}
 use native.Mathlib.Numerals.{add-one}
 use native.Mathlib.Omega.{arith}
-use lib.ListN.{length, take, drop, get_or, set, replicate, length-append, length-set, length-drop, length-replicate}
-use lib.Seq.{length-take-le, take-suc, take_at, drop_at, set_at, drop-drop, slice, slice-cons, slice_empty, length-slice, take-append-le, drop-append-le, get_or-append-add, take-take, take-add, drop-append-add, set-append_left}
+use lib.ListN.{length, take, drop, get_or, set, length-append, length-set, length-drop}
+use lib.Seq.{length-take-le, take_at, drop_at, drop-drop, slice, length-slice, take-append-le, get_or-append-add, take-take, take-add, drop-append-add, set-append_left}
 use Rattle.lists.specs.Lists.{over, grown, fallen, spliced}
-use Rattle.lists.proofs.ListLaws.{over_none, over-same, get_or-over-below, get_or-over_above, over_snoc}
+use Rattle.lists.proofs.ListLaws.{over-same}
 
-pub over_cons : (xs : List ℕ) (a : ℕ) (ys : List ℕ) (y : ℕ) → a < length xs → set (over xs (suc a) ys) a y ≡ over xs a (y ∷ ys)
-unfolding over
-over_cons xs a ys y h =
-    let k : length (take a xs) ≡ a = length-take-le a xs (omega arith) in
-    let g : suc a + length ys ≡ a + suc (length ys) = omega arith in
-    rw (take-suc xs a 0 h, append_assoc, set_at (take a xs) _ _ y a k, g)
-
-pub move_none : (xs : List ℕ) (a u : ℕ) → xs ≡ over xs a (slice u u xs)
-move_none xs a u = rw (slice_empty u xs) (sym (over_none xs a))
-
-pub up_more : (xs ys : List ℕ) (u k j : ℕ) → 0 < j → j ≤ u → u + k ≤ length xs → ys ≡ over xs (j + k) (slice j u xs) → set ys ((j - 1) + k) (get_or ys (j - 1) 0) ≡ over xs ((j - 1) + k) (slice (j - 1) u xs)
-up_more xs ys u k j z h l e =
-    let s : j ≡ suc (j - 1) = omega arith in
-    let q : j + k ≡ suc ((j - 1) + k) = omega arith in
-    let g = slice-cons (j - 1) u xs 0 (omega arith) (omega arith) in
-    let f : slice (suc (j - 1)) u xs ≡ slice j u xs = rw (← s) in
-    let v : get_or ys (j - 1) 0 ≡ get_or xs (j - 1) 0 = rw e (get_or-over-below xs (j + k) (slice j u xs) (j - 1) (omega arith) (omega arith)) in
-    let w : ys ≡ over xs (suc ((j - 1) + k)) (slice j u xs) = e ∙ ap (λ n. over xs n (slice j u xs)) q in
-    rw (g, f, v, w) (over_cons xs ((j - 1) + k) (slice j u xs) (get_or xs (j - 1) 0) (omega arith))
-
-pub down_more : (xs ys : List ℕ) (a f j : ℕ) → a ≤ f → f ≤ j → j < length xs → ys ≡ over xs a (slice f j xs) → set ys (j - (f - a)) (get_or ys j 0) ≡ over xs a (slice f (j + 1) xs)
-down_more xs ys a f j h k l e =
-    let n : length (slice f j xs) ≡ j - f = length-slice f j xs (omega arith) in
-    let v : get_or ys j 0 ≡ get_or xs j 0 = rw e (get_or-over_above xs a (slice f j xs) j (omega arith) (omega arith)) in
-    let t : length (take j xs) ≡ j = length-take-le j xs (omega arith) in
-    let s : slice f (j + 1) xs ≡ slice f j xs ++ (get_or xs j 0 ∷ []) =
-    ap (λ m. slice f m xs) (add-one j) ∙ ap (drop f) (take-suc xs j 0 l) ∙ drop-append-le f (take j xs) (get_or xs j 0 ∷ []) (omega arith) in
-    rw (v, s, e) (over_snoc xs a (slice f j xs) (j - (f - a)) (get_or xs j 0) (omega arith) (omega arith))
-
-pub zeros_more : (xs ys : List ℕ) (a j : ℕ) → a + j < length xs → ys ≡ over xs a (replicate {A = ℕ} j 0) → set ys (a + j) 0 ≡ over xs a (replicate (j + 1) 0)
-zeros_more xs ys a j l e =
-    let k : length (replicate {A = ℕ} j 0) ≡ j = length-replicate {A = ℕ} j 0 in
-    let s : replicate {A = ℕ} j 0 ++ (0 ∷ []) ≡ replicate {A = ℕ} (j + 1) 0 = lib.ListN.replicate-append-replicate j 1 0 in
-    rw (e, ← s) (over_snoc xs a (replicate {A = ℕ} j 0) (a + j) 0 (omega arith) l)
-
-pub grown_more : (d x n j p : ℕ) (xs : List ℕ) → j < n → grown d x (n - j) p xs ≡ grown d x (n - (j + 1)) (p + d) (set xs p (get_or xs p 0 + x))
+pub grown_more : (d x n j a : ℕ) (xs : List ℕ) → j < n → grown d x (n - j) (a + d * j) xs ≡ grown d x (n - (j + 1)) (a + d * (j + 1)) (set xs (a + d * j) (get_or xs (a + d * j) 0 + x))
 unfolding grown
-grown_more d x n j p xs h =
+grown_more d x n j a xs h =
     let e : n - j ≡ suc (n - (j + 1)) = omega arith in
-    rw e
+    let p : a + d * (j + 1) ≡ a + d * j + d = rw add-one (omega (arith, mul-suc d j)) in
+    rw (e, p)
 
 pub grown_end : (d x k p : ℕ) (xs : List ℕ) → k ≡ 0 → grown d x k p xs ≡ xs
 unfolding grown
 grown_end d x k p xs e = rw e
 
-pub fallen_more : (d x n j p : ℕ) (xs : List ℕ) → j < n → fallen d x (n - j) p xs ≡ fallen d x (n - (j + 1)) (p + d) (set xs p (get_or xs p 0 - x))
+pub fallen_more : (d x n j a : ℕ) (xs : List ℕ) → j < n → fallen d x (n - j) (a + d * j) xs ≡ fallen d x (n - (j + 1)) (a + d * (j + 1)) (set xs (a + d * j) (get_or xs (a + d * j) 0 - x))
 unfolding fallen
-fallen_more d x n j p xs h =
+fallen_more d x n j a xs h =
     let e : n - j ≡ suc (n - (j + 1)) = omega arith in
-    rw e
+    let p : a + d * (j + 1) ≡ a + d * j + d = rw add-one (omega (arith, mul-suc d j)) in
+    rw (e, p)
 
 pub fallen_end : (d x k p : ℕ) (xs : List ℕ) → k ≡ 0 → fallen d x k p xs ≡ xs
 unfolding fallen

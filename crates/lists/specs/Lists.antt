@@ -4,7 +4,7 @@ use Rattle.std.specs.Prelude.{ℕ, zero, suc, ◌+◌, ◌-◌, List, ◌++◌, 
 use Rattle.std.proofs.Math.Seq.{slice}
 
 -- ys laid over xs from place a on
-unfoldable pub over : List ℕ → ℕ → List ℕ → List ℕ
+unfoldable pub over : {A : Type 0} → List A → ℕ → List A → List A
 over xs a ys = take a xs ++ (ys ++ drop (a + length ys) xs)
 
 -- x added to n elements of xs, at place a and at each d further on

@@ -1,5 +1,8 @@
 -- Laws of the mapping word: decoding and encoding undo each other, and what a whole field says.
 -- Assumes nothing.
+use Rattle.std.specs.Prelude.{Option, Some, None}
+use Rattle.mapping.specs.declared.Field.{Field}
+use Rattle.std.proofs.lemmas.Option.{same_Some}
 use mathlib.Core.Path.{◌≡◌, refl, sym, ap, ap₂, ◌∙◌}
 use mathlib.Core.Bool.{Bool, true, false, cond, ◌&&◌}
 use Prim.Native.Nat.{ℕ, ◌+◌, ◌-◌, ◌*◌, ◌/◌, ◌%◌, ◌^◌, ◌<◌, ◌≤◌}
@@ -10,11 +13,7 @@ use lib.Pow.{pow_pos, high, low, mod-pow-add}
 use borrow.Author.Tests.{eqb-true, eq-eqb}
 use Rattle.lists.specs.Numbers.{bits}
 use Rattle.mapping.specs.declared.PdoMappingEntry.{PdoMappingEntry}
-use Rattle.mapping.specs.declared.Aligned.{Aligned}
-use Rattle.mapping.specs.declared.Aligned.TheVariants.{Bytes}
-use Rattle.mapping.specs.declared.Field.{Field}
-use Rattle.mapping.specs.declared.Field.TheVariants.{Whole}
-use Rattle.mapping.specs.Word.{InRange, entry_of, word_of, aligned_of, end_of, field_of}
+use Rattle.mapping.specs.Word.{InRange, entry_of, word_of, aligned_of, end_of, field_of, field_at}
 
 -- ---- n bits of a number, from bit a on
 pub bits_lt : (a n w : ℕ) → bits a n w < 2 ^ n
@@ -72,19 +71,24 @@ module _ (e : PdoMappingEntry) (r : InRange e) where
 
 -- ---- the field in bytes
 -- a whole offset and a whole length make a whole field
-abbrev pub joined : Aligned → Aligned → Field
-joined (Bytes s) (Bytes l) = Whole s l
-joined (Bytes s) Aligned.Misaligned = Field.Misaligned
-joined Aligned.Misaligned a = Field.Misaligned
+abbrev pub joined : Option ℕ → Option ℕ → Option Field
+joined (Some s) (Some l) = field_at s l
+joined (Some s) None = None
+joined None a = None
 
 both : (p q : Bool) (s l : ℕ)
-    → joined (cond p (Bytes s) Aligned.Misaligned) (cond q (Bytes l) Aligned.Misaligned) ≡ cond (p && q) (Whole s l) Field.Misaligned
+    → joined (cond p (Some s) None) (cond q (Some l) None) ≡ cond (p && q) (field_at s l) None
 both true true s l = refl
 both true false s l = refl
 both false q s l = refl
 
-apart : (p q : Bool) (s l s' l' : ℕ) → cond (p && q) (Whole s l) Field.Misaligned ≡ Whole s' l' → (p ≡ true) × (q ≡ true) × (s ≡ s') × (l ≡ l')
-apart true true s l s' l' h = (refl, refl, cc, cc)
+pub same_field : (s l s' l' : ℕ) → field_at s l ≡ field_at s' l' → (s ≡ s') × (l ≡ l')
+same_field s l s' l' h =
+    let e = same_Some _ _ h in
+    (ap (λ (f : Field). f.start) e, ap (λ (f : Field). f.length) e)
+
+apart : (p q : Bool) (s l s' l' : ℕ) → cond (p && q) (field_at s l) None ≡ field_at s' l' → (p ≡ true) × (q ≡ true) × (s ≡ s') × (l ≡ l')
+apart true true s l s' l' h = let e = same_field _ _ _ _ h in (refl, refl, e.0, e.1)
 apart true false s l s' l' h = let z : ◌≡◌ {A = ℕ} 0 1 = cc in absurd (omega arith)
 apart false q s l s' l' h = let z : ◌≡◌ {A = ℕ} 0 1 = cc in absurd (omega arith)
 
@@ -98,12 +102,12 @@ pub record WholeField (e : PdoMappingEntry) (s l : ℕ) : Type 0 where
   pub end_small : s + l ≤ 16382
 
 module _ (e : PdoMappingEntry) where
-  pub joined-field : {a b : Aligned} → a ≡ aligned_of e.offset_bits → b ≡ aligned_of e.length_bits → joined a b ≡ field_of e
+  pub joined-field : {a b : Option ℕ} → a ≡ aligned_of e.offset_bits → b ≡ aligned_of e.length_bits → joined a b ≡ field_of e
   unfolding field_of
   joined-field p q =
       ap₂ joined p q ∙ both (eqb (e.offset_bits % 8) 0) (eqb (e.length_bits % 8) 0) (e.offset_bits / 8) (e.length_bits / 8)
 
-  pub whole_field : InRange e → (s l : ℕ) → field_of e ≡ Whole s l → WholeField e s l
+  pub whole_field : InRange e → (s l : ℕ) → field_of e ≡ field_at s l → WholeField e s l
   unfolding field_of
   whole_field r s l h =
       let p = apart (eqb (e.offset_bits % 8) 0) (eqb (e.length_bits % 8) 0) (e.offset_bits / 8) (e.length_bits / 8) s l h in
@@ -111,7 +115,7 @@ module _ (e : PdoMappingEntry) where
       let n : e.length_bits ≡ l * 8 = omega (arith, eqb-true (e.length_bits % 8) 0 p.1, p.3) in
       record { offset = o; length = n; end = omega arith; start_small = omega arith; length_small = omega arith; end_small = omega arith }
 
-  pub field_whole : (s l : ℕ) → e.offset_bits ≡ s * 8 → e.length_bits ≡ l * 8 → field_of e ≡ Whole s l
+  pub field_whole : (s l : ℕ) → e.offset_bits ≡ s * 8 → e.length_bits ≡ l * 8 → field_of e ≡ field_at s l
   unfolding field_of
   field_whole s l p q =
       let o : e.offset_bits % 8 ≡ 0 = omega arith in
@@ -120,7 +124,7 @@ module _ (e : PdoMappingEntry) where
       let j : e.length_bits / 8 ≡ l = omega arith in
       rw (eq-eqb _ _ o, eq-eqb _ _ n, i, j)
 
-  pub field_misaligned : field_of e ≡ Field.Misaligned → e.offset_bits % 8 ≡ 0 → e.length_bits % 8 ≡ 0 → ⊥
+  pub field_misaligned : field_of e ≡ None → e.offset_bits % 8 ≡ 0 → e.length_bits % 8 ≡ 0 → ⊥
   field_misaligned h p q =
       let w = field_whole (e.offset_bits / 8) (e.length_bits / 8) (omega arith) (omega arith) in
       let z : ◌≡◌ {A = ℕ} 0 1 = cc in

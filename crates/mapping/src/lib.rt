@@ -12,18 +12,11 @@ pub struct PdoMappingEntry {
     pub length_bits: u16,
 }
 
-// A number of bits, in bytes where it is a multiple of 8.
-#[derive(Clone, Copy)]
-pub enum Aligned {
-    Bytes(usize),
-    Misaligned,
-}
-
 // Where a field lies in the payload, in bytes where its offset and its length are both multiples of 8.
 #[derive(Clone, Copy)]
-pub enum Field {
-    Whole { start: usize, length: usize },
-    Misaligned,
+pub struct Field {
+    pub start: usize,
+    pub length: usize,
 }
 
 // Bit 16, the sub-index's first.
@@ -36,7 +29,7 @@ const OFFSET: u64 = 0x1_0000_0000;
 const LENGTH: u64 = 0x1_0000_0000_0000;
 
 impl PdoMappingEntry {
-    // Drops bits 24 to 31.
+    // Drops bits 24 to 31. No `From`, which drops nothing; and the two have the Rust's names.
     pub fn from_u64(value: u64) -> Self
         ensures { result ≡ entry_of value }
     {
@@ -57,13 +50,13 @@ impl PdoMappingEntry {
             + self.length_bits as u64 * LENGTH
     }
 
-    pub fn byte_offset(self) -> Aligned
+    pub fn byte_offset(self) -> Option<usize>
         ensures { result ≡ aligned_of self.offset_bits }
     {
         whole_bytes(self.offset_bits)
     }
 
-    pub fn byte_length(self) -> Aligned
+    pub fn byte_length(self) -> Option<usize>
         ensures { result ≡ aligned_of self.length_bits }
     {
         whole_bytes(self.length_bits)
@@ -76,25 +69,25 @@ impl PdoMappingEntry {
         (self.offset_bits as usize + self.length_bits as usize + 7) / 8
     }
 
-    pub fn field(self) -> Field
+    pub fn field(self) -> Option<Field>
         ensures { result ≡ field_of self }
     {
-        let Aligned::Bytes(start) = self.byte_offset() else {
-            return Field::Misaligned;
+        let Some(start) = self.byte_offset() else {
+            return None;
         };
-        let Aligned::Bytes(length) = self.byte_length() else {
-            return Field::Misaligned;
+        let Some(length) = self.byte_length() else {
+            return None;
         };
-        Field::Whole { start, length }
+        Some(Field { start, length })
     }
 }
 
-fn whole_bytes(bits: u16) -> Aligned
+fn whole_bytes(bits: u16) -> Option<usize>
     ensures { result ≡ aligned_of bits }
 {
     if bits % 8 == 0 {
-        Aligned::Bytes(bits as usize / 8)
+        Some(bits as usize / 8)
     } else {
-        Aligned::Misaligned
+        None
     }
 }

@@ -1,7 +1,6 @@
 // Values as an enum, with the Rust's names: made from a type and a word, taken apart, decoded and encoded.
 #![tactic(auto)]
 
-mod integer;
 mod parts;
 mod words;
 
@@ -9,8 +8,9 @@ ghost use Rattle.std.specs.Prelude.{◌≡◌};
 ghost use Rattle.value.specs.Codec.{decode_of, encode_of, after_encode};
 ghost use Rattle.value.specs.Meaning.{type_of, word_of};
 
+use answers::Refusal;
 pub use parts::fields;
-use value::{Decoded, Encoded, ObjectValue, Word};
+use value::{Decoded, ObjectValue};
 pub use words::{from_word, to_word, type_number};
 
 // The value of type t that the data begins with. Of a text, and of bytes, it is the whole data.
@@ -21,13 +21,13 @@ pub fn decode(t: u64, data: &[u8]) -> Decoded
         return Decoded::NoType;
     }
     match value::decode_word(t, data) {
-        Word::Takes(x) => Decoded::Value(from_word(t, x)),
-        Word::Fails(f) => Decoded::Fails(f),
+        Ok(x) => Decoded::Value(from_word(t, x)),
+        Err(f) => Decoded::Fails(f),
     }
 }
 
 // Lays the value's bytes over `out` from its start on. The part is the text or the bytes of a value that has a room.
-pub fn encode(v: ObjectValue, part: &[u8], out: &mut [u8]) -> Encoded
+pub fn encode(v: ObjectValue, part: &[u8], out: &mut [u8]) -> Result<usize, Refusal>
     ensures { after_encode result out.new ≡ encode_of (type_of v) (word_of v) part.now out.old }
 {
     let t = type_number(v);

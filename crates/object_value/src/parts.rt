@@ -2,9 +2,9 @@
 ghost use Rattle.std.specs.Prelude.{◌≡◌, [], ◌∷◌};
 ghost use Rattle.value.specs.Meaning.{fields_of};
 
-use crate::integer::twos;
 use value::ObjectValue;
 
+// The numbers stand first, and 0 behind them. Written out, since one function for both would copy them in a loop.
 fn one(a: u64) -> [u64; 6]
     ensures { result ≡ a ∷ 0 ∷ 0 ∷ 0 ∷ 0 ∷ 0 ∷ [] }
 {
@@ -17,21 +17,23 @@ fn two(a: u64, b: u64) -> [u64; 6]
     [a, b, 0, 0, 0, 0]
 }
 
+#[tactic(auto, unfolding(value::specs::Meaning::fields_of, value::specs::Meaning::parts_of))]
 fn integer(z: i64) -> [u64; 6]
     ensures { result ≡ fields_of (ObjectValue.Integer64 z) }
 {
-    one(twos(z, 0x8000_0000_0000_0000))
+    one(z.cast_unsigned())
 }
 
 // An integer is said in 64 bits, a real by its bits, a text and bytes by their length.
+#[tactic(auto, unfolding(value::specs::Meaning::fields_of, value::specs::Meaning::parts_of))]
 pub fn fields(v: ObjectValue) -> [u64; 6]
     ensures { result ≡ fields_of v }
 {
     match v {
         ObjectValue::Boolean(b) => one(b as u64),
-        ObjectValue::Integer8(z) => integer(z as i64),
-        ObjectValue::Integer16(z) => integer(z as i64),
-        ObjectValue::Integer32(z) => integer(z as i64),
+        ObjectValue::Integer8(z) => integer(i64::from(z)),
+        ObjectValue::Integer16(z) => integer(i64::from(z)),
+        ObjectValue::Integer32(z) => integer(i64::from(z)),
         ObjectValue::Integer64(z) => integer(z),
         ObjectValue::Unsigned8(n) => one(n as u64),
         ObjectValue::Unsigned16(n) => one(n as u64),

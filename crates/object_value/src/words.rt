@@ -1,10 +1,10 @@
 // A value and its word.
-ghost use Rattle.std.specs.Prelude.{◌≡◌, ◌+◌, ◌*◌, ◌%◌, ◌^◌};
-ghost use Rattle.value.specs.Meaning.{reading, time_of_day, time_difference, net_time, mac_address, ip_address, type_of, word_of};
+ghost use Rattle.std.specs.Prelude.{◌≡◌, ◌+◌, ◌*◌, ◌/◌, ◌%◌, ◌^◌};
+ghost use Rattle.value.specs.Meaning.{reading, net_time, mac_address, ip_address, type_of, word_of};
 
-use crate::integer::{integer, twos};
 use value::{IpAddress, MacAddress, NetTime, ObjectValue, RelativeTime, TimeDifference, TimeOfDay};
 
+// The low bits of x, as many as the type has. `as` may lose none, and one function for the three types would need a trait for this line.
 fn low8(x: u64) -> u8
     ensures { result ≡ x % 2 ^ 8 }
 {
@@ -23,22 +23,11 @@ fn low32(x: u64) -> u32
     (x % 0x1_0000_0000) as u32
 }
 
-fn time_of_day(x: u64) -> TimeOfDay
-    ensures { result ≡ time_of_day x }
+// The milliseconds and the days, of a time of day and of a difference alike.
+fn time(x: u64) -> (u32, u16)
+    ensures { (result.0 ≡ x % 2 ^ 32) × (result.1 ≡ x / 2 ^ 32 % 2 ^ 16) }
 {
-    TimeOfDay {
-        ms: low32(x),
-        days: low16(x / 0x1_0000_0000),
-    }
-}
-
-fn time_difference(x: u64) -> TimeDifference
-    ensures { result ≡ time_difference x }
-{
-    TimeDifference {
-        ms: low32(x),
-        days: low16(x / 0x1_0000_0000),
-    }
+    (low32(x), low16(x / 0x1_0000_0000))
 }
 
 fn net_time(x: u64) -> NetTime
@@ -53,37 +42,28 @@ fn net_time(x: u64) -> NetTime
 fn mac_address(x: u64) -> MacAddress
     ensures { result ≡ mac_address x }
 {
-    MacAddress(
-        low8(x),
-        low8(x / 0x100),
-        low8(x / 0x1_0000),
-        low8(x / 0x100_0000),
-        low8(x / 0x1_0000_0000),
-        low8(x / 0x100_0000_0000),
-    )
+    let b = x.to_le_bytes();
+    MacAddress(b[0], b[1], b[2], b[3], b[4], b[5])
 }
 
 fn ip_address(x: u64) -> IpAddress
     ensures { result ≡ ip_address x }
 {
-    IpAddress(
-        low8(x),
-        low8(x / 0x100),
-        low8(x / 0x1_0000),
-        low8(x / 0x100_0000),
-    )
+    let b = x.to_le_bytes();
+    IpAddress(b[0], b[1], b[2], b[3])
 }
 
 // The value that type t and its word say.
+#[tactic(auto, unfolding(value::specs::Meaning::readings))]
 pub fn from_word(t: u64, x: u64) -> ObjectValue
     ensures { result ≡ reading t x }
 {
     match t {
         0 => ObjectValue::Boolean(low8(x)),
-        1 => ObjectValue::Integer8(integer(x, 0x80) as i8),
-        2 => ObjectValue::Integer16(integer(x, 0x8000) as i16),
-        3 => ObjectValue::Integer32(integer(x, 0x8000_0000) as i32),
-        4 => ObjectValue::Integer64(integer(x, 0x8000_0000_0000_0000)),
+        1 => ObjectValue::Integer8(low8(x).cast_signed()),
+        2 => ObjectValue::Integer16(low16(x).cast_signed()),
+        3 => ObjectValue::Integer32(low32(x).cast_signed()),
+        4 => ObjectValue::Integer64(x.cast_signed()),
         5 => ObjectValue::Unsigned8(low8(x)),
         6 => ObjectValue::Unsigned16(low16(x)),
         7 => ObjectValue::Unsigned32(low32(x)),
@@ -94,8 +74,14 @@ pub fn from_word(t: u64, x: u64) -> ObjectValue
         12 => ObjectValue::OctetString(x),
         13 => ObjectValue::UnicodeString(x),
         14 => ObjectValue::Domain(x),
-        15 => ObjectValue::TimeOfDay(time_of_day(x)),
-        16 => ObjectValue::TimeDifference(time_difference(x)),
+        15 => {
+            let (ms, days) = time(x);
+            ObjectValue::TimeOfDay(TimeOfDay { ms, days })
+        }
+        16 => {
+            let (ms, days) = time(x);
+            ObjectValue::TimeDifference(TimeDifference { ms, days })
+        }
         17 => ObjectValue::NetTime(net_time(x)),
         18 => ObjectValue::RelativeTime(RelativeTime(x)),
         19 => ObjectValue::MacAddress(mac_address(x)),
@@ -104,6 +90,7 @@ pub fn from_word(t: u64, x: u64) -> ObjectValue
 }
 
 // The type's number.
+#[tactic(auto, unfolding(value::specs::Meaning::type_of))]
 pub fn type_number(v: ObjectValue) -> u64
     ensures { result ≡ type_of v }
 {
@@ -132,45 +119,38 @@ pub fn type_number(v: ObjectValue) -> u64
     }
 }
 
-fn time_word(ms: u32, days: u16) -> u64
-    ensures { result ≡ ms + days * 2 ^ 32 }
+// A word of two halves, the lower first.
+fn joined(low: u32, high: u32) -> u64
+    ensures { result ≡ low + high * 2 ^ 32 }
 {
-    ms as u64 + days as u64 * 0x1_0000_0000
+    low as u64 + high as u64 * 0x1_0000_0000
 }
 
-fn net_word(seconds: u32, nanoseconds: u32) -> u64
-    ensures { result ≡ seconds + nanoseconds * 2 ^ 32 }
-{
-    seconds as u64 + nanoseconds as u64 * 0x1_0000_0000
-}
-
+#[tactic(auto, unfolding(value::specs::Meaning::word_of))]
 fn ip_word(a: IpAddress) -> u64
     ensures { result ≡ word_of (ObjectValue.IpAddress a) }
 {
-    a.0 as u64 + a.1 as u64 * 0x100 + a.2 as u64 * 0x1_0000 + a.3 as u64 * 0x100_0000
+    u32::from_le_bytes([a.0, a.1, a.2, a.3]) as u64
 }
 
+#[tactic(auto, unfolding(value::specs::Meaning::word_of))]
 fn mac_word(a: MacAddress) -> u64
     ensures { result ≡ word_of (ObjectValue.MacAddress a) }
 {
-    a.0 as u64
-        + a.1 as u64 * 0x100
-        + a.2 as u64 * 0x1_0000
-        + a.3 as u64 * 0x100_0000
-        + a.4 as u64 * 0x1_0000_0000
-        + a.5 as u64 * 0x100_0000_0000
+    u64::from_le_bytes([a.0, a.1, a.2, a.3, a.4, a.5, 0, 0])
 }
 
 // The word that says the value, beside its type.
+#[tactic(auto, unfolding(value::specs::Meaning::word_of))]
 pub fn to_word(v: ObjectValue) -> u64
     ensures { result ≡ word_of v }
 {
     match v {
         ObjectValue::Boolean(b) => b as u64,
-        ObjectValue::Integer8(z) => twos(z as i64, 0x80),
-        ObjectValue::Integer16(z) => twos(z as i64, 0x8000),
-        ObjectValue::Integer32(z) => twos(z as i64, 0x8000_0000),
-        ObjectValue::Integer64(z) => twos(z, 0x8000_0000_0000_0000),
+        ObjectValue::Integer8(z) => z.cast_unsigned() as u64,
+        ObjectValue::Integer16(z) => z.cast_unsigned() as u64,
+        ObjectValue::Integer32(z) => z.cast_unsigned() as u64,
+        ObjectValue::Integer64(z) => z.cast_unsigned(),
         ObjectValue::Unsigned8(n) => n as u64,
         ObjectValue::Unsigned16(n) => n as u64,
         ObjectValue::Unsigned32(n) => n as u64,
@@ -181,9 +161,9 @@ pub fn to_word(v: ObjectValue) -> u64
         ObjectValue::OctetString(n) => n,
         ObjectValue::UnicodeString(n) => n,
         ObjectValue::Domain(n) => n,
-        ObjectValue::TimeOfDay(t) => time_word(t.ms, t.days),
-        ObjectValue::TimeDifference(t) => time_word(t.ms, t.days),
-        ObjectValue::NetTime(t) => net_word(t.seconds, t.nanoseconds),
+        ObjectValue::TimeOfDay(t) => joined(t.ms, t.days as u32),
+        ObjectValue::TimeDifference(t) => joined(t.ms, t.days as u32),
+        ObjectValue::NetTime(t) => joined(t.seconds, t.nanoseconds),
         ObjectValue::RelativeTime(t) => t.0,
         ObjectValue::MacAddress(a) => mac_word(a),
         ObjectValue::IpAddress(a) => ip_word(a),

@@ -1,22 +1,22 @@
 -- Where the high bits of a number's bytes are not set, its bytes are ASCII; ASCII may be skipped, and is text.
 -- Assumes nothing.
+use Rattle.std.specs.Prelude.{Some, Ok, Err}
 use Prim.Native.Nat.{ℕ, zero, suc, ◌+◌, ◌-◌, ◌*◌, ◌^◌, ◌≤◌, ◌<◌, zero-le, suc-le-suc}
 use mathlib.Core.Path.{◌≡◌, refl, sym, ap, subst, ◌∙◌}
 use mathlib.Core.Bool.{Bool, true, false, ◌||◌, not}
 use mathlib.Core.List.{List, [], ◌∷◌}
-use mathlib.Core.Option.{some}
 use native.Mathlib.Nat.{add-zero, le_refl}
 use native.Mathlib.Omega.{arith}
 use native.Mathlib.Decide.{dec_lt}
-use borrow.Author.Tests.{le-leb, eqb-true}
-use lib.Dec.{T, eqb, leb, leb→le}
+use borrow.Author.Tests.{ltb-true, le-leb, eqb-true}
+use lib.Dec.{T, eqb, leb, ltb, leb→le}
+use Rattle.std.specs.List.{fold}
 use lib.ListN.{length, take, drop, get_or, length-drop}
 use lib.Seq.{length-take-le, get_or-take, get_or-drop}
-use lib.Bits.{bit_and, and_block}
+use lib.Bits.{bit_and, bit_or, and_block, or_add_and, and_le_l, and_le_r}
 use Rattle.lists.specs.Tests.{below, below_at}
 use Rattle.lists.specs.Numbers.{number, Bytes}
 use Rattle.lists.proofs.NumberLaws.{bytes_take, bytes_drop}
-use Rattle.text.specs.declared.Text.TheVariants.{Good, Bad}
 use Rattle.text.specs.Machine.{step, onward, judge_at, judge, Skipped}
 use Rattle.text.proofs.Laws.{more}
 
@@ -60,14 +60,24 @@ low_part s i n w m o h l r e k a z =
     subst (λ y. y ≤ 127) p
     (low_each (take n (drop i s)) (bytes_take n (drop i s) (bytes_drop i s h)) (rw (x, ← r, o) (eqb-true (bit_and w m) 0 e)) (k - i) (omega arith))
 
--- one byte more
-pub low_more : (s : List ℕ) (a i : ℕ) → ((k : ℕ) → a ≤ k → k < i → get_or s k 0 ≤ 127) → get_or s i 0 ≤ 127
-    → (k : ℕ) → a ≤ k → k < i + 1 → get_or s k 0 ≤ 127
-low_more s a i h b k l m = go (dec_lt k i)
-  where
-    go : Dec (k < i) → get_or s k 0 ≤ 127
-    go (yes z) = h k l z
-    go (no z) = let e : k ≡ i = omega arith in rw e b
+-- of a part whose bytes were joined by `|`
+or_low : (a b n : ℕ) → bit_or a b ≤ n → (a ≤ n) × (b ≤ n)
+or_low a b n h = (omega (arith, or_add_and a b, and_le_r a b), omega (arith, or_add_and a b, and_le_l a b))
+
+low_all : (t : List ℕ) (a : ℕ) → fold bit_or a t ≤ 127 → (a ≤ 127) × ((k : ℕ) → k < length t → get_or t k 0 ≤ 127)
+low_all [] a h = (h, λ k l. absurd (omega arith))
+low_all (b ∷ t) a h =
+    let r = low_all t (bit_or a b) h in
+    let o = or_low a b 127 r.0 in
+    (o.0, elim [ zero ↦ λ l. o.1 | suc k ↦ λ l. r.1 k (omega arith) ])
+
+pub low_within : (s : List ℕ) (a b : ℕ) → b ≤ length s → ltb (fold bit_or 0 (take (b - a) (drop a s))) 128 ≡ true → (k : ℕ) → a ≤ k → k < b → get_or s k 0 ≤ 127
+low_within s a b h e k l m =
+    let q : a + (k - a) ≡ k = omega arith in
+    let d : k - a < b - a = omega arith in
+    let n : length (take (b - a) (drop a s)) ≡ b - a = length-take-le (b - a) (drop a s) (rw length-drop (omega arith)) in
+    let p : get_or (take (b - a) (drop a s)) (k - a) 0 ≡ get_or s k 0 = rw (get_or-take, get_or-drop, q) in
+    omega (arith, (low_all (take (b - a) (drop a s)) 0 (omega (arith, ltb-true _ _ e))).1 (k - a) (omega (arith, n)), p)
 
 -- two parts that meet or overlap
 pub low_join : (s : List ℕ) (a b c d : ℕ) → c ≤ b → ((k : ℕ) → a ≤ k → k < b → get_or s k 0 ≤ 127) → ((k : ℕ) → c ≤ k → k < d → get_or s k 0 ≤ 127)
@@ -83,15 +93,15 @@ pub skip_low : (s : List ℕ) (a n : ℕ) → a + n ≤ length s → ((k : ℕ) 
 skip_low s a zero l h = rw (add-zero a) (record { on = le_refl _; inside = omega arith; same = refl })
 skip_low s a (suc n) l h = more s a (a + n) (a + suc n) (skip_low s a n (omega arith) (λ k x y. h k x (omega arith))) (omega arith) (omega arith) (h (a + n) (omega arith) (omega arith))
 
-good_each : (t : List ℕ) → ((k : ℕ) → k < length t → get_or t k 0 ≤ 127) → (j : ℕ) → judge_at j [] t ≡ Good
+good_each : (t : List ℕ) → ((k : ℕ) → k < length t → get_or t k 0 ≤ 127) → (j : ℕ) → judge_at j [] t ≡ Ok tt
 unfolding judge_at
 good_each [] h j = refl
 good_each (b ∷ t) h j =
     let a : b ≤ 127 = h 0 (omega arith) in
-    let e : step [] b ≡ some [] = simp (le-leb 0 b zero-le, le-leb b 127 a) in
-    ap (onward (Bad j) (λ ts. judge_at (j + 1) ts t)) e ∙ good_each t (λ k l. h (suc k) (suc-le-suc l)) (j + 1)
+    let e : step [] b ≡ Some [] = simp (le-leb 0 b zero-le, le-leb b 127 a) in
+    ap (onward (Err j) (λ ts. judge_at (j + 1) ts t)) e ∙ good_each t (λ k l. h (suc k) (suc-le-suc l)) (j + 1)
 
-pub good_part : (s : List ℕ) (a n : ℕ) → a + n ≤ length s → ((k : ℕ) → a ≤ k → k < a + n → get_or s k 0 ≤ 127) → judge (take n (drop a s)) ≡ Good
+pub good_part : (s : List ℕ) (a n : ℕ) → a + n ≤ length s → ((k : ℕ) → a ≤ k → k < a + n → get_or s k 0 ≤ 127) → judge (take n (drop a s)) ≡ Ok tt
 good_part s a n l h = good_each (take n (drop a s)) each 0
   where
     each : (k : ℕ) → k < length (take n (drop a s)) → get_or (take n (drop a s)) k 0 ≤ 127

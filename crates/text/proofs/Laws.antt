@@ -1,35 +1,33 @@
 -- What a loop over the bytes uses of the machine and of the tables.
 -- Assumes nothing.
+use Rattle.std.specs.Prelude.{Option, Some, None, Ok, Err}
 use Prim.Native.Nat.{ℕ, zero, suc, ◌+◌, ◌≤◌, ◌<◌, zero-le}
 use mathlib.Core.Path.{◌≡◌, refl, sym, ap, ap₂, ◌∙◌}
 use mathlib.Core.Bool.{Bool, true, false, ◌&&◌}
 use mathlib.Core.List.{List, [], ◌∷◌}
-use mathlib.Core.Option.{Option, none, some}
 use native.Mathlib.Numerals.{add-one}
 use native.Mathlib.Omega.{arith}
 use borrow.Author.Tests.{lt-ltb, le-ltb, le-leb, lt-leb}
 use lib.Dec.{T, eqb, eqb→eq, ltb, ltb→lt}
 use lib.ListN.{length, get_or, drop, drop_of_length-le}
 use lib.Seq.{drop-cons}
-use lib.Bits.{bit_or, or_add_and, and_le_l, and_le_r}
 use Rattle.lists.specs.Tests.{and_left, and_right, below, below_at}
-use Rattle.text.specs.declared.Text.TheVariants.{Good, Bad}
 use Rattle.text.specs.Utf8.{Range, ◌to◌}
 use Rattle.text.specs.Machine.{step, onward, judge_at, Skipped}
 use Rattle.text.specs.Tables.{asks, reach, same, same?, entry, agrees, tables}
 
 -- ---- one byte: that at i is the first of what is left
 pub turn : (s : List ℕ) (i : ℕ) → i < length s → (rs : List Range) {o : Option (List Range)} → step rs (get_or s i 0) ≡ o
-    → judge_at i rs (drop i s) ≡ onward (Bad i) (λ ts. judge_at (i + 1) ts (drop (i + 1) s)) o
+    → judge_at i rs (drop i s) ≡ onward (Err i) (λ ts. judge_at (i + 1) ts (drop (i + 1) s)) o
 unfolding judge_at
 turn s i h rs e =
     let first : drop i s ≡ get_or s i 0 ∷ drop (i + 1) s = rw (add-one, drop-cons s i 0) in
-    ap (judge_at i rs) first ∙ ap (onward (Bad i) (λ ts. judge_at (i + 1) ts (drop (i + 1) s))) e
+    ap (judge_at i rs) first ∙ ap (onward (Err i) (λ ts. judge_at (i + 1) ts (drop (i + 1) s))) e
 
 -- ---- ASCII between characters
 pub more : (s : List ℕ) (from i j : ℕ) → Skipped s from i → i + 1 ≡ j → i < length s → get_or s i 0 ≤ 127 → Skipped s from j
 more s from i j k e h a =
-    let t : step [] (get_or s i 0) ≡ some [] = simp (le-leb 0 (get_or s i 0) zero-le, le-leb (get_or s i 0) 127 a) in
+    let t : step [] (get_or s i 0) ≡ Some [] = simp (le-leb 0 (get_or s i 0) zero-le, le-leb (get_or s i 0) 127 a) in
     record {
       on = omega arith;
       inside = omega arith;
@@ -44,8 +42,8 @@ pub skip_pair : (s : List ℕ) (i : ℕ) → i + 2 ≤ length s → 0xC2 ≤ get
 skip_pair s i l b₀ b₁ c₀ c₁ =
     let b = get_or s i 0 in
     let c = get_or s (i + 1) 0 in
-    let t : step [] b ≡ some (0x80 to 0xBF ∷ []) = simp (le-leb 0 b zero-le, lt-leb b 0x7F (omega arith), le-leb 0xC2 b b₀, le-leb b 0xDF b₁) in
-    let u : step (0x80 to 0xBF ∷ []) c ≡ some [] = simp (le-leb 0x80 c c₀, le-leb c 0xBF c₁) in
+    let t : step [] b ≡ Some (0x80 to 0xBF ∷ []) = simp (le-leb 0 b zero-le, lt-leb b 0x7F (omega arith), le-leb 0xC2 b b₀, le-leb b 0xDF b₁) in
+    let u : step (0x80 to 0xBF ∷ []) c ≡ Some [] = simp (le-leb 0x80 c c₀, le-leb c 0xBF c₁) in
     let e : i + 1 + 1 ≡ i + 2 = omega arith in
     record {
       on = omega arith;
@@ -53,11 +51,8 @@ skip_pair s i l b₀ b₁ c₀ c₁ =
       same = ap (λ (n : ℕ). judge_at n [] (drop n s)) (sym e) ∙ sym (turn s (i + 1) (omega arith) (0x80 to 0xBF ∷ []) u) ∙ sym (turn s i (omega arith) [] t);
     }
 
-pub or_low : (a b n : ℕ) → bit_or a b ≤ n → (a ≤ n) × (b ≤ n)
-or_low a b n h = (omega (arith, or_add_and a b, and_le_r a b), omega (arith, or_add_and a b, and_le_l a b))
-
 -- ---- the end
-pub whole : (s : List ℕ) (i q : ℕ) → length s ≤ i → q ≡ 0 → judge_at i (asks q) (drop i s) ≡ Good
+pub whole : (s : List ℕ) (i q : ℕ) → length s ≤ i → q ≡ 0 → judge_at i (asks q) (drop i s) ≡ Ok tt
 unfolding judge_at asks
 whole s i q h z = rw (z, drop_of_length-le s h)
 
@@ -66,22 +61,22 @@ asking : List Range → Bool
 asking [] = false
 asking (r ∷ rs) = true
 
-cut : (k : ℕ) (rs : List Range) → T (asking rs) → judge_at k rs [] ≡ Bad k
+cut : (k : ℕ) (rs : List Range) → T (asking rs) → judge_at k rs [] ≡ Err k
 unfolding judge_at asking
 cut k [] t = absurd t
 cut k (r ∷ rs) t = refl
 
-pub early : (s : List ℕ) (i q : ℕ) → length s ≤ i → (q ≡ 0 → ⊥) → q < 8 → judge_at i (asks q) (drop i s) ≡ Bad i
+pub early : (s : List ℕ) (i q : ℕ) → length s ≤ i → (q ≡ 0 → ⊥) → q < 8 → judge_at i (asks q) (drop i s) ≡ Err i
 unfolding asks below asking
 early s i zero h n l = absurd (n refl)
 early s i (suc q) h n l = rw (drop_of_length-le s h) (cut i (asks (suc q)) (below_at 7 (λ p. asking (asks (suc p))) tt q (omega arith)))
 
 -- ---- the numbers of the states
-pub reach_some : (n : ℕ) → n ≤ 7 → reach n ≡ some (asks n)
+pub reach_some : (n : ℕ) → n ≤ 7 → reach n ≡ Some (asks n)
 unfolding reach
 reach_some n h = simp (lt-ltb n 8 (omega arith))
 
-pub reach_none : (n : ℕ) → 7 < n → reach n ≡ none
+pub reach_none : (n : ℕ) → 7 < n → reach n ≡ None
 unfolding reach
 reach_none n h = simp (le-ltb n 8 h)
 
@@ -99,10 +94,10 @@ same_eq ((a to b) ∷ rs) ((c to d) ∷ ts) t =
 
 same?_eq : (x y : Option (List Range)) → T (same? x y) → x ≡ y
 unfolding same same?
-same?_eq none none t = refl
-same?_eq none (some ts) t = absurd t
-same?_eq (some rs) none t = absurd t
-same?_eq (some rs) (some ts) t = ap some (same_eq rs ts t)
+same?_eq None None t = refl
+same?_eq None (Some ts) t = absurd t
+same?_eq (Some rs) None t = absurd t
+same?_eq (Some rs) (Some ts) t = ap Some (same_eq rs ts t)
 
 module _ (class after : List ℕ) (t : T (tables class after)) (b : ℕ) (h : b < 256) where
   pub class_lt : get_or class b 0 < 12

@@ -1,8 +1,7 @@
 -- The rule of the code's two tables, which give a class for each byte and a state for each class and state: one test, which antt computes
 -- over the 256 bytes in each of the 8 states.
 -- Assumes nothing.
-use Rattle.std.specs.Prelude.{ℕ, ◌+◌, ◌*◌, Bool, true, false, cond, ◌&&◌, List, [], ◌∷◌, eqb, ltb, get_or}
-use Rattle.std.proofs.Math.Option.{Option, none, some}
+use Rattle.std.specs.Prelude.{ℕ, ◌+◌, ◌*◌, Bool, true, false, cond, ◌&&◌, List, [], ◌∷◌, eqb, ltb, get_or, Option, Some, None}
 use Rattle.lists.specs.Tests.{below}
 use Rattle.text.specs.Utf8.{Range, ◌to◌}
 use Rattle.text.specs.Machine.{step}
@@ -27,7 +26,7 @@ asks q = get_or states q []
 -- the state that an entry n of the second table leads to: from 8 on, none
 unfoldable pub reach : ℕ → Option (List Range)
 unfolding asks
-reach n = cond (ltb n 8) (some (asks n)) none
+reach n = cond (ltb n 8) (Some (asks n)) None
 
 -- whether two states are equal
 unfoldable pub same : List Range → List Range → Bool
@@ -38,10 +37,10 @@ same ((a to b) ∷ rs) ((c to d) ∷ ts) = (eqb a c && eqb b d) && same rs ts
 
 unfoldable pub same? : Option (List Range) → Option (List Range) → Bool
 unfolding same
-same? none none = true
-same? none (some ts) = false
-same? (some rs) none = false
-same? (some rs) (some ts) = same rs ts
+same? None None = true
+same? None (Some ts) = false
+same? (Some rs) None = false
+same? (Some rs) (Some ts) = same rs ts
 
 -- what the tables have for the byte b in the state of number q
 abbrev pub entry : List ℕ → List ℕ → ℕ → ℕ → ℕ

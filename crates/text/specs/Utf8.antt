@@ -1,9 +1,7 @@
 -- UTF-8 as the Unicode Standard defines it, by its Table 3-7, "Well-Formed UTF-8 Byte Sequences"; and what an answer says of bytes.
 -- Assumes nothing.
-use Rattle.std.specs.Prelude.{ℕ, ◌+◌, ◌≤◌, ◌<◌, ◌≡◌, length, take}
+use Rattle.std.specs.Prelude.{ℕ, ◌+◌, ◌≤◌, ◌<◌, ◌≡◌, length, take, Result, Ok, Err}
 use mathlib.Core.List.{List, [], ◌∷◌, ◌++◌, Memᴰ}
-use Rattle.text.specs.declared.Text.{Text}
-use Rattle.text.specs.declared.Text.TheVariants.{Good, Bad}
 
 infix 80 ◌to◌
 -- a range of bytes, with both its ends
@@ -56,6 +54,6 @@ pub record Stops (s : List ℕ) (k : ℕ) : Type 0 where
   pub early : k ≡ length s → WellFormed s → ⊥
 
 -- what an answer says of the bytes s
-abbrev pub Means : List ℕ → Text → Type 0
-Means s Good = WellFormed s
-Means s (Bad k) = Stops s k
+abbrev pub Means : List ℕ → Result (Unit {0}) ℕ → Type 0
+Means s (Ok _) = WellFormed s
+Means s (Err k) = Stops s k

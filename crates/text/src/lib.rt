@@ -4,24 +4,11 @@
 
 mod tables;
 
-ghost use Rattle.std.specs.Prelude.{◌≡◌, [], true, ℕ, ◌+◌, ◌≤◌, ◌<◌, T, length, take, drop, get_or};
+ghost use Rattle.std.specs.Prelude.{◌≡◌, [], true, ℕ, ◌+◌, ◌≤◌, ◌<◌, T, length, take, drop, get_or, nat_lt, bit_or, fold};
 ghost use Rattle.text.specs.Machine.{step, judge, judge_at, Skipped};
 ghost use Rattle.text.specs.Tables.{tables, asks, reach};
 
 use tables::{AFTER, CLASS};
-
-// Well-formed; or the place of the first byte with which no well-formed text goes on: the length, where the bytes end within a character.
-#[derive(Clone, Copy)]
-pub enum Text {
-    Good,
-    Bad(usize),
-}
-
-fn wide(x: u8) -> usize
-    ensures { result ≡ x }
-{
-    x as usize
-}
 
 // The number of the state after the byte b in the state q; 8 where no text goes on with b.
 fn next(class: &[u8; 256], after: &[u8; 96], q: usize, b: u8) -> usize
@@ -29,11 +16,11 @@ fn next(class: &[u8; 256], after: &[u8; 96], q: usize, b: u8) -> usize
     requires q_bound { q < 8 }
     ensures { reach result ≡ step (asks q) b }
 {
-    let c = wide(class[b as usize]);
-    wide(after[c * 8 + q])
+    let c = class[b as usize] as usize;
+    after[c * 8 + q] as usize
 }
 
-// Whether the four, the eight bytes from i on are ASCII: one test of their high bits.
+// Whether the four, the eight bytes from i on are ASCII: one test of their high bits. A const parameter could not choose the number's type.
 fn four_ascii(s: &[u8], i: usize) -> bool
     requires { i + 4 ≤ length s.now }
     ensures { result ≡ true → (k : ℕ) → i ≤ k → k < i + 4 → get_or s.now k 0 ≤ 127 }
@@ -53,11 +40,9 @@ fn blocks(s: &[u8], from: usize) -> usize
     requires { from ≤ length s.now }
     ensures { Skipped s.now from result }
 {
+    // Where it stops is the answer, which `step_by` and `chunks_exact` keep to themselves.
     let mut i = from;
-    while 8 <= s.len() - i {
-        if !eight_ascii(s, i) {
-            return i;
-        }
+    while 8 <= s.len() - i && eight_ascii(s, i) {
         i += 8;
     }
     i
@@ -79,22 +64,21 @@ fn ascii(s: &[u8], from: usize) -> usize
     requires { from ≤ length s.now }
     ensures { Skipped s.now from result }
 {
+    // By `take_while` and `count`, or by a `for` that returns, a text with umlauts takes a tenth longer.
     let mut i = half_block(s, blocks(s, from));
-    while i < s.len() {
-        if 127 < s[i] {
-            return i;
-        }
+    while i < s.len() && s[i] < 128 {
         i += 1;
     }
     i
 }
 
 // The answer from `from` on, where a character begins.
-fn walk(class: &[u8; 256], after: &[u8; 96], s: &[u8], from: usize) -> Text
+fn walk(class: &[u8; 256], after: &[u8; 96], s: &[u8], from: usize) -> Result<(), usize>
     requires t { T (tables class.now after.now) }
     requires from_in_bounds { from ≤ length s.now }
     ensures { result ≡ judge_at from [] (drop from s.now) }
 {
+    // No range has these places: i passes all ASCII at once.
     let mut q: usize = 0;
     let mut i = from;
     while i < s.len() {
@@ -104,17 +88,17 @@ fn walk(class: &[u8; 256], after: &[u8; 96], s: &[u8], from: usize) -> Text
         } else {
             let n = next(class, after, q, b);
             if 7 < n {
-                return Text::Bad(i);
+                return Err(i);
             }
             q = n;
             i += 1;
         }
     }
-    if q == 0 { Text::Good } else { Text::Bad(i) }
+    if q == 0 { Ok(()) } else { Err(i) }
 }
 
 // A constant array is built on the stack at each use: here once a call.
-fn by_tables(s: &[u8], from: usize) -> Text
+fn by_tables(s: &[u8], from: usize) -> Result<(), usize>
     requires { from ≤ length s.now }
     ensures { result ≡ judge_at from [] (drop from s.now) }
 {
@@ -135,9 +119,10 @@ fn pair(s: &[u8], i: usize) -> bool
 }
 
 // The answer on all the bytes. The tables are asked from the first character on that is longer than two bytes, or wrong.
-pub fn text_ok(s: &[u8]) -> Text
+pub fn text_ok(s: &[u8]) -> Result<(), usize>
     ensures { result ≡ judge s.now }
 {
+    // No range has these places: i passes all ASCII at once.
     let mut i = ascii(s, 0);
     while i < s.len() {
         if !pair(s, i) {
@@ -145,31 +130,24 @@ pub fn text_ok(s: &[u8]) -> Text
         }
         i = ascii(s, i + 2);
     }
-    Text::Good
+    Ok(())
 }
 
-// Whether the bytes from `start` up to `end` are ASCII, of which there are few.
-fn few_ascii(s: &[u8], start: usize, end: usize) -> bool
-    requires { (start ≤ end) × (end ≤ length s.now) }
-    ensures { result ≡ true → (k : ℕ) → start ≤ k → k < end → get_or s.now k 0 ≤ 127 }
+// Whether few bytes are ASCII: one test of all of them.
+fn few_ascii(s: &[u8]) -> bool
+    ensures { result ≡ nat_lt (fold bit_or 0 s.now) 128 }
 {
-    let mut all: usize = 0;
-    let mut i = start;
-    while i < end {
-        all = all | wide(s[i]);
-        i += 1;
-    }
-    all < 128
+    s.iter().fold(0, |all, b| all | *b) < 128
 }
 
-// The same of at most 32 bytes, as a name has: at most four loads, which may overlap.
+// Whether the bytes from `start` up to `end`, at most 32 as a name has, are ASCII: at most four loads, which may overlap.
 fn short_ascii(s: &[u8], start: usize, end: usize) -> bool
     requires { (start ≤ end) × (end ≤ length s.now) × (end ≤ start + 32) }
     ensures { result ≡ true → (k : ℕ) → start ≤ k → k < end → get_or s.now k 0 ≤ 127 }
 {
     let n = end - start;
     if n < 8 {
-        return few_ascii(s, start, end);
+        return few_ascii(&s[start..end]);
     }
     let outer = eight_ascii(s, start) & eight_ascii(s, end - 8);
     if n <= 16 {
@@ -179,14 +157,14 @@ fn short_ascii(s: &[u8], start: usize, end: usize) -> bool
 }
 
 // The answer on the `len` bytes from `start` on; its place counts from `start`.
-pub fn part_ok(s: &[u8], start: usize, len: usize) -> Text
+pub fn part_ok(s: &[u8], start: usize, len: usize) -> Result<(), usize>
     requires { start + len ≤ length s.now }
     ensures { result ≡ judge (take len (drop start s.now)) }
 {
     let end = start + len;
     if len <= 32 {
         if short_ascii(s, start, end) {
-            return Text::Good;
+            return Ok(());
         }
     }
     text_ok(&s[start..end])

@@ -1,5 +1,6 @@
 -- Laws on sizes, on what can be said, and on what decoding and encoding answer.
 -- Assumes nothing.
+use Rattle.std.specs.Prelude.{Result, Ok, Err}
 use mathlib.Core.Path.{◌≡◌, refl, sym, ap, subst, ◌∙◌}
 use mathlib.Core.Logic.{inl, inr}
 use mathlib.Core.Bool.{Bool, true, false, cond, ◌&&◌, ◌||◌, and-eq-true_iff}
@@ -20,16 +21,11 @@ use Rattle.lists.specs.Numbers.{number, bytes_of, Bytes}
 use Rattle.lists.specs.Tests.{and_left, and_right, below, below_at}
 use Rattle.lists.proofs.NumberLaws.{number_lt, bytes_take}
 use Rattle.answers.specs.declared.Refusal.TheVariants.{BadValue, BufferTooShort}
-use Rattle.text.specs.declared.Text.{Text as Judged}
-use Rattle.text.specs.declared.Text.TheVariants.{Good, Bad}
 use Rattle.text.specs.Machine.{judge}
-use Rattle.value.specs.declared.Encoded.TheVariants.{Wrote, Refused}
 use Rattle.value.specs.declared.CodecFault.{CodecFault}
 use Rattle.value.specs.declared.CodecFault.TheVariants.{Odd}
 use Rattle.value.specs.declared.Decoded.TheVariants.{Value, NoType}
 use Rattle.value.specs.declared.ObjectValue.{ObjectValue}
-use Rattle.value.specs.declared.Word.{Word}
-use Rattle.value.specs.declared.Word.TheVariants.{Takes, Fails}
 use Rattle.value.specs.Meaning.{reading}
 use Rattle.value.specs.Codec.{sizes, size_of, is_text, fits_type, takes, text_is, text_word, word_at, meant, decode_of, sayable, exact_word, exactly_of, is_exact, exact, encoding, after_encode, encode_of}
 
@@ -136,15 +132,15 @@ module _ (t w : ℕ) (part : List ℕ) where
   encoding_fixed e = rw e
 
 -- a text that is taken is taken with its length
-pub text_taken : (t : ℕ) (s : List ℕ) → takes (text_word t s) ≡ true → text_word t s ≡ Takes (length s)
+pub text_taken : (t : ℕ) (s : List ℕ) → takes (text_word t s) ≡ true → text_word t s ≡ Ok (length s)
 unfolding text_word
 text_taken t s = go (eqb t 11) (eqb t 13 && eqb (length s % 2) 1) (judge s)
   where
-    go : (a b : Bool) (j : Judged)
-        → takes (cond a (text_is (length s) j) (cond b (Fails Odd) (Takes (length s)))) ≡ true
-        → cond a (text_is (length s) j) (cond b (Fails Odd) (Takes (length s))) ≡ Takes (length s)
-    go true b Good h = refl
-    go true b (Bad k) h = let z : ◌≡◌ {A = ℕ} 0 1 = cc in absurd (omega arith)
+    go : (a b : Bool) (j : Result (Unit {0}) ℕ)
+        → takes (cond a (text_is (length s) j) (cond b (Err Odd) (Ok (length s)))) ≡ true
+        → cond a (text_is (length s) j) (cond b (Err Odd) (Ok (length s))) ≡ Ok (length s)
+    go true b (Ok _) h = refl
+    go true b (Err k) h = let z : ◌≡◌ {A = ℕ} 0 1 = cc in absurd (omega arith)
     go false true j h = let z : ◌≡◌ {A = ℕ} 0 1 = cc in absurd (omega arith)
     go false false j h = refl
 
@@ -153,28 +149,28 @@ module _ (t w : ℕ) (part : List ℕ) (h : sayable t w part ≡ true) where
   unfolding sayable
   said_type = leb-true t 20 ((and-eq-true_iff (leb t 20) (cond (is_text t) (eqb w (length part) && takes (text_word t part)) (fits_type t w))).0 h).0
 
-  pub said_text : is_text t ≡ true → text_word t part ≡ Takes w
+  pub said_text : is_text t ≡ true → text_word t part ≡ Ok w
   said_text e =
       let p = (and-eq-true_iff (eqb w (length part)) (takes (text_word t part))).0 (sym (sayable_text t w part said_type e) ∙ h) in
-      text_taken t part p.1 ∙ ap Takes (sym (eqb-true w (length part) p.0))
+      text_taken t part p.1 ∙ ap Ok (sym (eqb-true w (length part) p.0))
 
   pub said_fixed : is_text t ≡ false → w < 2 ^ (8 * size_of t)
   said_fixed e = ltb-true w (2 ^ (8 * size_of t)) (sym (sayable_fixed t w part said_type e) ∙ h)
 
 -- ---- what is known where a word was taken
-module _ (t w : ℕ) (s : List ℕ) (h : word_at t s ≡ Takes w) where
-  pub word_text : is_text t ≡ true → (text_word t s ≡ Takes w) × (w ≡ length s)
+module _ (t w : ℕ) (s : List ℕ) (h : word_at t s ≡ Ok w) where
+  pub word_text : is_text t ≡ true → (text_word t s ≡ Ok w) × (w ≡ length s)
   unfolding word_at
   word_text e =
-      let g : text_word t s ≡ Takes w = rw e at h in
-      let m : Takes w ≡ Takes (length s) = sym g ∙ text_taken t s (ap takes g) in
+      let g : text_word t s ≡ Ok w = rw e at h in
+      let m : Ok w ≡ Ok (length s) = sym g ∙ text_taken t s (ap takes g) in
       (g, cc)
 
   pub word_fixed : is_text t ≡ false → (size_of t ≤ length s) × (w ≡ number (take (size_of t) s))
   unfolding word_at
   word_fixed e = go (ltb (length s) (size_of t)) refl (rw e at h)
     where
-      go : (b : Bool) → ltb (length s) (size_of t) ≡ b → cond b (Fails (CodecFault.Value (size_of t) (length s))) (Takes (number (take (size_of t) s))) ≡ Takes w
+      go : (b : Bool) → ltb (length s) (size_of t) ≡ b → cond b (Err (CodecFault.Value (size_of t) (length s))) (Ok (number (take (size_of t) s))) ≡ Ok w
           → (size_of t ≤ length s) × (w ≡ number (take (size_of t) s))
       go true f g = let z : ◌≡◌ {A = ℕ} 0 1 = cc in absurd (omega arith)
       go false f g = (ltb-false (length s) (size_of t) f, cc)
@@ -193,16 +189,16 @@ module _ (t w : ℕ) (s : List ℕ) (h : word_at t s ≡ Takes w) where
 
 -- ---- what encoding answers
 module _ (t w : ℕ) (part out : List ℕ) where
-  pub encode_bad : sayable t w part ≡ false → encode_of t w part out ≡ after_encode (Refused BadValue) out
+  pub encode_bad : sayable t w part ≡ false → encode_of t w part out ≡ after_encode (Err BadValue) out
   unfolding encode_of
   encode_bad e = rw e
 
-  pub encode_short : sayable t w part ≡ true → length out < length (encoding t w part) → encode_of t w part out ≡ after_encode (Refused BufferTooShort) out
+  pub encode_short : sayable t w part ≡ true → length out < length (encoding t w part) → encode_of t w part out ≡ after_encode (Err BufferTooShort) out
   unfolding encode_of
   encode_short e h = rw (e, lt-ltb (length out) (length (encoding t w part)) h)
 
   pub encode_done : sayable t w part ≡ true → length (encoding t w part) ≤ length out
-      → encode_of t w part out ≡ after_encode (Wrote (length (encoding t w part))) (over out 0 (encoding t w part))
+      → encode_of t w part out ≡ after_encode (Ok (length (encoding t w part))) (over out 0 (encoding t w part))
   unfolding encode_of
   encode_done e h = rw (e, le-ltb (length out) (length (encoding t w part)) h)
 
@@ -217,15 +213,15 @@ pub record Written (t w : ℕ) (part out : List ℕ) (n : ℕ) (out' : List ℕ)
   pub count : n ≡ length (encoding t w part)
   pub laid : out' ≡ over out 0 (encoding t w part)
 
-pub written : (t w : ℕ) (part out : List ℕ) (n : ℕ) (out' : List ℕ) → encode_of t w part out ≡ after_encode (Wrote n) out' → Written t w part out n out'
+pub written : (t w : ℕ) (part out : List ℕ) (n : ℕ) (out' : List ℕ) → encode_of t w part out ≡ after_encode (Ok n) out' → Written t w part out n out'
 unfolding encode_of
 written t w part out n out' h = go (sayable t w part) (ltb (length out) (length (encoding t w part))) refl h
   where
     go : (a b : Bool) → sayable t w part ≡ a
         → cond a
-        (cond b (after_encode (Refused BufferTooShort) out) (after_encode (Wrote (length (encoding t w part))) (over out 0 (encoding t w part))))
-        (after_encode (Refused BadValue) out)
-        ≡ after_encode (Wrote n) out'
+        (cond b (after_encode (Err BufferTooShort) out) (after_encode (Ok (length (encoding t w part))) (over out 0 (encoding t w part))))
+        (after_encode (Err BadValue) out)
+        ≡ after_encode (Ok n) out'
         → Written t w part out n out'
     go true true e h = let z : ◌≡◌ {A = ℕ} 0 1 = cc (ap (λ r. r.answer) h) in absurd (omega arith)
     go true false e h = record { said = e; count = cc (ap (λ r. r.answer) h); laid = sym (ap (λ r. r.out) h) }
@@ -235,17 +231,17 @@ written t w part out n out' h = go (sayable t w part) (ltb (length out) (length 
 pub record Taken (t : ℕ) (s : List ℕ) (v : ObjectValue) : Type 0 where
   pub type_le : t ≤ 20
   pub word : ℕ
-  pub taken : word_at t s ≡ Takes word
+  pub taken : word_at t s ≡ Ok word
   pub value : v ≡ reading t word
 
 pub decoded : (t : ℕ) (s : List ℕ) (v : ObjectValue) → decode_of t s ≡ Value v → Taken t s v
 unfolding decode_of
 decoded t s v h = go (ltb 20 t) (word_at t s) refl refl h
   where
-    go : (a : Bool) (x : Word) → ltb 20 t ≡ a → word_at t s ≡ x → cond a NoType (meant t x) ≡ Value v → Taken t s v
+    go : (a : Bool) (x : Result ℕ CodecFault) → ltb 20 t ≡ a → word_at t s ≡ x → cond a NoType (meant t x) ≡ Value v → Taken t s v
     go true x e f h = let z : ◌≡◌ {A = ℕ} 0 1 = cc in absurd (omega arith)
-    go false (Takes w) e f h = record { type_le = ltb-false 20 t e; word = w; taken = f; value = cc }
-    go false (Fails g) e f h = let z : ◌≡◌ {A = ℕ} 0 1 = cc in absurd (omega arith)
+    go false (Ok w) e f h = record { type_le = ltb-false 20 t e; word = w; taken = f; value = cc }
+    go false (Err g) e f h = let z : ◌≡◌ {A = ℕ} 0 1 = cc in absurd (omega arith)
 
 -- ---- the data is a value and nothing else
 pub exact_none : (t : ℕ) (s : List ℕ) → 20 < t → exact t s ≡ false
@@ -256,16 +252,16 @@ pub exact_text : (t : ℕ) (s : List ℕ) → t ≤ 20 → is_text t ≡ true �
 unfolding exact exactly_of word_at
 exact_text t s h e = rw (le-ltb 20 t h, e) (go (text_word t s))
   where
-    go : (w : Word) → is_exact (exact_word t s w) ≡ takes w
-    go (Takes w) = rw e
-    go (Fails f) = refl
+    go : (w : Result ℕ CodecFault) → is_exact (exact_word t s w) ≡ takes w
+    go (Ok w) = rw e
+    go (Err f) = refl
 
 pub exact_fixed : (t : ℕ) (s : List ℕ) → t ≤ 20 → is_text t ≡ false → exact t s ≡ eqb (length s) (size_of t)
 unfolding exact exactly_of word_at
 exact_fixed t s h e = rw (le-ltb 20 t h, e) (go (dec_lt (length s) (size_of t)) (dec_lt (size_of t) (length s)))
   where
     go : Dec (length s < size_of t) → Dec (size_of t < length s)
-        → is_exact (exact_word t s (cond (ltb (length s) (size_of t)) (Fails (CodecFault.Value (size_of t) (length s))) (Takes (number (take (size_of t) s))))) ≡ eqb (length s) (size_of t)
+        → is_exact (exact_word t s (cond (ltb (length s) (size_of t)) (Err (CodecFault.Value (size_of t) (length s))) (Ok (number (take (size_of t) s))))) ≡ eqb (length s) (size_of t)
     go (yes a) b = rw (lt-ltb (length s) (size_of t) a, ne_eqb (length s) (size_of t) (λ z. omega arith))
     go (no a) (yes b) = rw (le-ltb (length s) (size_of t) (omega arith), e, lt-leb (length s) (size_of t) b, ne_eqb (length s) (size_of t) (λ z. omega arith))
     go (no a) (no b) = rw (le-ltb (length s) (size_of t) (omega arith), e, le-leb (length s) (size_of t) (omega arith), eq-eqb (length s) (size_of t) (omega arith))
@@ -276,7 +272,7 @@ word_in t s = cond (is_text t) (length s) (number (take (size_of t) s))
 
 pub record Exact (t : ℕ) (s : List ℕ) : Type 0 where
   pub type : t ≤ 20
-  pub taken : word_at t s ≡ Takes (word_in t s)
+  pub taken : word_at t s ≡ Ok (word_in t s)
 
 pub exact_facts : (t : ℕ) (s : List ℕ) → exact t s ≡ true → Exact t s
 unfolding word_at

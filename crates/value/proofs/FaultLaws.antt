@@ -1,5 +1,6 @@
 -- R3.9: what a fault says of the data is so. Once over `word_at`, and said of decoding and of what is handed in.
 -- Assumes nothing.
+use Rattle.std.specs.Prelude.{Result, Ok, Err}
 use mathlib.Core.Path.{◌≡◌, refl, sym, ap, subst, ◌∙◌}
 use mathlib.Core.Bool.{Bool, true, false, cond, ◌&&◌, ◌||◌, and-eq-true_iff}
 use mathlib.Core.List.{List}
@@ -9,8 +10,6 @@ use borrow.Author.Tests.{ltb-true, eqb-true}
 use lib.Dec.{eqb, leb, ltb}
 use lib.ListN.{length, take}
 use Rattle.lists.specs.Numbers.{number}
-use Rattle.text.specs.declared.Text.{Text as Judged}
-use Rattle.text.specs.declared.Text.TheVariants.{Good, Bad}
 use Rattle.text.specs.Utf8.{Means}
 use Rattle.text.specs.Machine.{judge}
 use Rattle.text.proofs.Agree.{means}
@@ -19,38 +18,36 @@ use Rattle.value.specs.declared.CodecFault.TheVariants.{Value, Text, Odd}
 use Rattle.value.specs.declared.Decoded.TheVariants as decoded
 use Rattle.value.specs.declared.Exactness.{Exactness}
 use Rattle.value.specs.declared.Exactness.TheVariants as exactly
-use Rattle.value.specs.declared.Word.{Word}
-use Rattle.value.specs.declared.Word.TheVariants.{Takes, Fails}
 use Rattle.value.specs.Codec.{size_of, is_text, text_is, text_word, word_at, meant, decode_of, exact_word, exactly_of}
 use Rattle.value.specs.Fault.{Tells, first_told, second_told}
 use Rattle.value.proofs.CodecLaws.{size_le}
 
-pub word_tells : (t : ℕ) (s : List ℕ) (f : CodecFault) → word_at t s ≡ Fails f → Tells t s f
+pub word_tells : (t : ℕ) (s : List ℕ) (f : CodecFault) → word_at t s ≡ Err f → Tells t s f
 unfolding word_at text_word
 word_tells t s f h = typed (is_text t) refl h
   where
-    same : (g : CodecFault) → ◌≡◌ {A = Word} (Fails g) (Fails f) → Tells t s g → Tells t s f
+    same : (g : CodecFault) → ◌≡◌ {A = Result ℕ CodecFault} (Err g) (Err f) → Tells t s g → Tells t s f
     same g q k = let z : g ≡ f = cc in subst (Tells t s) z k
 
-    judged : (j : Judged) → judge s ≡ j → t ≡ 11 → text_is (length s) j ≡ Fails f → Tells t s f
-    judged Good q e k = let z : ◌≡◌ {A = ℕ} 0 1 = cc in absurd (omega arith)
-    judged (Bad at) q e k = same (Text at) k (record { visible = e; stops = subst (Means s) q (means s) })
+    judged : (j : Result (Unit {0}) ℕ) → judge s ≡ j → t ≡ 11 → text_is (length s) j ≡ Err f → Tells t s f
+    judged (Ok _) q e k = let z : ◌≡◌ {A = ℕ} 0 1 = cc in absurd (omega arith)
+    judged (Err at) q e k = same (Text at) k (record { visible = e; stops = subst (Means s) q (means s) })
 
-    odd : (b : Bool) → (eqb t 13 && eqb (length s % 2) 1) ≡ b → cond b (Fails Odd) (Takes (length s)) ≡ Fails f → Tells t s f
+    odd : (b : Bool) → (eqb t 13 && eqb (length s % 2) 1) ≡ b → cond b (Err Odd) (Ok (length s)) ≡ Err f → Tells t s f
     odd true q k =
         let p = (and-eq-true_iff (eqb t 13) (eqb (length s % 2) 1)).0 q in
         same Odd k (record { unicode = eqb-true t 13 p.0; odd = eqb-true (length s % 2) 1 p.1 })
     odd false q k = let z : ◌≡◌ {A = ℕ} 0 1 = cc in absurd (omega arith)
 
-    text : (b : Bool) → eqb t 11 ≡ b → cond b (text_is (length s) (judge s)) (cond (eqb t 13 && eqb (length s % 2) 1) (Fails Odd) (Takes (length s))) ≡ Fails f → Tells t s f
+    text : (b : Bool) → eqb t 11 ≡ b → cond b (text_is (length s) (judge s)) (cond (eqb t 13 && eqb (length s % 2) 1) (Err Odd) (Ok (length s))) ≡ Err f → Tells t s f
     text true q k = judged (judge s) refl (eqb-true t 11 q) k
     text false q k = odd (eqb t 13 && eqb (length s % 2) 1) refl k
 
-    short : (b : Bool) → is_text t ≡ false → ltb (length s) (size_of t) ≡ b → cond b (Fails (Value (size_of t) (length s))) (Takes (number (take (size_of t) s))) ≡ Fails f → Tells t s f
+    short : (b : Bool) → is_text t ≡ false → ltb (length s) (size_of t) ≡ b → cond b (Err (Value (size_of t) (length s))) (Ok (number (take (size_of t) s))) ≡ Err f → Tells t s f
     short true e q k = same (Value (size_of t) (length s)) k (record { fixed = e; needed-is = refl; had-is = refl; fewer = ltb-true (length s) (size_of t) q })
     short false e q k = let z : ◌≡◌ {A = ℕ} 0 1 = cc in absurd (omega arith)
 
-    typed : (b : Bool) → is_text t ≡ b → cond b (text_word t s) (cond (ltb (length s) (size_of t)) (Fails (Value (size_of t) (length s))) (Takes (number (take (size_of t) s)))) ≡ Fails f → Tells t s f
+    typed : (b : Bool) → is_text t ≡ b → cond b (text_word t s) (cond (ltb (length s) (size_of t)) (Err (Value (size_of t) (length s))) (Ok (number (take (size_of t) s)))) ≡ Err f → Tells t s f
     typed true e k = text (eqb t 11) refl k
     typed false e k = short (ltb (length s) (size_of t)) e refl k
 
@@ -59,10 +56,10 @@ pub decode_tells : (t : ℕ) (s : List ℕ) (f : CodecFault) → decode_of t s �
 unfolding decode_of
 decode_tells t s f h = go (ltb 20 t) (word_at t s) refl h
   where
-    go : (a : Bool) (x : Word) → word_at t s ≡ x → cond a decoded.NoType (meant t x) ≡ decoded.Fails f → Tells t s f
+    go : (a : Bool) (x : Result ℕ CodecFault) → word_at t s ≡ x → cond a decoded.NoType (meant t x) ≡ decoded.Fails f → Tells t s f
     go true x q k = let z : ◌≡◌ {A = ℕ} 0 1 = cc in absurd (omega arith)
-    go false (Takes w) q k = let z : ◌≡◌ {A = ℕ} 0 1 = cc in absurd (omega arith)
-    go false (Fails g) q k = let z : g ≡ f = cc in word_tells t s f (q ∙ ap Fails z)
+    go false (Ok w) q k = let z : ◌≡◌ {A = ℕ} 0 1 = cc in absurd (omega arith)
+    go false (Err g) q k = let z : g ≡ f = cc in word_tells t s f (q ∙ ap Err z)
 
 pub exactly_tells : (t : ℕ) (s : List ℕ) (f : CodecFault) → exactly_of t s ≡ exactly.Fails f → Tells t s f
 unfolding exactly_of
@@ -72,10 +69,10 @@ exactly_tells t s f h = go (ltb 20 t) (word_at t s) refl h
     left true k = let z : ◌≡◌ {A = ℕ} 0 1 = cc in absurd (omega arith)
     left false k = let z : ◌≡◌ {A = ℕ} 0 1 = cc in absurd (omega arith)
 
-    go : (a : Bool) (x : Word) → word_at t s ≡ x → cond a exactly.NoType (exact_word t s x) ≡ exactly.Fails f → Tells t s f
+    go : (a : Bool) (x : Result ℕ CodecFault) → word_at t s ≡ x → cond a exactly.NoType (exact_word t s x) ≡ exactly.Fails f → Tells t s f
     go true x q k = let z : ◌≡◌ {A = ℕ} 0 1 = cc in absurd (omega arith)
-    go false (Takes w) q k = left (is_text t || leb (length s) (size_of t)) k
-    go false (Fails g) q k = let z : g ≡ f = cc in word_tells t s f (q ∙ ap Fails z)
+    go false (Ok w) q k = left (is_text t || leb (length s) (size_of t)) k
+    go false (Err g) q k = let z : g ≡ f = cc in word_tells t s f (q ∙ ap Err z)
 
 -- the numbers of a fault are small
 pub told_small : (t : ℕ) (s : List ℕ) (f : CodecFault) → Tells t s f → first_told f + second_told f ≤ length s + 16

@@ -1,19 +1,16 @@
 -- Two's complement, once over the width: half is half the number of a width's patterns.
 -- Assumes nothing.
 use mathlib.Core.Path.{◌≡◌, refl, sym, ap, ◌∙◌}
-use mathlib.Core.Bool.{true, false}
-use Prim.Native.Nat.{ℕ, zero, suc, ◌+◌, ◌-◌, ◌*◌, ◌/◌, ◌%◌, ◌^◌, ◌<◌, ◌≤◌, zero-le}
+use Prim.Native.Nat.{ℕ, zero, suc, ◌+◌, ◌-◌, ◌*◌, ◌/◌, ◌%◌, ◌^◌, ◌<◌, ◌≤◌}
 use native.Mathlib.Nat.{zero-add, add-zero, zero-mul, one-mul, mod-lt, mod-eq_of_lt, mod-eq-sub-mod, div-eq_of_lt, div-eq-sub-div, two-mul}
 use native.Mathlib.Omega.{arith}
-use borrow.Author.Tests.{lt-ltb, le-ltb, le-leb}
-use lib.Dec.{T, leb}
-use lib.IntN.{ℤ, pos, negsuc, nat_abs, ◌-ℤ◌}
-use lib.Signed.{mag, le_z, non_neg}
+use borrow.Author.Tests.{lt-ltb}
+use lib.IntN.{ℤ, pos, negsuc, ◌-ℤ◌}
+use lib.Signed.{mag}
 use lib.Arith.{mod-mul}
-use lib.Pow.{pow_mono}
-use mir.Syntax.{Width, w64}
-use mir.Val.{to_z, of_z, hbits, SFits}
-use mir.Facts.{to_z_pos, to_z-of_z}
+use mir.Syntax.{Width}
+use mir.Val.{to_z, of_z, bits, hbits, SFits}
+use mir.Facts.{to_z-of_z}
 use native.Mathlib.Decide.{ℕ_discrete}
 use Rattle.value.specs.Meaning.{integer, twos}
 
@@ -38,10 +35,6 @@ integer_high half x p n =
     let l = mod-lt x p in
     rw (e, one-mul) (ap (λ h. pos (x % half) -ℤ pos h) s ∙ minus_half (x % half) (half - 1) (omega arith))
 
--- the code's way there: from -1 downwards
-pub down : (k : ℕ) → k < 2 ^ 63 → negsuc 0 -ℤ to_z w64 k ≡ negsuc k
-down k h = ap (λ z. negsuc 0 -ℤ z) (to_z_pos w64 h) ∙ minus_one k
-
 -- an integer of a width lies within its half
 pub mag_integer : (half x : ℕ) → 0 < half → mag (integer half x) < half
 mag_integer half x p = go (ℕ_discrete (x / half % 2) 0)
@@ -65,44 +58,6 @@ integer_above half x h l =
     let n : x / half % 2 ≡ 0 → ⊥ = λ e. omega arith in
     integer_high half x p n ∙ ap negsuc (omega arith)
 
--- ---- a number's bits, written
-never : (k : ℕ) → leb 0 k ≡ false → ⊥
-never k e = let z : ◌≡◌ {A = ℕ} 0 1 = cc (le-leb 0 k zero-le) in omega arith
-
-pub twos_low : (half : ℕ) (z : ℤ) → le_z (pos 0) z ≡ true → T (non_neg z) × (nat_abs z ≡ twos half z)
-twos_low half (pos k) e = (tt, refl)
-twos_low half (negsuc k) e = let n : ◌≡◌ {A = ℕ} 0 1 = cc in absurd (omega arith)
-
-pub up : (z : ℤ) → le_z (pos 0) z ≡ false → negsuc 0 -ℤ z ≡ pos (mag z)
-up (pos k) e = absurd (never k e)
-up (negsuc k) e = rw (le-ltb (suc k) 1 (omega arith)) (ap pos (omega arith))
-
-pub twos_high : (half : ℕ) (z : ℤ) → le_z (pos 0) z ≡ false → mag z < half → half + (half - 1 - mag z) ≡ twos half z
-twos_high half (pos k) e h = absurd (never k e)
-twos_high half (negsuc k) e h = omega arith
-
--- ---- a narrower type, out of 64 bits
-module _ (w : Width) (half x : ℕ) (z : ℤ) (e : z ≡ integer half x) (p : 0 < half) (h : half ≤ 2 ^ 63) (k : half ≤ 2 ^ hbits w) where
-  small : mag z < half
-  small = rw e (mag_integer half x p)
-
-  pub wide_same : to_z w64 (of_z w64 z) ≡ z
-  wide_same = to_z-of_z {w = w64} (record { sfits = omega (arith, small) })
-
-  pub narrow_fits : SFits w (to_z w64 (of_z w64 z))
-  narrow_fits = rw wide_same (record { sfits = omega (arith, small) })
-
-  pub narrow_same : to_z w (of_z w (to_z w64 (of_z w64 z))) ≡ integer half x
-  narrow_same = to_z-of_z {w = w} narrow_fits ∙ wide_same ∙ e
-
--- ---- a narrower type, into 64 bits
-module _ (w : Width) (z : ℤ) (f : SFits w z) (h : hbits w ≤ 63) where
-  pub widened_fits : SFits w64 (to_z w (of_z w z))
-  widened_fits = rw (to_z-of_z f) (record { sfits = omega (arith, f.sfits, pow_mono {i = hbits w} {j = 63} h) })
-
-  pub widened_same : to_z w64 (of_z w64 (to_z w (of_z w z))) ≡ z
-  widened_same = to_z-of_z widened_fits ∙ to_z-of_z f
-
 -- ---- both ways
 -- of a longer number the bits of the width are read, and no others
 pub twos-integer : (half x : ℕ) → 0 < half → twos half (integer half x) ≡ x % (half + half)
@@ -121,3 +76,15 @@ twos-integer half x p = go (ℕ_discrete (x / half % 2) 0)
 pub integer-twos : (half : ℕ) (z : ℤ) → mag z < half → integer half (twos half z) ≡ z
 integer-twos half (pos k) h = integer-below half k h
 integer-twos half (negsuc k) h = integer_above half (half + half - suc k) (omega arith) (omega arith) ∙ ap negsuc (omega arith)
+
+-- the library's cast of the width's bits reads that integer
+pub cast_integer : (w : Width) (half x n : ℕ) (z : ℤ) → half ≡ 2 ^ hbits w → half + half ≡ 2 ^ bits w → 0 < half → n ≡ x % (half + half) → z ≡ to_z w n → to_z w (of_z w z) ≡ integer half x
+cast_integer w half x n z e b p m q =
+    let i = integer half x in
+    let f : SFits w i = record { sfits = rw (← e) (mag_integer half x p) } in
+    let r : z ≡ i = q ∙ ap (to_z w) (m ∙ sym (twos-integer half x p) ∙ sym (of_z-twos i)) ∙ to_z-of_z f in
+    rw r (to_z-of_z f)
+  where
+    of_z-twos : (i : ℤ) → of_z w i ≡ twos half i
+    of_z-twos (pos k) = refl
+    of_z-twos (negsuc k) = ap (λ n. n - suc k) (sym b)

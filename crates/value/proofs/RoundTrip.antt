@@ -1,5 +1,6 @@
 -- R3.8: "Decoding what encoding wrote gives the value. Encoding what was decoded from data of exactly the type's size gives the data".
 -- Assumes nothing.
+use Rattle.std.specs.Prelude.{Ok}
 use mathlib.Core.Path.{◌≡◌, refl, ap, ◌∙◌}
 use mathlib.Core.Bool.{Bool, true, false}
 use mathlib.Core.List.{List, [], ◌++◌, append-nil}
@@ -13,9 +14,7 @@ use Rattle.lists.specs.Numbers.{number, bytes_of, Bytes}
 use Rattle.lists.proofs.ListLaws.{over_read}
 use Rattle.lists.proofs.NumberLaws.{number_lt, length-bytes_of, number-bytes_of, bytes_of-number}
 use Rattle.value.specs.declared.Decoded.TheVariants.{Value}
-use Rattle.value.specs.declared.Encoded.TheVariants.{Wrote}
 use Rattle.value.specs.declared.ObjectValue.{ObjectValue}
-use Rattle.value.specs.declared.Word.TheVariants.{Takes}
 use Rattle.value.specs.Meaning.{type_of, word_of}
 use Rattle.value.specs.Range.{InRange}
 use Rattle.value.specs.Codec.{size_of, is_text, word_at, decode_of, sayable, encoding, after_encode, encode_of}
@@ -24,22 +23,22 @@ use Rattle.value.proofs.WordLaws.{type_reading, in_range-reading, word-reading, 
 
 -- ---- words
 -- bytes behind a fixed type's are ignored
-pub decode_encode_more : (t w : ℕ) (part more : List ℕ) → sayable t w part ≡ true → is_text t ≡ false → word_at t (encoding t w part ++ more) ≡ Takes w
+pub decode_encode_more : (t w : ℕ) (part more : List ℕ) → sayable t w part ≡ true → is_text t ≡ false → word_at t (encoding t w part ++ more) ≡ Ok w
 unfolding word_at
 decode_encode_more t w part more h e =
     let n : length (bytes_of (size_of t) w) ≡ size_of t = length-bytes_of (size_of t) w in
     let l : size_of t ≤ length (bytes_of (size_of t) w ++ more) = simp length-append (omega arith) in
     rw (encoding_fixed t w part e, e, le-ltb _ _ l, take_at (bytes_of (size_of t) w) more (size_of t) n, number-bytes_of (size_of t) w (said_fixed t w part h e))
 
-pub decode_encode : (t w : ℕ) (part : List ℕ) → sayable t w part ≡ true → word_at t (encoding t w part) ≡ Takes w
+pub decode_encode : (t w : ℕ) (part : List ℕ) → sayable t w part ≡ true → word_at t (encoding t w part) ≡ Ok w
 unfolding word_at
 decode_encode t w part h = go (is_text t) refl
   where
-    go : (b : Bool) → is_text t ≡ b → word_at t (encoding t w part) ≡ Takes w
+    go : (b : Bool) → is_text t ≡ b → word_at t (encoding t w part) ≡ Ok w
     go true e = rw (encoding_text t w part e, e) (said_text t w part h e)
     go false e = rw append-nil at (decode_encode_more t w part [] h e)
 
-pub encode_decode : (t w : ℕ) (s : List ℕ) → Bytes s → t ≤ 20 → word_at t s ≡ Takes w → (is_text t ≡ false → length s ≡ size_of t)
+pub encode_decode : (t w : ℕ) (s : List ℕ) → Bytes s → t ≤ 20 → word_at t s ≡ Ok w → (is_text t ≡ false → length s ≡ size_of t)
     → (sayable t w s ≡ true) × (encoding t w s ≡ s)
 encode_decode t w s b k h n = go (is_text t) refl
   where
@@ -82,7 +81,7 @@ encode_decode_value t s v b h n =
 -- ---- the two calls
 -- "Decoding what encoding wrote gives the value"
 pub decode_written : (v : ObjectValue) (part out : List ℕ) (n : ℕ) (out' : List ℕ) → InRange v
-    → encode_of (type_of v) (word_of v) part out ≡ after_encode (Wrote n) out'
+    → encode_of (type_of v) (word_of v) part out ≡ after_encode (Ok n) out'
     → decode_of (type_of v) (take n out') ≡ Value v
 decode_written v part out n out' r h =
     let w = written (type_of v) (word_of v) part out n out' h in
@@ -91,7 +90,7 @@ decode_written v part out n out' r h =
 -- "encoding what was decoded from data of exactly the type's size gives the data"
 pub encode_decoded : (t : ℕ) (s : List ℕ) (v : ObjectValue) (out : List ℕ) → Bytes s → (is_text t ≡ false → length s ≡ size_of t) → length s ≤ length out
     → decode_of t s ≡ Value v
-    → encode_of (type_of v) (word_of v) s out ≡ after_encode (Wrote (length s)) (over out 0 s)
+    → encode_of (type_of v) (word_of v) s out ≡ after_encode (Ok (length s)) (over out 0 s)
 encode_decoded t s v out b n l h =
     let e = encode_decode_value t s v b h n in
     rw e.1 at (encode_done (type_of v) (word_of v) s out e.0 (rw e.1 l))

@@ -2,9 +2,8 @@
 ghost use Rattle.std.specs.Prelude.{◌≡◌, true, false, [], ◌-◌, ◌*◌, ◌^◌, ◌≤◌};
 ghost use Rattle.value.specs.Codec.{size_of, is_text, fits_type, text_word, word_at, exactly_of, is_exact, encode_of, after_encode};
 
-use crate::{CodecFault, Encoded, Exactness, Word};
+use crate::{CodecFault, Exactness};
 use answers::Refusal;
-use text::Text;
 
 // The bytes that a fixed type has; 0 for the four types that have a room, and for no type.
 // A constant array would be built on the stack at each use. A `match` is compiled to one load where every type has an arm and no arm
@@ -61,24 +60,24 @@ pub fn fits(t: u64, word: u64) -> bool
     word & over(t) == 0
 }
 
-fn decode_text(t: u64, data: &[u8]) -> Word
+fn decode_text(t: u64, data: &[u8]) -> Result<u64, CodecFault>
     ensures { result ≡ text_word t «data».now }
 {
     if t == 11 {
         return match text::text_ok(data) {
-            Text::Good => Word::Takes(data.len() as u64),
-            Text::Bad(k) => Word::Fails(CodecFault::Text { at: k }),
+            Ok(()) => Ok(data.len() as u64),
+            Err(k) => Err(CodecFault::Text { at: k }),
         };
     }
     let odd = data.len() % 2 == 1;
     if (t == 13) & odd {
-        return Word::Fails(CodecFault::Odd);
+        return Err(CodecFault::Odd);
     }
-    Word::Takes(data.len() as u64)
+    Ok(data.len() as u64)
 }
 
 // The word of a value of type t. Bytes behind a fixed type are ignored.
-pub fn decode_word(t: u64, data: &[u8]) -> Word
+pub fn decode_word(t: u64, data: &[u8]) -> Result<u64, CodecFault>
     ensures { result ≡ word_at t «data».now }
 {
     if is_text(t) {
@@ -86,12 +85,12 @@ pub fn decode_word(t: u64, data: &[u8]) -> Word
     }
     let n = size_of(t);
     if data.len() < n {
-        return Word::Fails(CodecFault::Value {
+        return Err(CodecFault::Value {
             needed: n,
             had: data.len(),
         });
     }
-    Word::Takes(lists::number(data, 0, n))
+    Ok(lists::number(data, 0, n))
 }
 
 // Whether the data is a value of type t and nothing else, or why it is none.
@@ -101,7 +100,7 @@ pub fn exactly(t: u64, data: &[u8]) -> Exactness
     if 20 < t {
         return Exactness::NoType;
     }
-    if let Word::Fails(f) = decode_word(t, data) {
+    if let Err(f) = decode_word(t, data) {
         return Exactness::Fails(f);
     }
     if is_text(t) | (data.len() <= size_of(t)) {
@@ -113,53 +112,48 @@ pub fn exactly(t: u64, data: &[u8]) -> Exactness
 pub fn is_exact(e: Exactness) -> bool
     ensures { result ≡ is_exact e }
 {
-    match e {
-        Exactness::Value => true,
-        Exactness::NoType => false,
-        Exactness::Fails(_) => false,
-        Exactness::Many => false,
-    }
+    matches!(e, Exactness::Value)
 }
 
-fn encode_text(t: u64, word: u64, part: &[u8], out: &mut [u8]) -> Encoded
+fn encode_text(t: u64, word: u64, part: &[u8], out: &mut [u8]) -> Result<usize, Refusal>
     requires { (t ≤ 20) × (is_text t ≡ true) }
     ensures { after_encode result out.new ≡ encode_of t word part.now out.old }
 {
     let length = part.len() as u64;
     if word != length {
-        return Encoded::Refused(Refusal::BadValue);
+        return Err(Refusal::BadValue);
     }
-    let Word::Takes(_) = decode_text(t, part) else {
-        return Encoded::Refused(Refusal::BadValue);
+    let Ok(_) = decode_text(t, part) else {
+        return Err(Refusal::BadValue);
     };
     if out.len() < part.len() {
-        return Encoded::Refused(Refusal::BufferTooShort);
+        return Err(Refusal::BufferTooShort);
     }
     lists::lay(out, 0, part);
-    Encoded::Wrote(part.len())
+    Ok(part.len())
 }
 
-fn encode_fixed(t: u64, word: u64, out: &mut [u8]) -> Encoded
+fn encode_fixed(t: u64, word: u64, out: &mut [u8]) -> Result<usize, Refusal>
     requires { (t ≤ 20) × (is_text t ≡ false) }
     ensures { after_encode result out.new ≡ encode_of t word [] out.old }
 {
     if !fits(t, word) {
-        return Encoded::Refused(Refusal::BadValue);
+        return Err(Refusal::BadValue);
     }
     let n = size_of(t);
     if out.len() < n {
-        return Encoded::Refused(Refusal::BufferTooShort);
+        return Err(Refusal::BufferTooShort);
     }
     lists::put_number(out, 0, n, word);
-    Encoded::Wrote(n)
+    Ok(n)
 }
 
 // Lays the value's encoding over `out` from its start on. The part beside a fixed type is not looked at.
-pub fn encode_word(t: u64, word: u64, part: &[u8], out: &mut [u8]) -> Encoded
+pub fn encode_word(t: u64, word: u64, part: &[u8], out: &mut [u8]) -> Result<usize, Refusal>
     ensures { after_encode result out.new ≡ encode_of t word part.now out.old }
 {
     if 20 < t {
-        return Encoded::Refused(Refusal::BadValue);
+        return Err(Refusal::BadValue);
     }
     if is_text(t) {
         return encode_text(t, word, part, out);

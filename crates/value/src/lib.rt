@@ -72,13 +72,6 @@ pub enum CodecFault {
     Odd,
 }
 
-// What decoding finds. The word is the number of a fixed type's bytes, or the length of a text or of bytes.
-#[derive(Clone, Copy)]
-pub enum Word {
-    Takes(u64),
-    Fails(CodecFault),
-}
-
 // The value, why there is none, or a number that names no type.
 #[derive(Clone, Copy)]
 pub enum Decoded {
@@ -97,13 +90,7 @@ pub enum Exactness {
     Many,
 }
 
-// How many bytes were written.
-#[derive(Clone, Copy)]
-pub enum Encoded {
-    Wrote(usize),
-    Refused(Refusal),
-}
-
+// A function, and no `From`: the calls for C name it.
 pub fn refusal(f: CodecFault) -> Refusal
     ensures { result ≡ refusal_of f }
 {

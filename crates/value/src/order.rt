@@ -8,16 +8,12 @@ fn half_of(t: u64) -> u64
     requires { (1 ≤ t) × (t ≤ 4) }
     ensures { result ≡ half_of t }
 {
-    if t == 1 {
-        return 0x80;
+    match t {
+        1 => 0x80,
+        2 => 0x8000,
+        3 => 0x8000_0000,
+        _ => 0x8000_0000_0000_0000,
     }
-    if t == 2 {
-        return 0x8000;
-    }
-    if t == 3 {
-        return 0x8000_0000;
-    }
-    0x8000_0000_0000_0000
 }
 
 // Of words of an Integer type: is a no more than b? Two of the same sign lie as their bits do.

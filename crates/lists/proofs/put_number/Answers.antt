@@ -1,24 +1,19 @@
--- `lists::put_number` meets its contract. The loop's invariant: laying the rest of x from here on gives what laying x at the start does.
--- Assumes nothing.
-use mathlib.Core.Path.{◌≡◌, refl, sym, ◌∙◌}
-use native.Mathlib.Nat.{add-zero}
-use native.Mathlib.Omega.{arith}
-use Prim.Native.Nat.{◌≤◌, ◌-◌, ◌+◌}
-use lib.ListN.{length, length-set}
-use Rattle.lists.specs.Lists.{over}
+use Rattle.std.proofs.Common.{◌≡◌, ◌+◌, ◌-◌, sym, ◌∙◌, arith, length, take, drop, length-take, length-drop}
 use Rattle.lists.specs.Numbers.{bytes_of}
-use Rattle.lists.proofs.NumberLaws.{put_more, put_all}
+use Rattle.lists.proofs.ListLaws.{over_all, over_part}
+use Rattle.lists.proofs.NumberLaws.{put_more, put_all, length-bytes_of}
 use Rattle.lists.proofs.put_number.Goals as goal
 
-pub loop-j-init : goal.loop-j-init
-loop-j-init c =
-    let e : c.args.n - 0 ≡ c.args.n = omega arith in
-    (omega arith, refl, rw (add-zero, e))
-
-pub loop-j-preserved : goal.loop-j-preserved
-loop-j-preserved c =
-    let l = c.loop-j in
-    (omega arith, simp length-set l.invariant.1, sym (put_more _ _ _ _ _ (omega arith) (omega arith)) ∙ l.invariant.2)
+pub loop-b-preserved : goal.loop-b-preserved
+loop-b-preserved c =
+    let l = c.loop-b in
+    sym (put_more _ _ _ _ (omega arith) (omega arith)) ∙ l.invariant
 
 pub returns : goal.returns
-returns c = let l = c.loop-j in sym (put_all _ _ _ _ (omega arith)) ∙ l.invariant.2
+returns c =
+    let a = c.args in
+    let l = c.loop-b in
+    let n = length-bytes_of a.n a.x in
+    let m : length (take (a.at + a.n - a.at) (drop a.at a.s.now)) ≡ a.n = simp (length-take, length-drop) (omega (arith, c.requires)) in
+    let e : l.b-items ≡ bytes_of a.n a.x = sym (put_all _ _ _ _ (omega (arith, m))) ∙ l.invariant ∙ over_all _ _ (omega (arith, n, m)) in
+    rw e (over_part _ _ _ _ (omega (arith, n)))

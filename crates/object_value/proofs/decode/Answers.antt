@@ -9,10 +9,10 @@ pub returns-then-t-gt20 : goal.returns-then-t-gt20
 unfolding decode_of
 returns-then-t-gt20 c = simp (lt-ltb _ _ c.if-t-gt20.true)
 
-pub returns-in-Takes : goal.returns-in-Takes
+pub returns-in-Ok : goal.returns-in-Ok
 unfolding decode_of
-returns-in-Takes c = let k = c in simp (le-ltb _ _ k.if-t-gt20.false, sym k.decode_word.ensures ∙ c.in-Takes.is) (ap Value c.from_word.ensures)
+returns-in-Ok c = simp (le-ltb _ _ c.if-t-gt20.false, sym c.decode_word.ensures ∙ c.in-Ok.is) (ap Value c.from_word.ensures)
 
-pub returns-in-Fails : goal.returns-in-Fails
+pub returns-in-Err : goal.returns-in-Err
 unfolding decode_of
-returns-in-Fails c = let k = c in simp (le-ltb _ _ k.if-t-gt20.false, sym k.decode_word.ensures ∙ c.in-Fails.is)
+returns-in-Err c = simp (le-ltb _ _ c.if-t-gt20.false, sym c.decode_word.ensures ∙ c.in-Err.is)

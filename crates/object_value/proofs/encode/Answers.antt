@@ -4,8 +4,4 @@ use Rattle.value.specs.Codec.{encode_of}
 use Rattle.object_value.proofs.encode.Goals as goal
 
 pub returns : goal.returns
-returns c =
-    let e = c in
-    let w = e in
-    let a = w.args in
-    e.encode_word.ensures ∙ ap₂ (λ t x. encode_of t x a.part.now a.out.now) w.type_number-t.ensures w.to_word-x.ensures
+returns c = c.encode_word.ensures ∙ ap₂ (λ t x. encode_of t x c.args.part.now c.args.out.now) c.type_number-t.ensures c.to_word-x.ensures

@@ -1,11 +1,6 @@
--- `text::ascii` meets its contract: each byte that is passed is one character. Assumes nothing.
-use borrow.Author.Rules.{rules}
-use Prim.Native.Nat.{◌-◌, ◌+◌}
-use mathlib.Core.Path.{refl}
-use native.Mathlib.Omega.{arith}
-use lib.ListN.{length}
+-- each byte that was passed is one character
+use Rattle.std.proofs.Common.{◌-◌, length}
 use Rattle.text.specs.Machine.{Skipped}
-use Rattle.text.proofs.Laws.{more, skip_on}
 use Rattle.text.proofs.ascii.Given as goal
 
 abbrev pub invariant-loop-i : goal.invariant-loop-i

@@ -1,12 +1,7 @@
--- `text::blocks` meets its contract: eight bytes that are ASCII may be skipped. Assumes nothing.
-use borrow.Author.Rules.{rules}
-use Prim.Native.Nat.{◌-◌, ◌+◌}
-use native.Mathlib.Omega.{arith}
-use borrow.Author.Tests.{not-false}
+-- eight bytes that are ASCII may be skipped
+use Prim.Native.Nat.{◌-◌}
 use lib.ListN.{length}
 use Rattle.text.specs.Machine.{Skipped}
-use Rattle.text.proofs.Laws.{skip_on}
-use Rattle.text.proofs.AsciiLaws.{skip_low}
 use Rattle.text.proofs.blocks.Given as goal
 
 abbrev pub invariant-loop-i : goal.invariant-loop-i

@@ -4,6 +4,5 @@ use Rattle.text.proofs.AsciiLaws.{low_part}
 use Rattle.text.proofs.four_ascii.Goals as goal
 
 pub returns : goal.returns
-returns c = λ e k a b.
-    let i = c in
-    low_part i.args.s.now i.args.i 4 c.four.result 0x80808080 refl (λ j. (c.shared_slice_known-1.given j).fits) i.requires c.four.ensures.0 e k a b
+returns c =
+    low_part c.args.s.now c.args.i 4 c.four.result 0x80808080 refl (λ j. (c.type_inv.s j).fits) c.requires c.four.ensures.0

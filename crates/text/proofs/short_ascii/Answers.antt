@@ -1,13 +1,15 @@
 -- `text::short_ascii` meets its contract: the parts that are tested meet or overlap. Assumes nothing.
 use native.Mathlib.Omega.{arith}
-use borrow.Author.Rules.{rules}
 use Prim.Native.Nat.{◌+◌, ◌-◌}
+use mathlib.Core.Path.{sym, ◌∙◌}
 use mathlib.Core.Bool.{◌&&◌, and-eq-true_iff}
-use Rattle.text.proofs.AsciiLaws.{low_join}
+use Rattle.text.proofs.AsciiLaws.{low_join, low_within}
 use Rattle.text.proofs.short_ascii.Goals as goal
 
 pub returns-then-n-lt8 : goal.returns-then-n-lt8
-returns-then-n-lt8 c = search rules
+returns-then-n-lt8 c e =
+    let a = c.args in
+    low_within a.s.now a.start a.end (omega arith) (sym c.few_ascii.ensures ∙ e)
 
 pub returns-then-n-le16 : goal.returns-then-n-le16
 returns-then-n-le16 c = λ e k a b.

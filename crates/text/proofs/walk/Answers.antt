@@ -1,13 +1,11 @@
 -- `text::walk` meets its contract. The loop's invariant: the answer from here, in this state, is the answer from the start. Assumes nothing.
 use borrow.Author.Rules.{rules}
-use Prim.Native.Nat.{◌≤◌, ◌<◌, ◌-◌, ◌+◌}
+use Prim.Native.Nat.{◌+◌}
 use mathlib.Core.Path.{◌≡◌, refl, sym, ap, ◌∙◌}
 use mathlib.Core.List.{[]}
 use native.Mathlib.Omega.{arith}
 use native.Mathlib.Nat.{le_refl}
 use borrow.Author.Tests.{ltb-true}
-use lib.ListN.{length, drop}
-use Rattle.text.specs.Machine.{judge_at}
 use Rattle.text.specs.Tables.{asks}
 use Rattle.text.proofs.Laws.{turn, more, whole, early, reach_some, reach_none}
 use Rattle.text.proofs.walk.Goals as goal

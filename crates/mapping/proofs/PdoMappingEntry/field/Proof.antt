@@ -1,7 +1,7 @@
 -- `mapping::PdoMappingEntry::field` meets its contract: each answer is what a whole or misaligned offset and length make. Assumes nothing.
+use Rattle.std.specs.Prelude.{Some}
 use mathlib.Core.Path.{◌≡◌, refl, sym, ◌∙◌}
 use borrow.Author.Rules.{rules}
-use Rattle.mapping.specs.declared.Aligned.TheVariants.{Bytes}
 use Rattle.mapping.specs.Word.{aligned_of}
 use Rattle.mapping.proofs.WordLaws.{joined-field}
 use Rattle.mapping.proofs.PdoMappingEntry.field.Statement.{statement}
@@ -11,8 +11,8 @@ returns : tie.Need-returns-in_default
 returns c = joined-field _ (sym c.in_default.is ∙ c.byte_offset.ensures) refl
 
 -- behind the first `let`: the offset is whole
-whole-offset : (c : tie.In-Bytes) → Bytes c.in-Bytes.start ≡ aligned_of c.args.self.offset_bits
-whole-offset c = sym c.in-Bytes.is ∙ c.byte_offset.ensures
+whole-offset : (c : tie.In-Some) → Some c.in-Some.start ≡ aligned_of c.args.self.offset_bits
+whole-offset c = sym c.in-Some.is ∙ c.byte_offset.ensures
 
 returns-2 : tie.Need-returns-in_default-byte_length
 returns-2 c =
@@ -22,7 +22,7 @@ returns-2 c =
 returns-3 : tie.Need-returns
 returns-3 c =
     let k = c.before in
-    joined-field _ (whole-offset k.before) (sym c.in-Bytes-byte_length.is ∙ k.byte_length.ensures)
+    joined-field _ (whole-offset k.before) (sym c.in-Some-byte_length.is ∙ k.byte_length.ensures)
 
 pub field_spec : {M : Type 1} → statement M
 field_spec =

@@ -4,18 +4,18 @@ use mathlib.Core.Path.{sym, ◌∙◌}
 use Rattle.value.specs.Codec.{text_word}
 use Rattle.value.proofs.codec.decode_text.Goals as goal
 
-pub returns-in-Good : goal.returns-in-Good
+pub returns-in-Ok : goal.returns-in-Ok
 unfolding text_word
-returns-in-Good c =
+returns-in-Ok c =
     let k = c in
-    simp (eq-eqb _ _ k.if-t-eq11.true, sym k.text_ok.ensures ∙ c.in-Good.is)
+    simp (eq-eqb _ _ k.if-t-eq11.true, sym k.text_ok.ensures ∙ c.in-Ok.is)
 
-pub returns-in-Bad : goal.returns-in-Bad
+pub returns-in-Err : goal.returns-in-Err
 unfolding text_word
-returns-in-Bad c =
+returns-in-Err c =
     let a = c.before in
     let k = a in
-    simp (eq-eqb _ _ k.if-t-eq11.true, sym k.text_ok.ensures ∙ a.in-Bad.is)
+    simp (eq-eqb _ _ k.if-t-eq11.true, sym k.text_ok.ensures ∙ a.in-Err.is)
 
 pub returns-then-t-odd : goal.returns-then-t-odd
 unfolding text_word

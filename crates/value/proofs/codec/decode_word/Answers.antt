@@ -1,11 +1,11 @@
 -- `value::codec::decode_word` meets its contract: each branch is a case of `word_at`. Assumes nothing.
+use Rattle.std.specs.Prelude.{Ok, Err}
 use native.Mathlib.Omega.{arith}
 use borrow.Author.Tests.{lt-ltb, le-ltb}
 use mathlib.Core.Path.{sym, ap, ◌∙◌}
 use lib.ListN.{take, length}
 use Rattle.lists.specs.Numbers.{number}
 use Rattle.value.specs.declared.CodecFault.TheVariants.{Value}
-use Rattle.value.specs.declared.Word.TheVariants.{Takes, Fails}
 use Rattle.value.specs.Codec.{word_at}
 use Rattle.value.proofs.CodecLaws.{size_le}
 use Rattle.value.proofs.codec.decode_word.Goals as goal
@@ -19,7 +19,7 @@ unfolding word_at
 returns-then-data-n c =
     let k = c in
     simp (sym k.is_text.ensures ∙ k.if-is_text.false, lt-ltb _ _ (rw c.size_of-n.ensures at c.if-data-n.true))
-    (ap (λ n. Fails (Value n (length k.args.«data».now))) c.size_of-n.ensures)
+    (ap (λ n. Err (Value n (length k.args.«data».now))) c.size_of-n.ensures)
 
 pub number-requires : goal.number-requires
 number-requires c = (omega (arith, c.size_of-n.ensures, size_le c.args.t), omega arith)
@@ -29,4 +29,4 @@ unfolding word_at
 returns c =
     let k = c in
     simp (sym k.is_text.ensures ∙ k.if-is_text.false, le-ltb _ _ (rw c.size_of-n.ensures at c.if-data-n.false))
-    (ap Takes (c.number.ensures ∙ ap (λ n. number (take n k.args.«data».now)) c.size_of-n.ensures))
+    (ap Ok (c.number.ensures ∙ ap (λ n. number (take n k.args.«data».now)) c.size_of-n.ensures))

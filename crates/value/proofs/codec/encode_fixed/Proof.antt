@@ -1,4 +1,5 @@
 -- `value::codec::encode_fixed` meets its contract: each branch is a case of `encode_of`. Assumes nothing.
+use Rattle.std.specs.Prelude.{Ok}
 use native.Mathlib.Omega.{arith}
 use borrow.Author.Rules.{rules}
 use borrow.Author.Tests.{not-true, not-false}
@@ -9,7 +10,6 @@ use lib.ListN.{length}
 use Rattle.lists.specs.Numbers.{bytes_of}
 use Rattle.lists.specs.Lists.{over}
 use Rattle.lists.proofs.NumberLaws.{length-bytes_of}
-use Rattle.value.specs.declared.Encoded.TheVariants.{Wrote}
 use Rattle.value.specs.Codec.{size_of, sayable, encoding, after_encode}
 use Rattle.value.proofs.CodecLaws.{encode_bad, encode_short, encode_done, sayable_fixed, encoding_fixed}
 use Rattle.value.proofs.codec.encode_fixed.Statement.{statement}
@@ -53,7 +53,7 @@ returns-3 c =
     let o = a.args.out.now in
     let n = k.size_of-n.result in
     let e : bytes_of n w ≡ encoding t w [] = ap (λ m. bytes_of m w) k.size_of-n.ensures ∙ sym (bytes a) in
-    ap₂ (λ m l. after_encode (Wrote m) l) (sym (size k)) (p.put_number.ensures ∙ ap (over o 0) e)
+    ap₂ (λ m l. after_encode (Ok m) l) (sym (size k)) (p.put_number.ensures ∙ ap (over o 0) e)
     ∙ sym (encode_done t w [] o (fitting k.before) (omega (arith, size k)))
 
 pub encode_fixed_spec : {M : Type 1} → statement M

@@ -1,11 +1,11 @@
 -- `value::codec::encode_text` meets its contract: each branch is a case of `encode_of`. Assumes nothing.
+use Rattle.std.specs.Prelude.{Ok}
 use borrow.Author.Rules.{rules}
 use borrow.Author.Tests.{eq-eqb, ne_eqb}
 use mathlib.Core.Path.{◌≡◌, sym, ap, ap₂, ◌∙◌}
 use mathlib.Core.Bool.{true}
 use lib.ListN.{length}
 use Rattle.lists.specs.Lists.{over}
-use Rattle.value.specs.declared.Encoded.TheVariants.{Wrote}
 use Rattle.value.specs.Codec.{sayable, encoding, after_encode}
 use Rattle.value.proofs.CodecLaws.{encode_bad, encode_short, encode_done, sayable_text, encoding_text}
 use Rattle.value.proofs.codec.encode_text.Statement.{statement}
@@ -30,14 +30,14 @@ returns-2 c =
     ∙ simp (eq-eqb _ _ k.if-word-length.false, sym k.decode_text.ensures ∙ c.in_default.is)))
 
 -- the text is one of its type
-good : (c : tie.In-Takes)
+good : (c : tie.In-Ok)
     → sayable c.args.t c.args.word c.args.part.now
     ≡ true
 good c =
     let k = c in
     let a = k in
     sayable_text a.args.t a.args.word a.args.part.now a.requires.0 a.requires.1
-    ∙ simp (eq-eqb _ _ k.if-word-length.false, sym k.decode_text.ensures ∙ c.in-Takes.is)
+    ∙ simp (eq-eqb _ _ k.if-word-length.false, sym k.decode_text.ensures ∙ c.in-Ok.is)
 
 returns-3 : tie.Need-returns-then-out-part
 returns-3 c =
@@ -50,7 +50,7 @@ returns-4 c =
     let k = p.before.before in
     let a = k.before.before.before.before.before.before in
     let e = part-itself a in
-    ap₂ (λ m l. after_encode (Wrote m) l) (sym (ap length e)) (p.lay.ensures ∙ ap (over a.args.out.now 0) (sym e))
+    ap₂ (λ m l. after_encode (Ok m) l) (sym (ap length e)) (p.lay.ensures ∙ ap (over a.args.out.now 0) (sym e))
     ∙ sym (encode_done a.args.t a.args.word a.args.part.now a.args.out.now (good k.before) (rw e k.if-out-part.false))
 
 pub encode_text_spec : {M : Type 1} → statement M

@@ -11,12 +11,12 @@ pub returns-then-t-gt20 : goal.returns-then-t-gt20
 unfolding exactly_of
 returns-then-t-gt20 c = sym (rw (lt-ltb 20 _ c.if-t-gt20.true))
 
-pub returns-in-Fails : goal.returns-in-Fails
+pub returns-in-Err : goal.returns-in-Err
 unfolding exactly_of
-returns-in-Fails c =
+returns-in-Err c =
     let f = c.before in
     let d = f in
-    sym (rw (le-ltb 20 _ d.if-t-gt20.false, sym d.decode_word.ensures ∙ f.in-Fails.is))
+    sym (rw (le-ltb 20 _ d.if-t-gt20.false, sym d.decode_word.ensures ∙ f.in-Err.is))
 
 pub returns-then-is_text-data : goal.returns-then-is_text-data
 unfolding exactly_of

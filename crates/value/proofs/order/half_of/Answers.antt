@@ -4,21 +4,18 @@ use Rattle.value.specs.Codec.{size_of}
 use native.Mathlib.Omega.{arith}
 use Rattle.value.proofs.order.half_of.Goals as goal
 
-pub returns-then-t-eq1 : goal.returns-then-t-eq1
+pub returns-in-1 : goal.returns-in-1
 unfolding size_of
-returns-then-t-eq1 c = rw c.if-t-eq1.true
+returns-in-1 c = rw c.in-1.is
 
-pub returns-then-t-eq2 : goal.returns-then-t-eq2
+pub returns-in-2 : goal.returns-in-2
 unfolding size_of
-returns-then-t-eq2 c = rw c.if-t-eq2.true
+returns-in-2 c = rw c.in-2.is
 
-pub returns-then-t-eq3 : goal.returns-then-t-eq3
+pub returns-in-3 : goal.returns-in-3
 unfolding size_of
-returns-then-t-eq3 c = rw c.if-t-eq3.true
+returns-in-3 c = rw c.in-3.is
 
-pub returns : goal.returns
+pub returns-in_default : goal.returns-in_default
 unfolding size_of
-returns c =
-    let s = c in
-    let e : s.args.t ≡ 4 = omega (arith, s.requires.0, s.requires.1, c.if-t-eq1.false, c.if-t-eq2.false, c.if-t-eq3.false) in
-    rw e
+returns-in_default c = let e : c.args.t ≡ 4 = omega (arith, c.requires.0, c.requires.1) in rw e

@@ -1,8 +1,0 @@
--- `object_value::words::mac_word` meets its contract: the sum fits, since the bytes do not meet. Assumes nothing.
-use Rattle.value.specs.Meaning.{word_of}
-use borrow.Author.Rules.{rules}
-use Rattle.object_value.proofs.words.mac_word.Goals as goal
-
-pub returns : goal.returns
-unfolding word_of
-returns c = search rules
