@@ -1,10 +1,11 @@
 -- When the class of an aim is a field with its value: both ways. Assumes nothing.
+use Rattle.std.specs.Prelude.{Option, Some, None}
+use Rattle.mapping.specs.declared.Field.{Field}
+use Rattle.mapping.specs.Word.{field_at}
 use mathlib.Core.Path.{◌≡◌, refl}
 use mathlib.Core.Bool.{Bool, true, false, cond}
 use Prim.Native.Nat.{ℕ}
 use native.Mathlib.Omega.{arith}
-use Rattle.mapping.specs.declared.Field.{Field}
-use Rattle.mapping.specs.declared.Field.TheVariants as field
 use Rattle.entry.specs.declared.Place.{Place}
 use Rattle.entry.specs.declared.Place.TheVariants as place
 use Rattle.aim.specs.declared.Aim.{Aim}
@@ -13,7 +14,7 @@ use Rattle.aim.specs.Aims.{between, class_at, class_in, class_of}
 use Rattle.aim.proofs.RangeLaws.{no_server, no_client, joined_range}
 
 pub record Valued (a : Aim) (start n p : ℕ) : Type 0 where
-  pub field : a.field ≡ field.Whole start n
+  pub field : a.field ≡ field_at start n
   pub away : between 0x1200 0x12FF a.entry.index ≡ false
   pub placed : a.place ≡ place.Value p
 
@@ -28,18 +29,18 @@ class_value a start n p e = fielded a.field refl e
     x : ℕ
     x = a.entry.index
 
-    at_place : (b m : ℕ) → a.field ≡ field.Whole b m → between 0x1200 0x12FF x ≡ false → (q : Place) → a.place ≡ q → class_at b m q ≡ class.Value start n p → Valued a start n p
+    at_place : (b m : ℕ) → a.field ≡ field_at b m → between 0x1200 0x12FF x ≡ false → (q : Place) → a.place ≡ q → class_at b m q ≡ class.Value start n p → Valued a start n p
     at_place b m f w place.NoObject h e = let z : ◌≡◌ {A = ℕ} 0 1 = cc in absurd (omega arith)
     at_place b m f w place.NoSub h e = let z : ◌≡◌ {A = ℕ} 0 1 = cc in absurd (omega arith)
     at_place b m f w (place.Count k) h e = let z : ◌≡◌ {A = ℕ} 0 1 = cc in absurd (omega arith)
     at_place b m f w (place.Value q) h e = record { field = cc; away = w; placed = cc }
 
-    ranged : (b m : ℕ) → a.field ≡ field.Whole b m → (s : Bool) → between 0x1200 0x127F x ≡ s → (c : Bool) → between 0x1280 0x12FF x ≡ c
+    ranged : (b m : ℕ) → a.field ≡ field_at b m → (s : Bool) → between 0x1200 0x127F x ≡ s → (c : Bool) → between 0x1280 0x12FF x ≡ c
         → cond s (class.Server b m) (cond c (class.Client b m) (class_at b m a.place)) ≡ class.Value start n p → Valued a start n p
     ranged b m f true h c k e = let z : ◌≡◌ {A = ℕ} 0 1 = cc in absurd (omega arith)
     ranged b m f false h true k e = let z : ◌≡◌ {A = ℕ} 0 1 = cc in absurd (omega arith)
     ranged b m f false h false k e = at_place b m f (joined_range x h k) a.place refl e
 
-    fielded : (f : Field) → a.field ≡ f → class_in x a.place f ≡ class.Value start n p → Valued a start n p
-    fielded field.Misaligned f e = let z : ◌≡◌ {A = ℕ} 0 1 = cc in absurd (omega arith)
-    fielded (field.Whole b m) f e = ranged b m f (between 0x1200 0x127F x) refl (between 0x1280 0x12FF x) refl e
+    fielded : (f : Option Field) → a.field ≡ f → class_in x a.place f ≡ class.Value start n p → Valued a start n p
+    fielded None f e = let z : ◌≡◌ {A = ℕ} 0 1 = cc in absurd (omega arith)
+    fielded (Some v) f e = ranged v.start v.length f (between 0x1200 0x127F x) refl (between 0x1280 0x12FF x) refl e

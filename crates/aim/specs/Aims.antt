@@ -1,8 +1,7 @@
 -- A mapping word read against the rows, and what that makes of it: RULES.md R4, R11.5 and R12.2. Assumes nothing.
-use Rattle.std.specs.Prelude.{ℕ, Bool, cond, ◌&&◌, List, leb}
-use Rattle.mapping.specs.Word.{entry_of, field_of}
 use Rattle.mapping.specs.declared.Field.{Field}
-use Rattle.mapping.specs.declared.Field.TheVariants as field
+use Rattle.std.specs.Prelude.{ℕ, Bool, cond, ◌&&◌, List, leb, Option, Some, None}
+use Rattle.mapping.specs.Word.{entry_of, field_of}
 use Rattle.entry.specs.Find.{place_of}
 use Rattle.entry.specs.declared.Place.{Place}
 use Rattle.entry.specs.declared.Place.TheVariants as place
@@ -25,10 +24,10 @@ class_at start n (place.Count k) = class.Count start n
 class_at start n (place.Value p) = class.Value start n p
 
 -- "misaligned"; "index 1200h..127Fh: to the SDO server", "1280h..12FFh: to the SDO client"
-abbrev pub class_in : ℕ → Place → Field → Class
-class_in x q field.Misaligned = class.Misaligned
-class_in x q (field.Whole start n) =
-    cond (between 0x1200 0x127F x) (class.Server start n) (cond (between 0x1280 0x12FF x) (class.Client start n) (class_at start n q))
+abbrev pub class_in : ℕ → Place → Option Field → Class
+class_in x q None = class.Misaligned
+class_in x q (Some v) =
+    cond (between 0x1200 0x127F x) (class.Server v.start v.length) (cond (between 0x1280 0x12FF x) (class.Client v.start v.length) (class_at v.start v.length q))
 
 unfoldable pub class_of : Aim → Class
 class_of a = class_in a.entry.index a.place a.field

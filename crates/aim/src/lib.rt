@@ -12,7 +12,7 @@ use mapping::{Field, PdoMappingEntry};
 #[derive(Clone, Copy)]
 pub struct Aim {
     pub entry: PdoMappingEntry,
-    pub field: Field,
+    pub field: Option<Field>,
     pub place: Place,
 }
 
@@ -45,8 +45,7 @@ fn at_place(start: usize, len: usize, place: Place) -> Class
     ensures { result ≡ class_at start len place }
 {
     match place {
-        Place::NoObject => Class::NoTarget,
-        Place::NoSub => Class::NoTarget,
+        Place::NoObject | Place::NoSub => Class::NoTarget,
         Place::Count(_) => Class::Count { start, len },
         Place::Value(p) => Class::Value { start, len, p },
     }
@@ -55,16 +54,14 @@ fn at_place(start: usize, len: usize, place: Place) -> Class
 pub fn classify(a: Aim) -> Class
     ensures { result ≡ class_of a }
 {
-    let field = a.field;
-    let Field::Whole { start, length } = field else {
+    let Some(field) = a.field else {
         return Class::Misaligned;
     };
-    let e = a.entry;
-    let index = e.index;
-    let place = a.place;
-    match index {
-        0x1200..=0x127F => Class::Server { start, len: length },
-        0x1280..=0x12FF => Class::Client { start, len: length },
-        _ => at_place(start, length, place),
+    let start = field.start;
+    let len = field.length;
+    match a.entry.index {
+        0x1200..=0x127F => Class::Server { start, len },
+        0x1280..=0x12FF => Class::Client { start, len },
+        _ => at_place(start, len, a.place),
     }
 }

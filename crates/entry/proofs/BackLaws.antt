@@ -1,5 +1,6 @@
 -- The other way round: from a canonical layout the same objects are read back, and where they keep the rules the one pass finds it right.
 -- Assumes nothing.
+use Rattle.std.specs.Prelude.{Some}
 use mathlib.Core.Path.{◌≡◌, refl, sym, ap, ◌∙◌}
 use mathlib.Core.Bool.{true}
 use mathlib.Core.List.{List, [], ◌∷◌, ◌++◌, append_assoc}
@@ -16,8 +17,6 @@ use Rattle.entry.specs.Model.{Val, Obj, rooms, words_of, slots_of, used, size, b
 use Rattle.entry.specs.Table.{edition_of, Dict, Lies, model_of, vals_from, objs_from, values_of, used_of, type_at, start_at, room_at}
 use Rattle.entry.specs.Rules.{is_edition, extra_ok, is_good, held_ok, vals_ok, head_ok, objs_ok, Few}
 use Rattle.entry.specs.Judge.{Sound, slot_ok, slots_from, row_ok, row_fits, rows_from, reserved, header_ok, well_formed}
-use Rattle.entry.specs.declared.Sum.TheVariants as sum
-use Rattle.entry.specs.declared.Walk.TheVariants as walk
 use Rattle.entry.proofs.JudgeLaws.{and_true, held-room}
 use Rattle.entry.proofs.ModelLaws.{length-words_of, length-slots_of, length_rows, length_slots, begins, totals}
 
@@ -73,7 +72,7 @@ vals_back d (v ∷ vs) p b t =
     let h = val_there d v vs p b t in
     rw (h.type, h.word, h.start, h.size, h.room, vals_back d vs (suc p) (b + length v.room) h.rest)
 
-slots_right : (d : Dict) (n : ℕ) (vs : List Val) (p b : ℕ) {x y z : List ℕ} → ValsThere d vs p b x y z → vals_ok n vs ≡ true → b + length (rooms vs) ≤ used_of d.objects → slots_from d n (length vs) p b ≡ sum.Upto (b + length (rooms vs))
+slots_right : (d : Dict) (n : ℕ) (vs : List Val) (p b : ℕ) {x y z : List ℕ} → ValsThere d vs p b x y z → vals_ok n vs ≡ true → b + length (rooms vs) ≤ used_of d.objects → slots_from d n (length vs) p b ≡ Some (b + length (rooms vs))
 unfolding slots_from vals_ok slot_ok rooms
 slots_right d n [] p b t g l = rw add-zero
 slots_right d n (v ∷ vs) p b t g l =
@@ -176,7 +175,7 @@ objs_back d (o ∷ os) i v b low t g =
 
 rows_right : (d : Dict) (os : List Obj) (i v b low : ℕ) {w x y z : List ℕ} → ObjsThere d os i v b w x y z → objs_ok low os ≡ true
     → v + length (all_words os) ≤ values_of d.objects → b + length (all_bytes os) ≤ used_of d.objects
-    → rows_from d (length os) i v b low ≡ walk.Whole (v + length (all_words os)) (b + length (all_bytes os))
+    → rows_from d (length os) i v b low ≡ Some (v + length (all_words os), b + length (all_bytes os))
 unfolding rows_from row_ok row_fits all_words all_bytes
 rows_right d [] i v b low t g m n = rw (add-zero, add-zero)
 rows_right d (o ∷ os) i v b low t g m n =

@@ -1,5 +1,6 @@
 -- Rows that name the same objects are well-formed together, where what each has beside these keeps the rules.
 -- Assumes nothing.
+use Rattle.std.specs.Prelude.{Option, Some, None}
 use Prim.Native.Nat.{ℕ, zero, suc, ◌+◌, ◌-◌, ◌<◌, ◌≤◌}
 use mathlib.Core.Path.{◌≡◌, refl, ◌∙◌}
 use mathlib.Core.Bool.{Bool, true, false, cond, ◌&&◌}
@@ -7,10 +8,6 @@ use mathlib.Core.List.{List}
 use native.Mathlib.Omega.{arith}
 use lib.Dec.{eqb, leb}
 use lib.ListN.{length}
-use Rattle.entry.specs.declared.Sum.{Sum}
-use Rattle.entry.specs.declared.Sum.TheVariants as sum
-use Rattle.entry.specs.declared.Walk.{Walk}
-use Rattle.entry.specs.declared.Walk.TheVariants as walk
 use Rattle.entry.specs.Table.{Dict, dict, number_of, values_of, used_of, row_place, slot_place, index_at, kind_at, access_at, count_at, first_at, name_at, name_len_at, default_at, extra_at}
 use Rattle.entry.specs.Rules.{head_ok, extra_ok}
 use Rattle.entry.specs.Judge.{slot_ok, slots_from, used_at, row_ok, row_fits, and_then, rows_from, reserved, header_ok, whole_at, well_formed}
@@ -69,22 +66,22 @@ module _ (d : Dict) (b : List ℕ) (h : Beside d.objects b) where
   slots_beside n zero p y = refl
   slots_beside n (suc k) p y = rw (slot_beside n p y) (rw (slots_beside (n - 1) k (suc p) _) refl)
 
-  abbrev behind : Dict → ℕ → ℕ → ℕ → ℕ → Walk
+  abbrev behind : Dict → ℕ → ℕ → ℕ → ℕ → Option (ℕ × ℕ)
   behind x k i v m = rows_from x k (suc i) (v + used_at a i) m (index_at a i + 1)
 
-  abbrev slots_at : ℕ → ℕ → ℕ → Sum
+  abbrev slots_at : ℕ → ℕ → ℕ → Option ℕ
   slots_at i v y = slots_from d (count_at a i) (used_at a i) v (y + name_len_at a i)
 
-  row_again : (k i v y low v' y' : ℕ) → i < number_of a → ((m : ℕ) → behind d k i v m ≡ walk.Whole v' y' → behind e k i v m ≡ walk.Whole v' y')
-      → rows_from d (suc k) i v y low ≡ walk.Whole v' y' → rows_from e (suc k) i v y low ≡ walk.Whole v' y'
+  row_again : (k i v y low v' y' : ℕ) → i < number_of a → ((m : ℕ) → behind d k i v m ≡ Some (v', y') → behind e k i v m ≡ Some (v', y'))
+      → rows_from d (suc k) i v y low ≡ Some (v', y') → rows_from e (suc k) i v y low ≡ Some (v', y')
   unfolding rows_from
   row_again k i v y low v' y' l again q = row (row_ok a i v y low) refl q
     where
-      onward : (u : Sum) → and_then u (behind d k i v) ≡ walk.Whole v' y' → and_then u (behind e k i v) ≡ walk.Whole v' y'
-      onward (sum.Upto m) q = again m q
-      onward sum.Bad q = q
+      onward : (u : Option ℕ) → and_then u (behind d k i v) ≡ Some (v', y') → and_then u (behind e k i v) ≡ Some (v', y')
+      onward (Some m) q = again m q
+      onward None q = q
 
-      fits : (p : Bool) → row_fits a d.bytes i v y ≡ p → row_ok a i v y low ≡ true → cond p (and_then (slots_at i v y) (behind d k i v)) walk.Broken ≡ walk.Whole v' y' → rows_from e (suc k) i v y low ≡ walk.Whole v' y'
+      fits : (p : Bool) → row_fits a d.bytes i v y ≡ p → row_ok a i v y low ≡ true → cond p (and_then (slots_at i v y) (behind d k i v)) None ≡ Some (v', y') → rows_from e (suc k) i v y low ≡ Some (v', y')
       fits true f r q =
           let s = h.rows in
           rw (row_beside i v y low l r)
@@ -95,11 +92,11 @@ module _ (d : Dict) (b : List ℕ) (h : Beside d.objects b) where
           (rw (index_same s i) (rw (slots_beside (count_at a i) (used_at a i) v (y + name_len_at a i)) (onward (slots_at i v y) q)))))))
       fits false f r q = let z : ◌≡◌ {A = ℕ} 0 1 = cc in absurd (omega arith)
 
-      row : (p : Bool) → row_ok a i v y low ≡ p → cond p (cond (row_fits a d.bytes i v y) (and_then (slots_at i v y) (behind d k i v)) walk.Broken) walk.Broken ≡ walk.Whole v' y' → rows_from e (suc k) i v y low ≡ walk.Whole v' y'
+      row : (p : Bool) → row_ok a i v y low ≡ p → cond p (cond (row_fits a d.bytes i v y) (and_then (slots_at i v y) (behind d k i v)) None) None ≡ Some (v', y') → rows_from e (suc k) i v y low ≡ Some (v', y')
       row true r q = fits (row_fits a d.bytes i v y) refl r q
       row false r q = let z : ◌≡◌ {A = ℕ} 0 1 = cc in absurd (omega arith)
 
-  rows_beside : (k i v y low v' y' : ℕ) → i + k ≤ number_of a → rows_from d k i v y low ≡ walk.Whole v' y' → rows_from e k i v y low ≡ walk.Whole v' y'
+  rows_beside : (k i v y low v' y' : ℕ) → i + k ≤ number_of a → rows_from d k i v y low ≡ Some (v', y') → rows_from e k i v y low ≡ Some (v', y')
   unfolding rows_from
   rows_beside zero i v y low v' y' l q = q
   rows_beside (suc k) i v y low v' y' l q =
@@ -124,9 +121,9 @@ module _ (d : Dict) (b : List ℕ) (h : Beside d.objects b) where
   unfolding well_formed
   beside_well_formed q = go (header_ok d) refl q
     where
-      whole : (w : Walk) → rows_from d (number_of a) 0 0 0 0 ≡ w → whole_at (values_of a) (used_of a) w ≡ true → whole_at (values_of a) (used_of a) (rows_from e (number_of a) 0 0 0 0) ≡ true
-      whole (walk.Whole v y) f q = rw (rows_beside (number_of a) 0 0 0 0 v y (omega arith) f) q
-      whole walk.Broken f q = let z : ◌≡◌ {A = ℕ} 0 1 = cc in absurd (omega arith)
+      whole : (w : Option (ℕ × ℕ)) → rows_from d (number_of a) 0 0 0 0 ≡ w → whole_at (values_of a) (used_of a) w ≡ true → whole_at (values_of a) (used_of a) (rows_from e (number_of a) 0 0 0 0) ≡ true
+      whole (Some n) f q = rw (rows_beside (number_of a) 0 0 0 0 n.0 n.1 (omega arith) f) q
+      whole None f q = let z : ◌≡◌ {A = ℕ} 0 1 = cc in absurd (omega arith)
 
       go : (p : Bool) → header_ok d ≡ p → cond p (whole_at (values_of a) (used_of a) (rows_from d (number_of a) 0 0 0 0)) false ≡ true → well_formed e ≡ true
       go true f q =

@@ -1,5 +1,6 @@
 -- A stored value's encoding: decoding it gives the value back, and putting it changes nothing.
 -- Assumes nothing.
+use Rattle.std.specs.Prelude.{Ok}
 use mathlib.Core.Path.{◌≡◌, refl, sym, ap, ◌∙◌}
 use mathlib.Core.Bool.{Bool, true, false}
 use mathlib.Core.List.{List}
@@ -15,7 +16,6 @@ use Rattle.value.specs.Codec.{is_text, size_of, word_at, decode_of, sayable, exa
 use Rattle.value.specs.Meaning.{reading, type_of, word_of}
 use Rattle.value.specs.declared.ObjectValue.{ObjectValue}
 use Rattle.value.specs.declared.Decoded.TheVariants.{Value}
-use Rattle.value.specs.declared.Word.TheVariants.{Takes}
 use Rattle.value.proofs.CodecLaws.{sayable_text, sayable_fixed, encoding_text, encoding_fixed, exact_text, exact_fixed}
 use Rattle.value.proofs.WordLaws.{type_reading, word-reading}
 use Rattle.value.proofs.RoundTrip.{decode_encode}
@@ -72,7 +72,7 @@ module _ (d : Dict) (e : well_formed d ≡ true) (p : ℕ) (h : p < values_of d.
       go false x = sayable_fixed t w part f.type x ∙ f.fixed x
 
   -- decoding gives the type and the word back
-  pub decode_stored : word_at t (encoding_at d p) ≡ Takes w
+  pub decode_stored : word_at t (encoding_at d p) ≡ Ok w
   decode_stored = decode_encode t w part said
 
   -- the encoding is a value and nothing else

@@ -1,5 +1,6 @@
 -- What a well-formed dictionary says of each of its rows and of each of its values.
 -- Assumes nothing.
+use Rattle.std.specs.Prelude.{Some}
 use mathlib.Core.Path.{◌≡◌}
 use mathlib.Core.Bool.{true}
 use Prim.Native.Nat.{ℕ, zero, suc, ◌+◌, ◌-◌, ◌<◌, ◌≤◌}
@@ -10,8 +11,6 @@ use Rattle.text.specs.Machine.{judge}
 use Rattle.entry.specs.Table.{Dict, extra_at, number_of, values_of, used_of, index_at, kind_at, access_at, count_at, first_at, name_at, name_len_at, default_at, type_at, start_at, room_at}
 use Rattle.entry.specs.Rules.{extra_ok, is_good, held_ok, head_ok}
 use Rattle.entry.specs.Judge.{slot_ok, slots_from, used_at, row_ok, row_fits, rows_from, header_ok, well_formed}
-use Rattle.entry.specs.declared.Sum.TheVariants as sum
-use Rattle.entry.specs.declared.Walk.TheVariants as walk
 use Rattle.entry.proofs.JudgeLaws.{RowOk, RowFits, by_judge, by_slot, by_row, slot_ok_lem, row_ok_lem, row_fits_lem}
 use Rattle.entry.proofs.WalkLaws.{slots_upto}
 
@@ -20,7 +19,7 @@ pub record SlotFacts (d : Dict) (n p : ℕ) : Type 0 where
   pub within : start_at d.slots p + room_at d.slots p ≤ used_of d.objects
   pub held : held_ok n (type_at d.slots p) (get_or d.words p 0) (room_at d.slots p) (drop (start_at d.slots p) d.bytes) ≡ true
 
-slots_each : (d : Dict) (n k p b e : ℕ) → b ≤ used_of d.objects → slots_from d n k p b ≡ sum.Upto e → (j : ℕ) → j < k → SlotFacts d (n - j) (p + j)
+slots_each : (d : Dict) (n k p b e : ℕ) → b ≤ used_of d.objects → slots_from d n k p b ≡ Some e → (j : ℕ) → j < k → SlotFacts d (n - j) (p + j)
 unfolding slots_from
 slots_each d n zero p b e h q j l = absurd (omega arith)
 slots_each d n (suc k) p b e h q zero l =
@@ -44,7 +43,7 @@ pub record RowFacts (d : Dict) (i : ℕ) : Type 0 where
   pub text : is_good (judge (take (name_len_at d.objects i) (drop (name_at d.objects i) d.bytes))) ≡ true
   pub slot : (j : ℕ) → j < used_at d.objects i → SlotFacts d (count_at d.objects i - j) (first_at d.objects i + j)
 
-rows_each : (d : Dict) (k i v b low v' b' : ℕ) → v ≤ values_of d.objects → b ≤ used_of d.objects → rows_from d k i v b low ≡ walk.Whole v' b' → (j : ℕ) → j < k → RowFacts d (i + j)
+rows_each : (d : Dict) (k i v b low v' b' : ℕ) → v ≤ values_of d.objects → b ≤ used_of d.objects → rows_from d k i v b low ≡ Some (v', b') → (j : ℕ) → j < k → RowFacts d (i + j)
 unfolding rows_from
 rows_each d zero i v b low v' b' hv hb q j l = absurd (omega arith)
 rows_each d (suc k) i v b low v' b' hv hb q j l =

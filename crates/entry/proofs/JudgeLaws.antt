@@ -1,6 +1,8 @@
 -- What the one pass finds right is a dictionary in canonical layout whose objects keep the rules.
 -- Assumes nothing.
-use mathlib.Core.Path.{◌≡◌, refl, sym, ap, ◌∙◌, subst}
+use Rattle.std.specs.Prelude.{Option, Some, None}
+use Rattle.std.proofs.lemmas.Option.{some_pair_parts}
+use mathlib.Core.Path.{ap₂, ◌≡◌, refl, sym, ap, ◌∙◌, subst}
 use mathlib.Core.Bool.{Bool, true, false, cond, not, ◌&&◌, ◌||◌}
 use mathlib.Core.List.{List, [], ◌∷◌, ◌++◌, append_assoc}
 use Prim.Native.Nat.{ℕ, zero, suc, ◌+◌, ◌-◌, ◌*◌, ◌<◌, ◌≤◌}
@@ -17,10 +19,6 @@ use Rattle.value.specs.Codec.{is_text, fits_type, takes, text_word, word_at}
 use Rattle.entry.specs.Table.{extra_at, edition_of, Dict, model_of, vals_from, obj_at, objs_from, number_of, values_of, used_of, index_at, kind_at, access_at, count_at, first_at, name_at, name_len_at, default_at, type_at, start_at, room_at}
 use Rattle.entry.specs.Rules.{is_edition, extra_ok, is_good, word_ok, val_ok, held_ok, vals_ok, head_ok, obj_ok, objs_ok}
 use Rattle.entry.specs.Judge.{Sound, slot_ok, slots_from, used_at, row_ok, row_fits, and_then, rows_from, reserved, header_ok, whole_at, well_formed}
-use Rattle.entry.specs.declared.Sum.{Sum}
-use Rattle.entry.specs.declared.Sum.TheVariants as sum
-use Rattle.entry.specs.declared.Walk.{Walk}
-use Rattle.entry.specs.declared.Walk.TheVariants as walk
 
 -- ---- tests
 ff : false ≡ true → ⊥
@@ -96,11 +94,11 @@ slot_ok_lem d n p b h e =
     let l : room_at d.slots p ≤ used_of d.objects - b = leb-true _ _ y.0 in
     record { start = eqb-true _ _ x.0; within = omega arith; val = y.1 }
 
-pub by_slot : (a : Bool) (x : Sum) {e : ℕ} → cond a x sum.Bad ≡ sum.Upto e → (a ≡ true) × (x ≡ sum.Upto e)
+pub by_slot : (a : Bool) (x : Option ℕ) {e : ℕ} → cond a x None ≡ Some e → (a ≡ true) × (x ≡ Some e)
 by_slot true x q = (refl, q)
 by_slot false x q = let z : ◌≡◌ {A = ℕ} 0 1 = cc in absurd (omega arith)
 
-pub slots_lie : (d : Dict) (n k p b e : ℕ) → b ≤ used_of d.objects → used_of d.objects ≤ length d.bytes → 3 * (p + k) ≤ length d.slots → p + k ≤ length d.words → slots_from d n k p b ≡ sum.Upto e → SlotsLie d n k p b e
+pub slots_lie : (d : Dict) (n k p b e : ℕ) → b ≤ used_of d.objects → used_of d.objects ≤ length d.bytes → 3 * (p + k) ≤ length d.slots → p + k ≤ length d.words → slots_from d n k p b ≡ Some e → SlotsLie d n k p b e
 unfolding slots_from vals_from slots_of words_of rooms vals_ok
 slots_lie d n zero p b e h u s w q =
     let l : b ≡ e = cc in
@@ -158,9 +156,9 @@ row_fits_lem d i v b h k e =
     let m : name_len_at d.objects i ≤ used_of d.objects - b = leb-true _ _ y.0 in
     record { values = omega arith; bytes = omega arith; text = y.1 }
 
-pub by_row : (a e : Bool) (s : Sum) (f : ℕ → Walk) (v b : ℕ) → cond a (cond e (and_then s f) walk.Broken) walk.Broken ≡ walk.Whole v b → (n : ℕ) × (a ≡ true) × (e ≡ true) × (s ≡ sum.Upto n) × (f n ≡ walk.Whole v b)
-by_row true true (sum.Upto n) f v b q = (n, refl, refl, refl, q)
-by_row true true sum.Bad f v b q = let z : ◌≡◌ {A = ℕ} 0 1 = cc in absurd (omega arith)
+pub by_row : (a e : Bool) (s : Option ℕ) (f : ℕ → Option (ℕ × ℕ)) (v b : ℕ) → cond a (cond e (and_then s f) None) None ≡ Some (v, b) → (n : ℕ) × (a ≡ true) × (e ≡ true) × (s ≡ Some n) × (f n ≡ Some (v, b))
+by_row true true (Some n) f v b q = (n, refl, refl, refl, q)
+by_row true true None f v b q = let z : ◌≡◌ {A = ℕ} 0 1 = cc in absurd (omega arith)
 by_row true false s f v b q = let z : ◌≡◌ {A = ℕ} 0 1 = cc in absurd (omega arith)
 by_row false e s f v b q = let z : ◌≡◌ {A = ℕ} 0 1 = cc in absurd (omega arith)
 
@@ -209,11 +207,10 @@ obj_lies d i v b low e h g r f s =
 
 pub rows_lie : (d : Dict) (k i v b low v' b' : ℕ) → v ≤ values_of d.objects → b ≤ used_of d.objects
     → used_of d.objects ≤ length d.bytes → 3 * values_of d.objects ≤ length d.slots → values_of d.objects ≤ length d.words → 12 * (i + k) + 12 ≤ length d.objects
-    → rows_from d k i v b low ≡ walk.Whole v' b' → RowsLie d k i v b low v' b'
+    → rows_from d k i v b low ≡ Some (v', b') → RowsLie d k i v b low v' b'
 unfolding rows_from objs_from rows_of all_slots all_words all_bytes objs_ok
 rows_lie d zero i v b low v' b' hv hb hu hs hw ho q =
-    let x : v ≡ v' = cc in
-    let y : b ≡ b' = cc in
+    let (x, y) = some_pair_parts v v' b b' q in
     record { values = omega arith; bytes_low = omega arith; rows = rw add-zero; slots = rw x; words = rw x; bytes = rw y; good = refl }
 rows_lie d (suc k) i v b low v' b' hv hb hu hs hw ho q =
     let u = used_at d.objects i in
@@ -301,11 +298,11 @@ header_is s n m b h p q r e =
     let c11 : get_or s 11 0 ≡ 0 = eqb-true (get_or s 11 0) 0 x₇.1 in
     header_cells s h ∙ rw (p, q, r, c4, c5, c6, c7, c8, c9, c10, c11)
 
-pub by_judge : (a : Bool) (v b : ℕ) (w : Walk) → cond a (whole_at v b w) false ≡ true → (a ≡ true) × (w ≡ walk.Whole v b)
-by_judge true v b (walk.Whole x y) q =
-    let e = and_true (eqb x v) (eqb y b) q in
-    (refl, cc (eqb-true x v e.0, eqb-true y b e.1))
-by_judge true v b walk.Broken q = absurd (ff q)
+pub by_judge : (a : Bool) (v b : ℕ) (w : Option (ℕ × ℕ)) → cond a (whole_at v b w) false ≡ true → (a ≡ true) × (w ≡ Some (v, b))
+by_judge true v b (Some n) q =
+    let e = and_true (eqb n.0 v) (eqb n.1 b) q in
+    (refl, ap₂ (λ (x y : ℕ). Some (x, y)) (eqb-true n.0 v e.0) (eqb-true n.1 b e.1))
+by_judge true v b None q = absurd (ff q)
 by_judge false v b w q = absurd (ff q)
 
 -- ---- what is found right is sound

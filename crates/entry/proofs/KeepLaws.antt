@@ -1,5 +1,6 @@
 -- Putting an encoded value that its type takes, and that its room holds, keeps a dictionary well-formed.
 -- Assumes nothing.
+use Rattle.std.specs.Prelude.{Ok}
 use mathlib.Core.Path.{◌≡◌, refl, sym, ap, ◌∙◌, subst}
 use mathlib.Core.Bool.{Bool, true, false}
 use mathlib.Core.List.{List, ◌++◌}
@@ -14,7 +15,6 @@ use Rattle.lists.specs.Numbers.{number, Bytes}
 use Rattle.lists.proofs.ListLaws.{length_over, over-over, over-same, over-behind}
 use Rattle.lists.proofs.NumberLaws.{number_lt, bytes_take}
 use Rattle.value.specs.Codec.{is_text, size_of, takes, text_word, word_at}
-use Rattle.value.specs.declared.Word.TheVariants.{Takes}
 use Rattle.value.proofs.CodecLaws.{text_taken, word_fixed}
 use Rattle.entry.specs.Table.{Dict, dict, number_of, count_at, first_at, type_at, start_at, room_at}
 use Rattle.entry.specs.Rules.{word_ok, val_ok}
@@ -25,21 +25,21 @@ use Rattle.entry.proofs.ValueLaws.{Element, ValueFacts, value_facts}
 
 -- ---- what a type takes
 -- of a text or bytes its length
-pub takes_text : (t : ℕ) (s : List ℕ) (w : ℕ) → is_text t ≡ true → word_at t s ≡ Takes w → (w ≡ length s) × (takes (text_word t s) ≡ true)
+pub takes_text : (t : ℕ) (s : List ℕ) (w : ℕ) → is_text t ≡ true → word_at t s ≡ Ok w → (w ≡ length s) × (takes (text_word t s) ≡ true)
 unfolding word_at
 takes_text t s w e h =
-    let a : text_word t s ≡ Takes w = rw e at h in
+    let a : text_word t s ≡ Ok w = rw e at h in
     let b : takes (text_word t s) ≡ true = ap takes a in
-    let c : text_word t s ≡ Takes (length s) = text_taken t s b in
+    let c : text_word t s ≡ Ok (length s) = text_taken t s b in
     (cc, b)
 
 -- else the number of its first bytes, of which there are as many as the type has
-pub takes_fixed : (t : ℕ) (s : List ℕ) (w : ℕ) → is_text t ≡ false → word_at t s ≡ Takes w → (size_of t ≤ length s) × (w ≡ number (take (size_of t) s))
+pub takes_fixed : (t : ℕ) (s : List ℕ) (w : ℕ) → is_text t ≡ false → word_at t s ≡ Ok w → (size_of t ≤ length s) × (w ≡ number (take (size_of t) s))
 takes_fixed t s w e h = word_fixed t w s h e
 
 -- ---- what a value's type and room hold
 pub record Fits (d : Dict) (p : ℕ) (s : List ℕ) (w : ℕ) : Type 0 where
-  pub taken : word_at (type_at d.slots p) s ≡ Takes w
+  pub taken : word_at (type_at d.slots p) s ≡ Ok w
   pub room : is_text (type_at d.slots p) ≡ true → length s ≤ room_at d.slots p
 
 -- that's all a put asks for
@@ -56,7 +56,7 @@ puts_of d p s w f g =
 -- ---- the same of a value of another type
 pub record FitsAs (d : Dict) (p t : ℕ) (s : List ℕ) (w : ℕ) : Type 0 where
   pub known : t ≤ 20
-  pub taken : word_at t s ≡ Takes w
+  pub taken : word_at t s ≡ Ok w
   pub room : is_text t ≡ true → length s ≤ room_at d.slots p
 
 -- the slot with its new type
@@ -157,7 +157,7 @@ new_data d i k t s e hi hk b w g =
 
 -- and of the type that it has
 pub put_data : (d : Dict) (i k : ℕ) (s : List ℕ) → well_formed d ≡ true → i < number_of d.objects → k < count_at d.objects i → Bytes s → (w : ℕ)
-    → word_at (type_at d.slots (first_at d.objects i + k)) s ≡ Takes w → (is_text (type_at d.slots (first_at d.objects i + k)) ≡ true → length s ≤ room_at d.slots (first_at d.objects i + k))
+    → word_at (type_at d.slots (first_at d.objects i + k)) s ≡ Ok w → (is_text (type_at d.slots (first_at d.objects i + k)) ≡ true → length s ≤ room_at d.slots (first_at d.objects i + k))
     → well_formed (put_at d (first_at d.objects i + k) s) ≡ true
 put_data d i k s e hi hk b w t r =
     let p = first_at d.objects i + k in

@@ -1,5 +1,6 @@
 -- Looking up in the table is looking up in the model: the first object with an index, and its values by sub-index.
 -- Assumes nothing.
+use Rattle.std.specs.Prelude.{Option, Some, None}
 use mathlib.Core.Path.{◌≡◌, refl, sym, ap, ◌∙◌}
 use mathlib.Core.Bool.{Bool, true, false, cond}
 use Prim.Native.Nat.{ℕ, ◌+◌, ◌-◌, ◌<◌, ◌≤◌}
@@ -11,8 +12,6 @@ use Rattle.entry.specs.Table.{Dict, edition_of, list_count, model_of, obj_at, nu
 use Rattle.entry.specs.Rules.{count}
 use Rattle.entry.specs.Judge.{used_at, well_formed}
 use Rattle.entry.specs.Find.{find_row, sub_at, on_row, place_of, object_of, object_in, nth, no_sub, counts, held_as, sub_of, on_object, named_of, named_at}
-use Rattle.entry.specs.declared.Found.{Found}
-use Rattle.entry.specs.declared.Found.TheVariants.{At, Nothing}
 use Rattle.entry.specs.declared.Place.TheVariants.{NoSub, Count, Value}
 use Rattle.entry.proofs.JudgeLaws.{head_ok_lem, length_vals}
 use Rattle.entry.proofs.FactLaws.{row_facts}
@@ -44,9 +43,9 @@ lookup_value d e x sub = go (find_row d.objects x) refl ∙ ap (on_object (editi
         sym (there i (sub - 1) (omega arith))
     at n i h false false false a b c = refl
 
-    go : (f : Found) → find_row d.objects x ≡ f → named_at d (on_row d.objects sub f) ≡ on_object (edition_of d.objects) sub (object_in d f)
-    go (At i) q =
+    go : (f : Option ℕ) → find_row d.objects x ≡ f → named_at d (on_row d.objects sub f) ≡ on_object (edition_of d.objects) sub (object_in d f)
+    go (Some i) q =
         let r = found_row d.objects x (number_of d.objects) 0 i q in
         let c : count (obj_at d i) ≡ count_at d.objects i = omega (arith, length_vals d (used_at d.objects i) (first_at d.objects i)) in
         rw c (at (list_count d.objects i) i (omega (arith, r.below)) (eqb (kind_at d.objects i) 0) (eqb sub 0) (leb sub (count_at d.objects i)) refl refl refl)
-    go Nothing q = refl
+    go None q = refl

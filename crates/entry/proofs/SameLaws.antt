@@ -1,5 +1,6 @@
 -- What is looked up in rows that name the same objects is the same, but for a list's count.
 -- Assumes nothing.
+use Rattle.std.specs.Prelude.{Option, Some, None}
 use Prim.Native.Nat.{ℕ, zero, suc, ◌+◌, ◌-◌}
 use mathlib.Core.Path.{◌≡◌, refl, ap, ◌∙◌}
 use mathlib.Core.Bool.{Bool, true, false, cond}
@@ -9,8 +10,6 @@ use lib.Dec.{eqb, leb}
 use Rattle.entry.specs.Table.{number_of, index_at, kind_at, access_at, count_at, first_at, name_at, name_len_at, default_at, list_count}
 use Rattle.entry.specs.Find.{find_from, find_row, sub_at, on_row, place_of}
 use Rattle.entry.specs.Same.{SameRows, uncounted}
-use Rattle.entry.specs.declared.Found.{Found}
-use Rattle.entry.specs.declared.Found.TheVariants.{At, Nothing}
 use Rattle.entry.specs.declared.Place.TheVariants.{NoSub, Count, Value}
 
 pub index_same : {a b : List ℕ} → SameRows a b → (i : ℕ) → index_at a i ≡ index_at b i
@@ -58,9 +57,9 @@ sub-uncounted {a} {b} h i sub =
     go false false true = refl
     go false false false = refl
 
-on_uncounted : {a b : List ℕ} → SameRows a b → (sub : ℕ) (f : Found) → uncounted (on_row a sub f) ≡ uncounted (on_row b sub f)
-on_uncounted h sub (At i) = sub-uncounted h i sub
-on_uncounted h sub Nothing = refl
+on_uncounted : {a b : List ℕ} → SameRows a b → (sub : ℕ) (f : Option ℕ) → uncounted (on_row a sub f) ≡ uncounted (on_row b sub f)
+on_uncounted h sub (Some i) = sub-uncounted h i sub
+on_uncounted h sub None = refl
 
 pub place-uncounted : {a b : List ℕ} → SameRows a b → (x sub : ℕ) → uncounted (place_of a x sub) ≡ uncounted (place_of b x sub)
 place-uncounted {a} {b} h x sub = on_uncounted h sub (find_row a x) ∙ ap (λ f. uncounted (on_row b sub f)) (row_same h x)

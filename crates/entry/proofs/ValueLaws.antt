@@ -1,11 +1,11 @@
 -- From a lookup to facts: what `find` and `locate` need holds of a well-formed dictionary, and the place that they answer is an element
 -- of which the judgement has said all that reading and putting need.
 -- Assumes nothing.
+use Rattle.std.specs.Prelude.{Option, Some, None}
 use mathlib.Core.Path.{◌≡◌, refl, sym, ap, ◌∙◌, subst}
 use mathlib.Core.Bool.{Bool, true, false, cond, ◌&&◌, ◌||◌}
 use mathlib.Core.Logic.{◌⊎◌, inl, inr, ◌≢◌}
 use mathlib.Core.List.{List}
-use mathlib.Core.Option.{some}
 use Prim.Native.Nat.{ℕ, ◌+◌, ◌-◌, ◌*◌, ◌<◌, ◌≤◌}
 use native.Mathlib.Omega.{arith}
 use native.Mathlib.Decide.{dec_lt}
@@ -18,8 +18,6 @@ use Rattle.entry.specs.Table.{list_count, is_mapping, edition_of, kept_at, Dict,
 use Rattle.entry.specs.Rules.{extra_ok, word_ok, val_ok, tight, held_ok}
 use Rattle.entry.specs.Judge.{used_at, well_formed}
 use Rattle.entry.specs.Find.{Rows, Elements, find_row, sub_at, on_row, place_of, object_of, object_in, nth}
-use Rattle.entry.specs.declared.Found.{Found}
-use Rattle.entry.specs.declared.Found.TheVariants.{At, Nothing}
 use Rattle.entry.specs.declared.Place.TheVariants.{NoSub, Count, Value}
 use Rattle.entry.proofs.JudgeLaws.{and_true, head_ok_lem, headed}
 use Rattle.entry.proofs.FactLaws.{row_facts}
@@ -53,7 +51,7 @@ row_lies d e i h =
     let a = headed d e in
     record { below = h; small = omega (arith, a.few); inside = omega (arith, a.rows); few = (head_ok_lem _ _ _ _ _ _ (row_facts d e i h).head).count_small }
 
-pub found_lies : (d : Dict) → well_formed d ≡ true → (x i : ℕ) → find_row d.objects x ≡ At i → RowLies d i
+pub found_lies : (d : Dict) → well_formed d ≡ true → (x i : ℕ) → find_row d.objects x ≡ Some i → RowLies d i
 found_lies d e x i q = row_lies d e i (omega (arith, (found_row d.objects x (number_of d.objects) 0 i q).below))
 
 -- the first n of its elements
@@ -77,7 +75,7 @@ pub record Element (d : Dict) (x sub p : ℕ) : Type 0 where
   pub inside : k < count_at d.objects row
   pub place : p ≡ first_at d.objects row + k
   pub index : index_at d.objects row ≡ x
-  pub found : find_row d.objects x ≡ At row
+  pub found : find_row d.objects x ≡ Some row
   -- a Variable's value has sub-index 0, a list's element k has k + 1
   pub variable : kind_at d.objects row ≡ 0 → (sub ≡ 0) × (k ≡ 0)
   pub list : (kind_at d.objects row ≡ 0 → ⊥) → sub ≡ k + 1
@@ -93,7 +91,7 @@ pub element_of_lem : (d : Dict) → well_formed d ≡ true → (x sub p : ℕ) �
 unfolding sub_at
 element_of_lem d e x sub p q = go (find_row d.objects x) refl q
   where
-    at : (i : ℕ) → find_row d.objects x ≡ At i
+    at : (i : ℕ) → find_row d.objects x ≡ Some i
         → ((eqb (kind_at d.objects i) 0 ≡ true) × (eqb sub 0 ≡ true) × (first_at d.objects i ≡ p))
         ⊎ ((eqb (kind_at d.objects i) 0 ≡ false) × (eqb sub 0 ≡ false) × (leb sub (count_at d.objects i) ≡ true) × (first_at d.objects i + (sub - 1) ≡ p))
         → Element d x sub p
@@ -111,10 +109,10 @@ element_of_lem d e x sub p q = go (find_row d.objects x) refl q
         let l : sub ≤ count_at d.objects i = leb-true sub (count_at d.objects i) h.2 in
         record { row = i; k = sub - 1; below = omega (arith, r.below); inside = omega arith; place = omega (arith, h.3); index = r.index; found = f; variable = λ z. absurd (kind z); list = λ n. omega arith }
 
-    go : (f : Found) → find_row d.objects x ≡ f → on_row d.objects sub f ≡ Value p → Element d x sub p
-    go (At i) f h =
+    go : (f : Option ℕ) → find_row d.objects x ≡ f → on_row d.objects sub f ≡ Value p → Element d x sub p
+    go (Some i) f h =
         at i f (by_sub (eqb (kind_at d.objects i) 0) (eqb sub 0) (leb sub (count_at d.objects i)) (first_at d.objects i) (list_count d.objects i) (first_at d.objects i + (sub - 1)) h)
-    go Nothing f h = let z : ◌≡◌ {A = ℕ} 0 1 = cc in absurd (omega arith)
+    go None f h = let z : ◌≡◌ {A = ℕ} 0 1 = cc in absurd (omega arith)
 
 -- no two indices and sub-indices name the same value
 pub element_one : (d : Dict) → well_formed d ≡ true → {x y a b p : ℕ} → Element d x a p → Element d y b p → (x ≡ y) × (a ≡ b)
@@ -148,14 +146,14 @@ elements_apart d e {x} {y} {a} {b} {p} {q} o u n r =
 
 -- ---- and in the model: value k of the object with that index
 module _ (d : Dict) {x sub p : ℕ} (e : Element d x sub p) where
-  pub names_object : object_of x (model_of d) ≡ some (obj_at d e.row)
+  pub names_object : object_of x (model_of d) ≡ Some (obj_at d e.row)
   names_object = found d x (number_of d.objects) 0 ∙ ap (object_in d) e.found
 
-  pub names_value : nth (obj_at d e.row).values e.k ≡ some (val_at d p)
+  pub names_value : nth (obj_at d e.row).values e.k ≡ Some (val_at d p)
   names_value =
-      value_there d (used_at d.objects e.row) (first_at d.objects e.row) e.k (omega (arith, e.inside)) ∙ ap (λ n. some (val_at d n)) (sym e.place)
+      value_there d (used_at d.objects e.row) (first_at d.objects e.row) e.k (omega (arith, e.inside)) ∙ ap (λ n. Some (val_at d n)) (sym e.place)
 
-  pub names : (o : Obj) → object_of x (model_of d) ≡ some o → nth o.values e.k ≡ some (val_at d p)
+  pub names : (o : Obj) → object_of x (model_of d) ≡ Some o → nth o.values e.k ≡ Some (val_at d p)
   names o q =
       let s : obj_at d e.row ≡ o = cc names_object in
       ap (λ a. nth a.values e.k) (sym s) ∙ names_value
@@ -228,7 +226,7 @@ pub element_facts : (d : Dict) → well_formed d ≡ true → {x sub p : ℕ} �
 element_facts d e o =
     rw o.place (value_facts d e o.row o.k o.below (omega (arith, o.inside)))
 
-pub value_lies : (d : Dict) → well_formed d ≡ true → (x sub i p : ℕ) → find_row d.objects x ≡ At i → sub_at d.objects i sub ≡ Value p → ValueFacts d p
+pub value_lies : (d : Dict) → well_formed d ≡ true → (x sub i p : ℕ) → find_row d.objects x ≡ Some i → sub_at d.objects i sub ≡ Value p → ValueFacts d p
 value_lies d w x sub i p e q = element_facts d w (element_of_lem d w x sub p (ap (on_row d.objects sub) e ∙ q))
 
 -- every value is one of a row's

@@ -1,5 +1,6 @@
 -- The judge's walks, one turn at a time, and its header test.
 -- Assumes nothing.
+use Rattle.std.specs.Prelude.{Some, None}
 use mathlib.Core.Path.{◌≡◌, refl}
 use mathlib.Core.Bool.{Bool, true, false, cond, ◌&&◌}
 use Prim.Native.Nat.{ℕ, zero, suc, ◌+◌, ◌-◌, ◌*◌, ◌<◌, ◌≤◌}
@@ -9,8 +10,6 @@ use lib.Dec.{leb}
 use lib.ListN.{length}
 use Rattle.entry.specs.Table.{Dict, number_of, values_of, used_of, index_at, count_at, name_len_at, room_at}
 use Rattle.entry.specs.Judge.{slot_ok, slots_from, used_at, row_ok, row_fits, and_then, rows_from, reserved, header_ok}
-use Rattle.entry.specs.declared.Sum.TheVariants as sum
-use Rattle.entry.specs.declared.Walk.TheVariants as walk
 use Rattle.entry.proofs.JudgeLaws.{slot_ok_lem, by_slot}
 
 pub and_unit : (a : Bool) → (a && true) ≡ a
@@ -22,19 +21,19 @@ and_false true = refl
 and_false false = refl
 
 -- ---- one turn of the walk over the rows
-pub rows_step : (d : Dict) (n i v b low : ℕ) → i < n → rows_from d (n - i) i v b low ≡ cond (row_ok d.objects i v b low) (cond (row_fits d.objects d.bytes i v b) (and_then (slots_from d (count_at d.objects i) (used_at d.objects i) v (b + name_len_at d.objects i)) (λ e. rows_from d (n - (i + 1)) (i + 1) (v + used_at d.objects i) e (index_at d.objects i + 1))) walk.Broken) walk.Broken
+pub rows_step : (d : Dict) (n i v b low : ℕ) → i < n → rows_from d (n - i) i v b low ≡ cond (row_ok d.objects i v b low) (cond (row_fits d.objects d.bytes i v b) (and_then (slots_from d (count_at d.objects i) (used_at d.objects i) v (b + name_len_at d.objects i)) (λ e. rows_from d (n - (i + 1)) (i + 1) (v + used_at d.objects i) e (index_at d.objects i + 1))) None) None
 unfolding rows_from
 rows_step d n i v b low h =
     let e : n - i ≡ suc (n - (i + 1)) = omega arith in
     let q : i + 1 ≡ suc i = omega arith in
     rw (e, q)
 
-pub rows_end : (d : Dict) (k i v b low : ℕ) → k ≡ 0 → rows_from d k i v b low ≡ walk.Whole v b
+pub rows_end : (d : Dict) (k i v b low : ℕ) → k ≡ 0 → rows_from d k i v b low ≡ Some (v, b)
 unfolding rows_from
 rows_end d k i v b low e = rw e
 
 -- where a walk over slots ends
-pub slots_upto : (d : Dict) (n k p b e : ℕ) → b ≤ used_of d.objects → slots_from d n k p b ≡ sum.Upto e → e ≤ used_of d.objects
+pub slots_upto : (d : Dict) (n k p b e : ℕ) → b ≤ used_of d.objects → slots_from d n k p b ≡ Some e → e ≤ used_of d.objects
 unfolding slots_from
 slots_upto d n zero p b e h q = let l : b ≡ e = cc in omega arith
 slots_upto d n (suc k) p b e h q =

@@ -1,22 +1,19 @@
 -- Looking an object and a value up: in the table, and in the model.
 -- Assumes nothing.
-use Rattle.std.specs.Prelude.{ℕ, zero, suc, ◌+◌, ◌-◌, ◌≤◌, ◌<◌, cond, List, [], ◌∷◌, eqb, leb, ltb, length}
-use Rattle.std.proofs.Math.Option.{Option, none, some}
+use Rattle.std.specs.Prelude.{ℕ, zero, suc, ◌+◌, ◌-◌, ◌≤◌, ◌<◌, cond, List, [], ◌∷◌, eqb, leb, ltb, length, Option, Some, None}
 use Rattle.entry.specs.Model.{Val, Obj}
 use Rattle.entry.specs.Table.{Dict, number_of, row_place, slot_place, index_at, kind_at, count_at, in_use, list_count, first_at, val_at, obj_at}
 use Rattle.entry.specs.Rules.{count}
-use Rattle.entry.specs.declared.Found.{Found}
-use Rattle.entry.specs.declared.Found.TheVariants.{At, Nothing}
 use Rattle.entry.specs.declared.Place.{Place}
 use Rattle.entry.specs.declared.Place.TheVariants.{NoObject, NoSub, Count, Value}
 
 -- the first of the k rows from row i on that has index x
-unfoldable pub find_from : List ℕ → ℕ → ℕ → ℕ → Found
-find_from objects x zero i = Nothing
-find_from objects x (suc k) i = cond (eqb (index_at objects i) x) (At i) (find_from objects x k (suc i))
+unfoldable pub find_from : List ℕ → ℕ → ℕ → ℕ → Option ℕ
+find_from objects x zero i = None
+find_from objects x (suc k) i = cond (eqb (index_at objects i) x) (Some i) (find_from objects x k (suc i))
 
 -- the row of index x
-abbrev pub find_row : List ℕ → ℕ → Found
+abbrev pub find_row : List ℕ → ℕ → Option ℕ
 find_row objects x = find_from objects x (number_of objects) 0
 
 -- R7.2: "A Variable has sub-index 0 only. A list's sub-index 0 reads as U8 how many of its elements are in use, an empty list's too; k
@@ -29,9 +26,9 @@ sub_at objects i sub =
     (Count (list_count objects i))
     (cond (leb sub (count_at objects i)) (Value (first_at objects i + (sub - 1))) NoSub))
 
-abbrev pub on_row : List ℕ → ℕ → Found → Place
-on_row objects sub (At i) = sub_at objects i sub
-on_row objects sub Nothing = NoObject
+abbrev pub on_row : List ℕ → ℕ → Option ℕ → Place
+on_row objects sub (Some i) = sub_at objects i sub
+on_row objects sub None = NoObject
 
 -- what an index and a sub-index name
 abbrev pub place_of : List ℕ → ℕ → ℕ → Place
@@ -40,18 +37,18 @@ place_of objects x sub = on_row objects sub (find_row objects x)
 -- ---- in the model
 -- the object with index x
 unfoldable pub object_of : ℕ → List Obj → Option Obj
-object_of x [] = none
-object_of x (o ∷ os) = cond (eqb o.index x) (some o) (object_of x os)
+object_of x [] = None
+object_of x (o ∷ os) = cond (eqb o.index x) (Some o) (object_of x os)
 
 -- what stands in a row
-abbrev pub object_in : Dict → Found → Option Obj
-object_in d (At i) = some (obj_at d i)
-object_in d Nothing = none
+abbrev pub object_in : Dict → Option ℕ → Option Obj
+object_in d (Some i) = Some (obj_at d i)
+object_in d None = None
 
 -- value j of an object
 unfoldable pub nth : List Val → ℕ → Option Val
-nth [] j = none
-nth (x ∷ xs) zero = some x
+nth [] j = None
+nth (x ∷ xs) zero = Some x
 nth (x ∷ xs) (suc j) = nth xs j
 
 -- what an index and a sub-index name
@@ -62,8 +59,8 @@ pub data Named : Type 0 where
   holds : Val → Named
 
 abbrev pub held_as : Option Val → Named
-held_as (some v) = holds v
-held_as none = no_sub
+held_as (Some v) = holds v
+held_as None = no_sub
 
 -- how many elements of a list are in use, in an edition
 abbrev pub used_elements : ℕ → Obj → ℕ
@@ -79,8 +76,8 @@ sub_of edition o sub =
     (cond (leb sub (count o)) (held_as (nth o.values (sub - 1))) no_sub))
 
 abbrev pub on_object : ℕ → ℕ → Option Obj → Named
-on_object edition sub (some o) = sub_of edition o sub
-on_object edition sub none = no-object
+on_object edition sub (Some o) = sub_of edition o sub
+on_object edition sub None = no-object
 
 abbrev pub named_of : ℕ → ℕ → ℕ → List Obj → Named
 named_of edition x sub os = on_object edition sub (object_of x os)
@@ -106,8 +103,8 @@ pub record Lower (objects : List ℕ) (x r : ℕ) : Type 0 where
   pub behind : (i : ℕ) → r ≤ i → i < number_of objects → x ≤ index_at objects i
 
 -- what is found where halving ends at row r: that row, if it has the index
-abbrev pub halved : List ℕ → ℕ → ℕ → Found
-halved objects x r = cond (ltb r (number_of objects)) (cond (eqb (index_at objects r) x) (At r) Nothing) Nothing
+abbrev pub halved : List ℕ → ℕ → ℕ → Option ℕ
+halved objects x r = cond (ltb r (number_of objects)) (cond (eqb (index_at objects r) x) (Some r) None) None
 
 -- ---- what walking over some elements needs, of which the first lies at slot `first`
 pub record Elements (slots words : List ℕ) (count first : ℕ) : Type 0 where

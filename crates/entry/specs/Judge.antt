@@ -1,13 +1,9 @@
 -- Whether four lent slices are a dictionary: one pass, with running totals. `Sound` says what that means.
 -- Assumes nothing.
-use Rattle.std.specs.Prelude.{ℕ, zero, suc, ◌+◌, ◌-◌, ◌≤◌, ◌≡◌, Bool, true, false, cond, ◌&&◌, List, length, take, drop, get_or, eqb, leb}
+use Rattle.std.specs.Prelude.{ℕ, zero, suc, ◌+◌, ◌-◌, ◌≤◌, ◌≡◌, Bool, true, false, cond, ◌&&◌, List, length, take, drop, get_or, eqb, leb, Option, Some, None}
 use Rattle.text.specs.Machine.{judge}
 use Rattle.entry.specs.Table.{Dict, edition_of, Lies, model_of, number_of, values_of, used_of, row_place, slot_place, index_at, kind_at, access_at, count_at, first_at, name_at, name_len_at, default_at, extra_at, type_at, start_at, room_at}
 use Rattle.entry.specs.Rules.{is_good, held_ok, head_ok, extra_ok, objs_ok, Few, is_edition}
-use Rattle.entry.specs.declared.Sum.{Sum}
-use Rattle.entry.specs.declared.Sum.TheVariants as sum
-use Rattle.entry.specs.declared.Walk.{Walk}
-use Rattle.entry.specs.declared.Walk.TheVariants as walk
 
 -- what it means: the memory begins with the layout of the objects that it holds, and these keep the rules
 pub record Sound (d : Dict) : Type 0 where
@@ -22,9 +18,9 @@ slot_ok d n p b =
     eqb (start_at d.slots p) b && (leb (room_at d.slots p) (used_of d.objects - b) && held_ok n (type_at d.slots p) (get_or d.words p 0) (room_at d.slots p) (drop b d.bytes))
 
 -- the bytes that lie before the room behind k slots from slot p on, of which n are elements
-unfoldable pub slots_from : Dict → ℕ → ℕ → ℕ → ℕ → Sum
-slots_from d n zero p b = sum.Upto b
-slots_from d n (suc k) p b = cond (slot_ok d n p b) (slots_from d (n - 1) k (suc p) (b + room_at d.slots p)) sum.Bad
+unfoldable pub slots_from : Dict → ℕ → ℕ → ℕ → ℕ → Option ℕ
+slots_from d n zero p b = Some b
+slots_from d n (suc k) p b = cond (slot_ok d n p b) (slots_from d (n - 1) k (suc p) (b + room_at d.slots p)) None
 
 abbrev pub used_at : List ℕ → ℕ → ℕ
 used_at objects i = count_at objects i + default_at objects i
@@ -41,19 +37,19 @@ unfoldable pub row_fits : List ℕ → List ℕ → ℕ → ℕ → ℕ → Bool
 row_fits objects bytes i v b =
     leb (used_at objects i) (values_of objects - v) && (leb (name_len_at objects i) (used_of objects - b) && is_good (judge (take (name_len_at objects i) (drop b bytes))))
 
-abbrev pub and_then : Sum → (ℕ → Walk) → Walk
-and_then (sum.Upto b) k = k b
-and_then sum.Bad k = walk.Broken
+abbrev pub and_then : Option ℕ → (ℕ → Option (ℕ × ℕ)) → Option (ℕ × ℕ)
+and_then (Some b) k = k b
+and_then None k = None
 
 -- the values and bytes behind k rows from row i on
-unfoldable pub rows_from : Dict → ℕ → ℕ → ℕ → ℕ → ℕ → Walk
-rows_from d zero i v b low = walk.Whole v b
+unfoldable pub rows_from : Dict → ℕ → ℕ → ℕ → ℕ → ℕ → Option (ℕ × ℕ)
+rows_from d zero i v b low = Some (v, b)
 rows_from d (suc k) i v b low =
     cond (row_ok d.objects i v b low)
     (cond (row_fits d.objects d.bytes i v b)
     (and_then (slots_from d (count_at d.objects i) (used_at d.objects i) v (b + name_len_at d.objects i)) (λ e. rows_from d k (suc i) (v + used_at d.objects i) e (index_at d.objects i + 1)))
-    walk.Broken)
-    walk.Broken
+    None)
+    None
 
 -- the rest of the header: the edition, and zeros
 unfoldable pub reserved : List ℕ → Bool
@@ -68,9 +64,9 @@ header_ok d =
     && (leb (used_of d.objects) 32768 && (leb (used_of d.objects) (length d.bytes)
     && reserved d.objects))))))
 
-abbrev pub whole_at : ℕ → ℕ → Walk → Bool
-whole_at v b (walk.Whole v' b') = eqb v' v && eqb b' b
-whole_at v b walk.Broken = false
+abbrev pub whole_at : ℕ → ℕ → Option (ℕ × ℕ) → Bool
+whole_at v b (Some n) = eqb n.0 v && eqb n.1 b
+whole_at v b None = false
 
 unfoldable pub well_formed : Dict → Bool
 well_formed d = cond (header_ok d) (whole_at (values_of d.objects) (used_of d.objects) (rows_from d (number_of d.objects) 0 0 0 0)) false

@@ -1,17 +1,15 @@
 -- The rules that values and objects keep, in a dictionary and in what an insertion is given: RULES.md 5.
 -- Assumes nothing.
-use Rattle.std.specs.Prelude.{ℕ, ◌+◌, ◌-◌, ◌≤◌, Bool, true, false, cond, not, ◌&&◌, ◌||◌, List, [], ◌∷◌, length, take, eqb, leb, ltb}
+use Rattle.std.specs.Prelude.{ℕ, ◌+◌, ◌-◌, ◌≤◌, Bool, true, false, cond, not, ◌&&◌, ◌||◌, List, [], ◌∷◌, length, take, eqb, leb, ltb, Result, Ok, Err}
 use Rattle.text.specs.Machine.{judge}
-use Rattle.text.specs.declared.Text.{Text}
-use Rattle.text.specs.declared.Text.TheVariants.{Good, Bad}
 use Rattle.value.specs.Codec.{is_text, fits_type, takes, text_word}
 use Rattle.value.specs.Order.{ordered}
 use Rattle.entry.specs.declared.Extra.{Extra}
 use Rattle.entry.specs.Model.{Val, Obj, used, all_words, all_bytes}
 
-abbrev pub is_good : Text → Bool
-is_good Good = true
-is_good (Bad k) = false
+abbrev pub is_good : Result (Unit {0}) ℕ → Bool
+is_good (Ok _) = true
+is_good (Err k) = false
 
 -- a word w of type t in a room of r bytes that begins with s: a text or bytes within the room, good over their current length; else a number
 -- of the type's size

@@ -1,4 +1,5 @@
-// The columns of the lent dictionary. Only rows.rt beside it knows too where a number stands.
+// The columns of the lent dictionary, each read by its name. The crate `rows` knows too where a number stands, and `judge` where one of
+// the header does. A body is one index: a function with the column's number as a parameter would have nothing to share.
 ghost use Rattle.std.specs.Prelude.{◌≡◌, ◌≤◌, ◌<◌, length};
 ghost use Rattle.entry.specs.Table.{number_of, values_of, used_of, edition_of, row_place, row_end, slot_place, slot_end, index_at, kind_at, access_at, count_at, is_mapping, list_count, first_at, name_at, name_len_at, default_at, extra_at, type_at, start_at, room_at};
 

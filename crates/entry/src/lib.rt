@@ -15,13 +15,6 @@ pub use encoding::lay_encoding;
 pub use lookup::{find, locate, lower, sub_at};
 pub use put::{put_new, put_value};
 
-// A row, or none.
-#[derive(Clone, Copy)]
-pub enum Found {
-    At(usize),
-    Nothing,
-}
-
 // What an index and a sub-index name: the count of a list's elements, or a value.
 #[derive(Clone, Copy)]
 pub enum Place {
@@ -38,18 +31,4 @@ pub struct Extra {
     pub ranged: u64,
     pub low: u64,
     pub high: u64,
-}
-
-// How far the rooms of some slots reach.
-#[derive(Clone, Copy)]
-pub enum Sum {
-    Upto(usize),
-    Bad,
-}
-
-// The values and bytes of all rows.
-#[derive(Clone, Copy)]
-pub enum Walk {
-    Whole(usize, usize),
-    Broken,
 }

@@ -1,5 +1,6 @@
 -- What is judged of the given object from left to right is what `right_in` says of it, and what follows for the act.
 -- Assumes nothing.
+use Rattle.std.specs.Prelude.{Option, Some, None, Ok, Err}
 use mathlib.Core.Path.{◌≡◌, refl, sym, ap, ◌∙◌, subst}
 use mathlib.Core.Bool.{Bool, true, false, cond, ◌&&◌, ◌||◌}
 use mathlib.Core.List.{List, []}
@@ -16,7 +17,6 @@ use Rattle.lists.specs.Numbers.{number, Bytes}
 use Rattle.lists.proofs.NumberLaws.{number_lt}
 use Rattle.value.specs.Codec.{size_of, is_text, fits_type, takes, text_word, word_at, exact}
 use Rattle.value.specs.declared.CodecFault.TheVariants.{Value}
-use Rattle.value.specs.declared.Word.TheVariants.{Takes, Fails}
 use Rattle.value.proofs.CodecLaws.{size_le, text_taken, exact_none, exact_text, exact_fixed}
 use Rattle.entry.specs.Model.{Val, used, size}
 use Rattle.entry.specs.Rules.{is_good, word_ok, val_ok, tight, held_ok, vals_ok, head_ok, range_ok, extra_ok, obj_ok}
@@ -24,8 +24,6 @@ use Rattle.entry.proofs.JudgeLaws.{and_true, head_ok_lem}
 use Rattle.entry.proofs.WalkLaws.{and_unit}
 use Rattle.given.specs.Given.{type_in, room_in, length_in, word_in, held, room_of, val_in, given, rooms_in, lengths_in, count_in, obj_in, sized, sized_in, range_in, right_in, size_in, value_ok, vals_in, Values}
 use Rattle.given.specs.declared.Head.{Head}
-use Rattle.given.specs.declared.Size.{Size}
-use Rattle.given.specs.declared.Size.TheVariants as sz
 use Rattle.given.proofs.GivenLaws.{length-room_of, room_of_is, given-length, size_is}
 
 -- ---- one value
@@ -98,14 +96,14 @@ unfolding value_ok
 value-sized e t r s x q = rw x at (and_true (sized t (length s)) _ q).0
 
 -- ---- the walk
-pub vals_step : (vals encodings : List ℕ) (c u j t g : ℕ) → j < u → vals_in vals encodings c (u - j) j t g ≡ cond (leb (length_in vals j) (length encodings - t) && value_ok (ltb j c) (type_in vals j) (room_in vals j) (take (length_in vals j) (drop t encodings))) (vals_in vals encodings c (u - (j + 1)) (j + 1) (t + length_in vals j) (g + room_in vals j)) sz.Bad
+pub vals_step : (vals encodings : List ℕ) (c u j t g : ℕ) → j < u → vals_in vals encodings c (u - j) j t g ≡ cond (leb (length_in vals j) (length encodings - t) && value_ok (ltb j c) (type_in vals j) (room_in vals j) (take (length_in vals j) (drop t encodings))) (vals_in vals encodings c (u - (j + 1)) (j + 1) (t + length_in vals j) (g + room_in vals j)) None
 unfolding vals_in
 vals_step vals encodings c u j t g h =
     let e : u - j ≡ suc (u - (j + 1)) = omega arith in
     let q : j + 1 ≡ suc j = omega arith in
     rw (e, q)
 
-pub vals_end : (vals encodings : List ℕ) (c k j t g : ℕ) → k ≡ 0 → vals_in vals encodings c k j t g ≡ cond (eqb t (length encodings)) (sz.Upto g) sz.Bad
+pub vals_end : (vals encodings : List ℕ) (c k j t g : ℕ) → k ≡ 0 → vals_in vals encodings c k j t g ≡ cond (eqb t (length encodings)) (Some g) None
 unfolding vals_in
 vals_end vals encodings c k j t g e = rw e
 
@@ -124,7 +122,7 @@ left_some c j = go (dec_lt j c)
     go (yes h) = rw (lt-ltb j c h, lt-ltb 0 (c - j) (omega arith))
     go (no h) = let l : c ≤ j = omega arith in let z : c - j ≤ 0 = omega arith in rw (le-ltb j c l, le-ltb 0 (c - j) z)
 
-turn : (x a b s w o : Bool) (p q : Size) → (x ≡ false → a ≡ false) → p ≡ cond (a && (b && o)) q sz.Bad → cond (x && (s && w)) p sz.Bad ≡ cond (a && ((s && b) && (w && o))) q sz.Bad
+turn : (x a b s w o : Bool) (p q : Option ℕ) → (x ≡ false → a ≡ false) → p ≡ cond (a && (b && o)) q None → cond (x && (s && w)) p None ≡ cond (a && ((s && b) && (w && o))) q None
 turn true a b true true o p q h e = e
 turn true true true true false o p q h e = refl
 turn true true false true false o p q h e = refl
@@ -137,7 +135,7 @@ value-held : (c j n t r : ℕ) (s : List ℕ) → length s ≡ n → value_ok (l
 unfolding value_ok held_ok
 value-held c j n t r s e = rw (length-room_of r (held t s), left_some c j, e)
 
-pub vals_right : (vals encodings : List ℕ) (c k j t g : ℕ) → vals_in vals encodings c k j t g ≡ cond (eqb (t + lengths_in vals k j) (length encodings) && (sized_in vals k j && vals_ok (c - j) (given vals encodings k j t))) (sz.Upto (g + rooms_in vals k j)) sz.Bad
+pub vals_right : (vals encodings : List ℕ) (c k j t g : ℕ) → vals_in vals encodings c k j t g ≡ cond (eqb (t + lengths_in vals k j) (length encodings) && (sized_in vals k j && vals_ok (c - j) (given vals encodings k j t))) (Some (g + rooms_in vals k j)) None
 unfolding vals_in lengths_in sized_in given vals_ok rooms_in
 vals_right vals encodings c zero j t g = rw (add-zero t, add-zero g, and_unit (eqb t (length encodings)))
 vals_right vals encodings c (suc k) j t g =
@@ -166,14 +164,14 @@ vals_right vals encodings c (suc k) j t g =
     o : Bool
     o = vals_ok ((c - j) - 1) (given vals encodings k (suc j) (t + n))
 
-    q : Size
-    q = sz.Upto (g + (room_in vals j + rooms_in vals k (suc j)))
+    q : Option ℕ
+    q = Some (g + (room_in vals j + rooms_in vals k (suc j)))
 
-    p : Size
+    p : Option ℕ
     p = vals_in vals encodings c k (suc j) (t + n) (g + room_in vals j)
 
-    go : p ≡ cond (a && (b && o)) q sz.Bad → Dec (n ≤ length encodings - t)
-        → cond (leb n (length encodings - t) && value_ok (ltb j c) (type_in vals j) (room_in vals j) s) p sz.Bad ≡ cond (a && ((sized (type_in vals j) n && b) && (held_ok (c - j) x.type x.word (length x.room) x.room && o))) q sz.Bad
+    go : p ≡ cond (a && (b && o)) q None → Dec (n ≤ length encodings - t)
+        → cond (leb n (length encodings - t) && value_ok (ltb j c) (type_in vals j) (room_in vals j) s) p None ≡ cond (a && ((sized (type_in vals j) n && b) && (held_ok (c - j) x.type x.word (length x.room) x.room && o))) q None
     go ih (yes h) =
         let l : length s ≡ n = length-take-le n (drop t encodings) (rw length-drop (omega arith)) in
         rw (value-held c j n (type_in vals j) (room_in vals j) s l)
@@ -189,12 +187,12 @@ none true false = refl
 none false b = refl
 
 -- m the words add up, a and b the encodings, y the range's types agree, h the head, f the default, n the name, x the range, v the values
-judged : (m a b y h f n x v : Bool) (p q : Size) → p ≡ cond (a && (b && v)) q sz.Bad
-    → cond (m && (a && (b && (y && (h && (f && (n && (x && v)))))))) q sz.Bad ≡ cond m (cond f (cond h (cond n (cond (y && x) p sz.Bad) sz.Bad) sz.Bad) sz.Bad) sz.Bad
+judged : (m a b y h f n x v : Bool) (p q : Option ℕ) → p ≡ cond (a && (b && v)) q None
+    → cond (m && (a && (b && (y && (h && (f && (n && (x && v)))))))) q None ≡ cond m (cond f (cond h (cond n (cond (y && x) p None) None) None) None) None
 judged false a b y h f n x v p q e = refl
 judged true a b false h f n x v p q e = rw (none a b) (bad h f n)
   where
-    bad : (h f n : Bool) → sz.Bad ≡ cond f (cond h (cond n sz.Bad sz.Bad) sz.Bad) sz.Bad
+    bad : (h f n : Bool) → ◌≡◌ {A = Option ℕ} None (cond f (cond h (cond n None None) None) None)
     bad h false n = refl
     bad false true n = refl
     bad true true false = refl
@@ -207,7 +205,7 @@ judged true a b true true true true false v p q e = rw (none a b)
 judged true a b true true true true true v p q e = sym e
 
 pub size_judged : (h : Head) (name vals encodings : List ℕ) → let u = count_in vals in
-    size_in h name vals encodings ≡ cond (eqb (3 * u) (length vals)) (cond (leb h.default u) (cond (head_ok h.index h.kind h.access (u - h.default) h.default (length name)) (cond (is_good (judge name)) (cond (range_in h) (vals_in vals encodings (u - h.default) u 0 0 (length name)) sz.Bad) sz.Bad) sz.Bad) sz.Bad) sz.Bad
+    size_in h name vals encodings ≡ cond (eqb (3 * u) (length vals)) (cond (leb h.default u) (cond (head_ok h.index h.kind h.access (u - h.default) h.default (length name)) (cond (is_good (judge name)) (cond (range_in h) (vals_in vals encodings (u - h.default) u 0 0 (length name)) None) None) None) None) None
 unfolding right_in extra_ok
 size_judged h name vals encodings =
     let u = count_in vals in
@@ -215,7 +213,7 @@ size_judged h name vals encodings =
     let z : c - 0 ≡ c = omega arith in
     let i = rw (zero-add (lengths_in vals u 0), z) at (vals_right vals encodings c u 0 0 (length name)) in
     rw (size_is h name vals encodings, given-length vals encodings u 0 0, le-leb c c (omega arith))
-    (judged (eqb (3 * u) (length vals)) (eqb (lengths_in vals u 0) (length encodings)) (sized_in vals u 0) (eqb h.low_type h.high_type) (head_ok h.index h.kind h.access c h.default (length name)) (leb h.default u) (is_good (judge name)) (range_ok h.low_type h.low h.high) (vals_ok c (given vals encodings u 0 0)) (vals_in vals encodings c u 0 0 (length name)) (sz.Upto (length name + rooms_in vals u 0)) i)
+    (judged (eqb (3 * u) (length vals)) (eqb (lengths_in vals u 0) (length encodings)) (sized_in vals u 0) (eqb h.low_type h.high_type) (head_ok h.index h.kind h.access c h.default (length name)) (leb h.default u) (is_good (judge name)) (range_ok h.low_type h.low h.high) (vals_ok c (given vals encodings u 0 0)) (vals_in vals encodings c u 0 0 (length name)) (Some (length name + rooms_in vals u 0)) i)
 
 -- ---- what the act needs
 record Fit (t r n : ℕ) : Type 0 where
@@ -297,11 +295,11 @@ right h name vals encodings e =
     }
 
 -- ---- the theorem on values: the word that is stored is what decoding the encoding gives
-pub decodes : (e : Bool) (t r : ℕ) (s : List ℕ) → value_ok e t r s ≡ true → word_at t s ≡ Takes (word_in t s)
+pub decodes : (e : Bool) (t r : ℕ) (s : List ℕ) → value_ok e t r s ≡ true → word_at t s ≡ Ok (word_in t s)
 unfolding word_at
 decodes e t r s q = go (is_text t) refl
   where
-    go : (x : Bool) → is_text t ≡ x → cond (is_text t) (text_word t s) (cond (ltb (length s) (size_of t)) (Fails (Value (size_of t) (length s))) (Takes (number (take (size_of t) s)))) ≡ Takes (word_in t s)
+    go : (x : Bool) → is_text t ≡ x → cond (is_text t) (text_word t s) (cond (ltb (length s) (size_of t)) (Err (Value (size_of t) (length s))) (Ok (number (take (size_of t) s)))) ≡ Ok (word_in t s)
     go true x =
         let a = and_true (leb (length s) r && takes (text_word t s)) _ (sym (value_text e t r s x (value_room e t r s q)) ∙ q) in
         rw x (text_taken t s (and_true (leb (length s) r) _ a.0).1)

@@ -1,15 +1,13 @@
 -- What an insertion is given, and when it is no object: RULES.md 6, R6.1 and R6.3.
 -- Three words a value: its type, the size of its room, the byte count of its encoding. All encodings lie back to back.
 -- Assumes nothing.
-use Rattle.std.specs.Prelude.{ℕ, zero, suc, ◌+◌, ◌-◌, ◌*◌, ◌/◌, ◌≤◌, ◌<◌, ◌≡◌, Bool, true, false, cond, ◌&&◌, ◌||◌, List, [], ◌∷◌, ◌++◌, length, take, drop, get_or, replicate, eqb, leb, ltb}
+use Rattle.std.specs.Prelude.{ℕ, zero, suc, ◌+◌, ◌-◌, ◌*◌, ◌/◌, ◌≤◌, ◌<◌, ◌≡◌, Bool, true, false, cond, ◌&&◌, ◌||◌, List, [], ◌∷◌, ◌++◌, length, take, drop, get_or, replicate, eqb, leb, ltb, Option, Some, None}
 use Rattle.lists.specs.Numbers.{number}
 use Rattle.value.specs.Codec.{size_of, is_text}
 use Rattle.entry.specs.declared.Extra.{Extra}
 use Rattle.entry.specs.Model.{Val, Obj, size}
 use Rattle.entry.specs.Rules.{range_ok, val_ok, tight, obj_ok}
 use Rattle.given.specs.declared.Head.{Head}
-use Rattle.given.specs.declared.Size.{Size}
-use Rattle.given.specs.declared.Size.TheVariants as sz
 
 abbrev pub type_in : List ℕ → ℕ → ℕ
 type_in vals j = get_or vals (3 * j) 0
@@ -83,8 +81,8 @@ right_in h name vals encodings =
     && (eqb (lengths_in vals (count_in vals) 0) (length encodings) && (sized_in vals (count_in vals) 0 && (eqb h.low_type h.high_type && obj_ok (obj_in h name vals encodings))))
 
 -- the bytes that it takes, where it is right
-abbrev pub size_in : Head → List ℕ → List ℕ → List ℕ → Size
-size_in h name vals encodings = cond (right_in h name vals encodings) (sz.Upto (size (obj_in h name vals encodings))) sz.Bad
+abbrev pub size_in : Head → List ℕ → List ℕ → List ℕ → Option ℕ
+size_in h name vals encodings = cond (right_in h name vals encodings) (Some (size (obj_in h name vals encodings))) None
 
 -- ---- the same from left to right, as the code goes
 -- a value, an element or else the default
@@ -94,12 +92,12 @@ value_ok element t r s =
 
 -- the k values from value j on, of which those below c are elements: their encodings are all from place t on; the bytes that their rooms
 -- take, on top of g
-unfoldable pub vals_in : List ℕ → List ℕ → ℕ → ℕ → ℕ → ℕ → ℕ → Size
-vals_in vals encodings c zero j t g = cond (eqb t (length encodings)) (sz.Upto g) sz.Bad
+unfoldable pub vals_in : List ℕ → List ℕ → ℕ → ℕ → ℕ → ℕ → ℕ → Option ℕ
+vals_in vals encodings c zero j t g = cond (eqb t (length encodings)) (Some g) None
 vals_in vals encodings c (suc k) j t g =
     cond (leb (length_in vals j) (length encodings - t) && value_ok (ltb j c) (type_in vals j) (room_in vals j) (take (length_in vals j) (drop t encodings)))
     (vals_in vals encodings c k (suc j) (t + length_in vals j) (g + room_in vals j))
-    sz.Bad
+    None
 
 -- their slots, whose rooms start at b
 unfoldable pub slots_in : List ℕ → ℕ → ℕ → ℕ → List ℕ

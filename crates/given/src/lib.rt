@@ -1,7 +1,7 @@
 // Judging what an insertion is given.
 #![tactic(auto)]
 
-ghost use Rattle.std.specs.Prelude.{◌≡◌, true, false, cond, ◌+◌, ◌*◌, ◌<◌, ◌≤◌, length, take, drop};
+ghost use Rattle.std.specs.Prelude.{◌≡◌, false, cond, ◌+◌, ◌*◌, ◌<◌, ◌≤◌, length, take, drop};
 ghost use Rattle.value.specs.Codec.{is_text};
 ghost use Rattle.given.specs.Given.{type_in, room_in, length_in, extra_in, range_in, value_ok, vals_in, size_in};
 
@@ -21,14 +21,7 @@ pub struct Head {
     pub high: u64,
 }
 
-// The bytes that a given object takes, or that it is none.
-#[derive(Clone, Copy)]
-pub enum Size {
-    Upto(usize),
-    Bad,
-}
-
-// Value j as it is described.
+// Value j as it is described. Each names its column: of one function for the three, every call would have to give a number.
 pub fn type_in(vals: &[u64], j: usize) -> u64
     requires { (j < 255) × (3 * j + 3 ≤ length vals.now) }
     ensures { result ≡ type_in vals.now j }
@@ -70,13 +63,10 @@ fn range_in(head: Head) -> bool
 }
 
 // How many bytes of its room a value of so many takes.
-fn held_in(t: u64, len: usize) -> u64
+pub fn held_in(t: u64, len: usize) -> usize
     ensures { result ≡ cond (is_text t) len 0 }
 {
-    if value::is_text(t) {
-        return len as u64;
-    }
-    0
+    if value::is_text(t) { len } else { 0 }
 }
 
 // A value of type t and nothing else, within its room; as the default it has just its bytes.
@@ -88,50 +78,48 @@ fn value_ok(element: bool, t: u64, room: u64, s: &[u8], start: usize, len: usize
     if !value::is_exact(value::exactly(t, &s[start..end])) {
         return false;
     }
-    let held = held_in(t, len);
+    let held = held_in(t, len) as u64;
     (room <= 1490) & ((held <= room) & (element | (room == held)))
 }
 
-fn vals_in(vals: &[u64], encodings: &[u8], count: usize, u: usize, g: usize) -> Size
+fn vals_in(vals: &[u64], encodings: &[u8], count: usize, u: usize, g: usize) -> Option<usize>
     requires { (u ≤ 255) × (3 * u ≤ length vals.now) × (g ≤ 32) }
     ensures { result ≡ vals_in vals.now encodings.now count u 0 0 g }
 {
-    let mut j = 0;
     let mut t = 0;
     let mut size = g;
-    while j < u {
+    for j in 0..u {
         let kind = type_in(vals, j);
         let room = room_in(vals, j);
         let len = length_in(vals, j) as usize;
         let left = encodings.len() - t;
         if left < len {
-            return Size::Bad;
+            return None;
         }
         if !value_ok(j < count, kind, room, encodings, t, len) {
-            return Size::Bad;
+            return None;
         }
         t += len;
         size += room as usize;
-        j += 1;
     }
     if t == encodings.len() {
-        return Size::Upto(size);
+        return Some(size);
     }
-    Size::Bad
+    None
 }
 
 // The bytes that the object takes, where its description adds up and it keeps the rules.
-pub fn size_in(head: Head, name: &[u8], vals: &[u64], encodings: &[u8]) -> Size
+pub fn size_in(head: Head, name: &[u8], vals: &[u64], encodings: &[u8]) -> Option<usize>
     ensures { result ≡ size_in head name.now vals.now encodings.now }
 {
     let u = vals.len() / 3;
     let flag = head.default as usize;
     let m = 3 * u;
     if m != vals.len() {
-        return Size::Bad;
+        return None;
     }
     if u < flag {
-        return Size::Bad;
+        return None;
     }
     let index = head.index as u64;
     let count = (u - flag) as u64;
@@ -144,13 +132,13 @@ pub fn size_in(head: Head, name: &[u8], vals: &[u64], encodings: &[u8]) -> Size
         head.default,
         len as u64,
     ) {
-        return Size::Bad;
+        return None;
     }
     if !judge::is_good(name, 0, len) {
-        return Size::Bad;
+        return None;
     }
     if !range_in(head) {
-        return Size::Bad;
+        return None;
     }
     vals_in(vals, encodings, u - flag, u, len)
 }

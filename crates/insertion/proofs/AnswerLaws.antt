@@ -1,9 +1,10 @@
 -- Each way through an insertion, and the theorems: it keeps a dictionary well-formed and every other object, and the new one is found.
 -- Assumes nothing.
+use Rattle.std.specs.Prelude.{Some, None, Result, Ok, Err}
+use Rattle.answers.specs.declared.Refusal.{Refusal}
 use mathlib.Core.Path.{◌≡◌, refl, sym, ap, ◌∙◌}
 use mathlib.Core.Bool.{Bool, true, false, cond}
 use mathlib.Core.List.{List}
-use mathlib.Core.Option.{some}
 use Prim.Native.Nat.{ℕ, ◌+◌, ◌≤◌}
 use native.Mathlib.Omega.{arith}
 use borrow.Author.Tests.{leb-true, ltb-true, le-leb, lt-ltb}
@@ -18,9 +19,6 @@ use Rattle.placing.specs.Place.{inserted, Room}
 use Rattle.insertion.specs.Insert.{below, taken, fits_in, answer_of, memory_after, memory_of}
 use Rattle.insertion.specs.Replace.{RoomIn}
 use Rattle.given.specs.declared.Head.{Head}
-use Rattle.given.specs.declared.Size.TheVariants as sz
-use Rattle.insertion.specs.declared.Inserted.{Inserted}
-use Rattle.insertion.specs.declared.Inserted.TheVariants.{Done, Refused}
 use Rattle.entry.proofs.JudgeLaws.{and_true, sound, length_objs}
 use Rattle.entry.proofs.ModelLaws.{totals}
 use Rattle.given.proofs.RightLaws.{right}
@@ -28,17 +26,17 @@ use Rattle.insertion.proofs.IndexLaws.{below_small}
 use Rattle.insertion.proofs.KeepLaws.{Kept, kept, other, itself}
 
 -- ---- the size says whether the object is right
-pub size_some : (h : Head) (name vals encodings : List ℕ) (g : ℕ) → size_in h name vals encodings ≡ sz.Upto g → (right_in h name vals encodings ≡ true) × (size (obj_in h name vals encodings) ≡ g)
+pub size_some : (h : Head) (name vals encodings : List ℕ) (g : ℕ) → size_in h name vals encodings ≡ Some g → (right_in h name vals encodings ≡ true) × (size (obj_in h name vals encodings) ≡ g)
 size_some h name vals encodings g = go (right_in h name vals encodings)
   where
-    go : (x : Bool) → cond x (sz.Upto (size (obj_in h name vals encodings))) sz.Bad ≡ sz.Upto g → (x ≡ true) × (size (obj_in h name vals encodings) ≡ g)
+    go : (x : Bool) → cond x (Some (size (obj_in h name vals encodings))) None ≡ Some g → (x ≡ true) × (size (obj_in h name vals encodings) ≡ g)
     go true e = (refl, cc)
     go false e = let z : ◌≡◌ {A = ℕ} 0 1 = cc in absurd (omega arith)
 
-pub size_none : (h : Head) (name vals encodings : List ℕ) → size_in h name vals encodings ≡ sz.Bad → right_in h name vals encodings ≡ false
+pub size_none : (h : Head) (name vals encodings : List ℕ) → size_in h name vals encodings ≡ None → right_in h name vals encodings ≡ false
 size_none h name vals encodings = go (right_in h name vals encodings)
   where
-    go : (x : Bool) → cond x (sz.Upto (size (obj_in h name vals encodings))) sz.Bad ≡ sz.Bad → x ≡ false
+    go : (x : Bool) → cond x (Some (size (obj_in h name vals encodings))) None ≡ None → x ≡ false
     go true e = let z : ◌≡◌ {A = ℕ} 0 1 = cc in absurd (omega arith)
     go false e = refl
 
@@ -49,31 +47,22 @@ module _ (h : Head) (name vals encodings : List ℕ) (d : Dict) where
   abbrev new : Dict
   new = inserted (below h.index (model_of d)) o d
 
-  by_answer : (a : Inserted) → answer_of h name vals encodings d ≡ a → memory_of h name vals encodings d ≡ memory_after a new d
+  by_answer : (a : Result (Unit {0}) Refusal) → answer_of h name vals encodings d ≡ a → memory_of h name vals encodings d ≡ memory_after a new d
   by_answer a e = ap (λ x. memory_after x new d) e
 
-  pub malformed : well_formed d ≡ false → (Refused Malformed ≡ answer_of h name vals encodings d) × (d ≡ memory_of h name vals encodings d)
+  pub malformed : well_formed d ≡ false → (Err Malformed ≡ answer_of h name vals encodings d) × (d ≡ memory_of h name vals encodings d)
   unfolding answer_of
-  malformed e = let a : answer_of h name vals encodings d ≡ Refused Malformed = rw e in (sym a, sym (by_answer (Refused Malformed) a))
+  malformed e = let a : answer_of h name vals encodings d ≡ Err Malformed = rw e in (sym a, sym (by_answer (Err Malformed) a))
 
   module _ (w : well_formed d ≡ true) where
-    pub bad_value : right_in h name vals encodings ≡ false → (Refused BadValue ≡ answer_of h name vals encodings d) × (d ≡ memory_of h name vals encodings d)
+    pub bad_value : right_in h name vals encodings ≡ false → (Err BadValue ≡ answer_of h name vals encodings d) × (d ≡ memory_of h name vals encodings d)
     unfolding answer_of
-    bad_value e = let a : answer_of h name vals encodings d ≡ Refused BadValue = rw (w, e) in (sym a, sym (by_answer (Refused BadValue) a))
+    bad_value e = let a : answer_of h name vals encodings d ≡ Err BadValue = rw (w, e) in (sym a, sym (by_answer (Err BadValue) a))
 
     module _ (s : right_in h name vals encodings ≡ true) where
-      pub occupied_by : taken h.index (model_of d) ≡ true → (Refused Occupied ≡ answer_of h name vals encodings d) × (d ≡ memory_of h name vals encodings d)
+      pub occupied_by : taken h.index (model_of d) ≡ true → (Err Occupied ≡ answer_of h name vals encodings d) × (d ≡ memory_of h name vals encodings d)
       unfolding answer_of
-      occupied_by e = let a : answer_of h name vals encodings d ≡ Refused Occupied = rw (w, s, e) in (sym a, sym (by_answer (Refused Occupied) a))
-
-      module _ (t : taken h.index (model_of d) ≡ false) where
-        pub full : fits_in d (used o) (size o) ≡ false → (Refused Full ≡ answer_of h name vals encodings d) × (d ≡ memory_of h name vals encodings d)
-        unfolding answer_of
-        full e = let a : answer_of h name vals encodings d ≡ Refused Full = rw (w, s, t, e) in (sym a, sym (by_answer (Refused Full) a))
-
-        pub done : fits_in d (used o) (size o) ≡ true → (Done ≡ answer_of h name vals encodings d) × (new ≡ memory_of h name vals encodings d)
-        unfolding answer_of
-        done e = let a : answer_of h name vals encodings d ≡ Done = rw (w, s, t, e) in (sym a, sym (by_answer Done a))
+      occupied_by e = let a : answer_of h name vals encodings d ≡ Err Occupied = rw (w, s, e) in (sym a, sym (by_answer (Err Occupied) a))
 
 pub room_is : (d : Dict) (x u g : ℕ) → fits_in d u g ≡ true → Room d.objects d.slots d.words d.bytes (below x (model_of d)) u g
 unfolding fits_in
@@ -128,13 +117,13 @@ pub record DoneBy (h : Head) (name vals encodings : List ℕ) (d : Dict) : Type 
   pub free : taken h.index (model_of d) ≡ false
   pub fits : fits_in d (used (obj_in h name vals encodings)) (size (obj_in h name vals encodings)) ≡ true
 
-pub done_by : (h : Head) (name vals encodings : List ℕ) (d : Dict) → answer_of h name vals encodings d ≡ Done → DoneBy h name vals encodings d
+pub done_by : (h : Head) (name vals encodings : List ℕ) (d : Dict) → answer_of h name vals encodings d ≡ (Ok tt) → DoneBy h name vals encodings d
 unfolding answer_of
 done_by h name vals encodings d e =
     let x = go (well_formed d) (right_in h name vals encodings) (taken h.index (model_of d)) (fits_in d (used (obj_in h name vals encodings)) (size (obj_in h name vals encodings))) e in
     record { formed = x.0; right = x.1; free = x.2; fits = x.3 }
   where
-    go : (w r t f : Bool) → cond w (cond r (cond t (Refused Occupied) (cond f Done (Refused Full))) (Refused BadValue)) (Refused Malformed) ≡ Done → (w ≡ true) × (r ≡ true) × (t ≡ false) × (f ≡ true)
+    go : (w r t f : Bool) → cond w (cond r (cond t (Err Occupied) (cond f (Ok (tt {0})) (Err Full))) (Err BadValue)) (Err Malformed) ≡ (Ok tt) → (w ≡ true) × (r ≡ true) × (t ≡ false) × (f ≡ true)
     go true true false true e = (refl, refl, refl, refl)
     go true true false false e = let z : ◌≡◌ {A = ℕ} 0 1 = cc in absurd (omega arith)
     go true true true f e = let z : ◌≡◌ {A = ℕ} 0 1 = cc in absurd (omega arith)
@@ -144,7 +133,7 @@ done_by h name vals encodings d e =
 -- ---- the theorems, for every head, name, description and memory
 module _ (h : Head) (name vals encodings : List ℕ) (d : Dict) where
   -- where an insertion is done, the memory holds what it held with the new object in its place, and is well-formed
-  pub keeps : answer_of h name vals encodings d ≡ Done → Kept (below h.index (model_of d)) (obj_in h name vals encodings) d
+  pub keeps : answer_of h name vals encodings d ≡ (Ok tt) → Kept (below h.index (model_of d)) (obj_in h name vals encodings) d
   keeps e =
       let a = done_by h name vals encodings d e in
       let u = sound d a.formed in
@@ -153,12 +142,12 @@ module _ (h : Head) (name vals encodings : List ℕ) (d : Dict) where
       kept (obj_in h name vals encodings) d u (right h name vals encodings a.right).ok a.free (omega (arith, n.number, r.few)) (omega (arith, n.values, r.values)) (omega (arith, n.bytes, r.total))
 
   -- a refusal, or the object inserted
-  by_cases : (P : Dict → Type 0) → P d → (answer_of h name vals encodings d ≡ Done → P (inserted (below h.index (model_of d)) (obj_in h name vals encodings) d)) → P (memory_of h name vals encodings d)
+  by_cases : (P : Dict → Type 0) → P d → (answer_of h name vals encodings d ≡ (Ok tt) → P (inserted (below h.index (model_of d)) (obj_in h name vals encodings) d)) → P (memory_of h name vals encodings d)
   by_cases P p q = go (answer_of h name vals encodings d) q
     where
-      go : (a : Inserted) → (a ≡ Done → P (inserted (below h.index (model_of d)) (obj_in h name vals encodings) d)) → P (memory_after a (inserted (below h.index (model_of d)) (obj_in h name vals encodings) d) d)
-      go Done q = q refl
-      go (Refused r) q = p
+      go : (a : Result (Unit {0}) Refusal) → (a ≡ (Ok tt) → P (inserted (below h.index (model_of d)) (obj_in h name vals encodings) d)) → P (memory_after a (inserted (below h.index (model_of d)) (obj_in h name vals encodings) d) d)
+      go (Ok _) q = q refl
+      go (Err r) q = p
 
   -- whatever the answer: what was well-formed stays so
   pub stays : well_formed d ≡ true → well_formed (memory_of h name vals encodings d) ≡ true
@@ -169,7 +158,7 @@ module _ (h : Head) (name vals encodings : List ℕ) (d : Dict) where
   others_stay x n = by_cases (λ m. object_of x (model_of m) ≡ object_of x (model_of d)) refl (λ e. ap (object_of x) (keeps e).holds ∙ other (below h.index (model_of d)) (obj_in h name vals encodings) (model_of d) x n)
 
   -- after Done the object is found, and it is the one that was described
-  pub found_there : answer_of h name vals encodings d ≡ Done → object_of h.index (model_of (memory_of h name vals encodings d)) ≡ some (obj_in h name vals encodings)
+  pub found_there : answer_of h name vals encodings d ≡ (Ok tt) → object_of h.index (model_of (memory_of h name vals encodings d)) ≡ Some (obj_in h name vals encodings)
   found_there e =
       ap (λ a. object_of h.index (model_of (memory_after a (inserted (below h.index (model_of d)) (obj_in h name vals encodings) d) d))) e
       ∙ ap (object_of h.index) (keeps e).holds ∙ itself (below h.index (model_of d)) (obj_in h name vals encodings) (model_of d) (done_by h name vals encodings d e).free

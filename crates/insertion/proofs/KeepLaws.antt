@@ -1,9 +1,9 @@
 -- Insertion keeps a dictionary well-formed, and every other object as it was.
 -- Assumes nothing.
+use Rattle.std.specs.Prelude.{Some}
 use mathlib.Core.Path.{◌≡◌, refl, sym, ap, ◌∙◌, subst}
 use mathlib.Core.Bool.{Bool, true, false, cond, ◌&&◌, ◌||◌}
 use mathlib.Core.List.{List, [], ◌∷◌, ◌++◌}
-use mathlib.Core.Option.{some}
 use Prim.Native.Nat.{ℕ, zero, suc, ◌+◌, ◌<◌, ◌≤◌}
 use native.Mathlib.Nat.{zero-add}
 use native.Mathlib.Omega.{arith}
@@ -105,9 +105,9 @@ pub other : (i : ℕ) (o : Obj) (os : List Obj) (x : ℕ) → (o.index ≡ x →
 unfolding object_of
 other zero o os x h = rw (ne_eqb o.index x h)
 other (suc i) o [] x h = rw (ne_eqb o.index x h)
-other (suc i) o (y ∷ os) x h = ap (λ r. cond (eqb y.index x) (some y) r) (other i o os x h)
+other (suc i) o (y ∷ os) x h = ap (λ r. cond (eqb y.index x) (Some y) r) (other i o os x h)
 
-pub itself : (i : ℕ) (o : Obj) (os : List Obj) → taken o.index os ≡ false → object_of o.index (insert_at i o os) ≡ some o
+pub itself : (i : ℕ) (o : Obj) (os : List Obj) → taken o.index os ≡ false → object_of o.index (insert_at i o os) ≡ Some o
 unfolding object_of taken
 itself zero o os t = rw (eq-eqb o.index o.index refl)
 itself (suc i) o [] t = rw (eq-eqb o.index o.index refl)

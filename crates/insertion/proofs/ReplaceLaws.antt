@@ -21,7 +21,7 @@ use Rattle.entry.proofs.ModelLaws.{length_rows, length_slots, words_append, byte
 use Rattle.entry.proofs.PutLaws.{objs_swap}
 use Rattle.entry.proofs.BackLaws.{read_back, complete}
 use Rattle.placing.specs.Place.{inserted}
-use Rattle.insertion.specs.Replace.{remove_at, replace_at, without, replaced, RoomIn}
+use Rattle.insertion.specs.Replace.{remove_at, replace_at, without, replaced}
 use Rattle.placing.proofs.ActLaws.{dict_is}
 use Rattle.insertion.proofs.KeepLaws.{laid_lies, laid_edition}
 
@@ -105,9 +105,6 @@ without_none d l i =
 
 pub replaced_none : (d : Dict) (i : ℕ) (o : Obj) → replaced i 0 o d ≡ inserted i o d
 replaced_none d i o = ap (λ j. laid (take i (model_of d) ++ (o ∷ drop j (model_of d))) d) (add-zero i)
-
-pub room_none : (d : Dict) → Lies (model_of d) d → (i u g : ℕ) → RoomIn d i u g → RoomIn (without i 0 d) i u g
-room_none d l i u g r = subst (λ m. RoomIn m i u g) (sym (without_none d l i)) r
 
 -- ---- the theorem for replacement: with q in o's place the memory holds q and all the others, and is well-formed again
 pub replaced_kept : (xs : List Obj) (o q : Obj) (ys : List Obj) (d : Dict) → Sound d → model_of d ≡ xs ++ (o ∷ ys) → q.index ≡ o.index → obj_ok q ≡ true → Few (xs ++ (q ∷ ys))

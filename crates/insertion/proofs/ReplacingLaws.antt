@@ -1,9 +1,10 @@
 -- Each way through a replacement, and the theorems: it keeps a dictionary well-formed and every other object, the new one is found, and Full is
 -- answered exactly where the rest would pass a total or the memory. Assumes nothing.
+use Rattle.std.specs.Prelude.{Some, Result, Ok, Err}
+use Rattle.answers.specs.declared.Refusal.{Refusal}
 use mathlib.Core.Path.{◌≡◌, refl, sym, ap, ◌∙◌}
 use mathlib.Core.Bool.{Bool, true, false, cond}
 use mathlib.Core.List.{List}
-use mathlib.Core.Option.{some}
 use Prim.Native.Nat.{ℕ, ◌+◌, ◌≤◌}
 use native.Mathlib.Omega.{arith}
 use Rattle.answers.specs.declared.Refusal.TheVariants.{Malformed, BadValue, Full}
@@ -23,8 +24,6 @@ use Rattle.insertion.proofs.KeepLaws.{insert_ok, few_more, laid_lies, laid_editi
 use Rattle.insertion.proofs.RestLaws.{Rest, rest}
 use Rattle.insertion.proofs.ReplaceLaws.{remove_ok, together, without_none, replaced_none}
 use Rattle.insertion.proofs.AnswerLaws.{room_at, fits-room}
-use Rattle.insertion.specs.declared.Inserted.{Inserted}
-use Rattle.insertion.specs.declared.Inserted.TheVariants.{Done, Refused}
 
 module _ (h : Head) (name vals encodings : List ℕ) (d : Dict) where
   abbrev o : Obj
@@ -39,25 +38,25 @@ module _ (h : Head) (name vals encodings : List ℕ) (d : Dict) where
   abbrev new : Dict
   new = replaced i₀ k₀ o d
 
-  by_answer : (a : Inserted) → replace_answer_of h name vals encodings d ≡ a → replace_memory_of h name vals encodings d ≡ memory_after a new d
+  by_answer : (a : Result (Unit {0}) Refusal) → replace_answer_of h name vals encodings d ≡ a → replace_memory_of h name vals encodings d ≡ memory_after a new d
   by_answer a e = ap (λ x. memory_after x new d) e
 
-  pub malformed : well_formed d ≡ false → (Refused Malformed ≡ replace_answer_of h name vals encodings d) × (d ≡ replace_memory_of h name vals encodings d)
+  pub malformed : well_formed d ≡ false → (Err Malformed ≡ replace_answer_of h name vals encodings d) × (d ≡ replace_memory_of h name vals encodings d)
   unfolding replace_answer_of
-  malformed e = let a : replace_answer_of h name vals encodings d ≡ Refused Malformed = rw e in (sym a, sym (by_answer (Refused Malformed) a))
+  malformed e = let a : replace_answer_of h name vals encodings d ≡ Err Malformed = rw e in (sym a, sym (by_answer (Err Malformed) a))
 
   module _ (w : well_formed d ≡ true) where
-    pub bad_value : right_in h name vals encodings ≡ false → (Refused BadValue ≡ replace_answer_of h name vals encodings d) × (d ≡ replace_memory_of h name vals encodings d)
+    pub bad_value : right_in h name vals encodings ≡ false → (Err BadValue ≡ replace_answer_of h name vals encodings d) × (d ≡ replace_memory_of h name vals encodings d)
     unfolding replace_answer_of
-    bad_value e = let a : replace_answer_of h name vals encodings d ≡ Refused BadValue = rw (w, e) in (sym a, sym (by_answer (Refused BadValue) a))
+    bad_value e = let a : replace_answer_of h name vals encodings d ≡ Err BadValue = rw (w, e) in (sym a, sym (by_answer (Err BadValue) a))
 
     -- what is answered and left once there is room, or none
     module _ (s : right_in h name vals encodings ≡ true) (i k u g : ℕ) (at : i ≡ i₀) (old : k ≡ k₀) (p : u ≡ used o) (q : g ≡ size o) where
-      right_answer : (r : Inserted) → r ≡ cond (fits_in (without i k d) u g) Done (Refused Full) → r ≡ replace_answer_of h name vals encodings d
+      right_answer : (r : Result (Unit {0}) Refusal) → r ≡ cond (fits_in (without i k d) u g) (Ok tt) (Err Full) → r ≡ replace_answer_of h name vals encodings d
       unfolding replace_answer_of
       right_answer r e = e ∙ rw (w, s, at, old, p, q)
 
-      pub put : (r : Inserted) (m : Dict) → r ≡ cond (fits_in (without i k d) u g) Done (Refused Full) → m ≡ memory_after r (replaced i k o d) d → (r ≡ replace_answer_of h name vals encodings d) × (m ≡ replace_memory_of h name vals encodings d)
+      pub put : (r : Result (Unit {0}) Refusal) (m : Dict) → r ≡ cond (fits_in (without i k d) u g) (Ok tt) (Err Full) → m ≡ memory_after r (replaced i k o d) d → (r ≡ replace_answer_of h name vals encodings d) × (m ≡ replace_memory_of h name vals encodings d)
       put r m e f =
           let a = right_answer r e in
           (a, f ∙ ap (λ x. memory_after x (replaced i k o d) d) a ∙ rw (at, old))
@@ -68,13 +67,13 @@ pub record DoneBy (h : Head) (name vals encodings : List ℕ) (d : Dict) : Type 
   pub right : right_in h name vals encodings ≡ true
   pub fits : fits_in (gone h.index d) (used (obj_in h name vals encodings)) (size (obj_in h name vals encodings)) ≡ true
 
-pub done_by : (h : Head) (name vals encodings : List ℕ) (d : Dict) → replace_answer_of h name vals encodings d ≡ Done → DoneBy h name vals encodings d
+pub done_by : (h : Head) (name vals encodings : List ℕ) (d : Dict) → replace_answer_of h name vals encodings d ≡ (Ok tt) → DoneBy h name vals encodings d
 unfolding replace_answer_of
 done_by h name vals encodings d e =
     let x = go (well_formed d) (right_in h name vals encodings) (fits_in (gone h.index d) (used (obj_in h name vals encodings)) (size (obj_in h name vals encodings))) e in
     record { formed = x.0; right = x.1; fits = x.2 }
   where
-    go : (w r f : Bool) → cond w (cond r (cond f Done (Refused Full)) (Refused BadValue)) (Refused Malformed) ≡ Done → (w ≡ true) × (r ≡ true) × (f ≡ true)
+    go : (w r f : Bool) → cond w (cond r (cond f (Ok (tt {0})) (Err Full)) (Err BadValue)) (Err Malformed) ≡ (Ok tt) → (w ≡ true) × (r ≡ true) × (f ≡ true)
     go true true true e = (refl, refl, refl)
     go true true false e = let z : ◌≡◌ {A = ℕ} 0 1 = cc in absurd (omega arith)
     go true false f e = let z : ◌≡◌ {A = ℕ} 0 1 = cc in absurd (omega arith)
@@ -85,18 +84,18 @@ module _ (h : Head) (name vals encodings : List ℕ) (d : Dict) (w : well_formed
   abbrev Roomy : Type 0
   Roomy = RoomIn (gone h.index d) 0 (used (obj_in h name vals encodings)) (size (obj_in h name vals encodings))
 
-  pub full_only : replace_answer_of h name vals encodings d ≡ Refused Full → Roomy → ⊥
+  pub full_only : replace_answer_of h name vals encodings d ≡ Err Full → Roomy → ⊥
   unfolding replace_answer_of
   full_only e r =
       let f = fits-room (gone h.index d) 0 (used (obj_in h name vals encodings)) (size (obj_in h name vals encodings)) r in
-      let a : Done ≡ Refused Full = sym (rw (w, s, f)) ∙ e in
+      let a : Ok (tt {0}) ≡ Err Full = sym (rw (w, s, f)) ∙ e in
       let z : ◌≡◌ {A = ℕ} 0 1 = cc in omega arith
 
-  pub full_back : (Roomy → ⊥) → replace_answer_of h name vals encodings d ≡ Refused Full
+  pub full_back : (Roomy → ⊥) → replace_answer_of h name vals encodings d ≡ Err Full
   unfolding replace_answer_of
   full_back n = rw (w, s) (go (fits_in (gone h.index d) (used (obj_in h name vals encodings)) (size (obj_in h name vals encodings))) refl)
     where
-      go : (b : Bool) → fits_in (gone h.index d) (used (obj_in h name vals encodings)) (size (obj_in h name vals encodings)) ≡ b → cond b Done (Refused Full) ≡ Refused Full
+      go : (b : Bool) → fits_in (gone h.index d) (used (obj_in h name vals encodings)) (size (obj_in h name vals encodings)) ≡ b → cond b (Ok (tt {0})) (Err Full) ≡ Err Full
       go true e = absurd (n (room_at (gone h.index d) 0 (used (obj_in h name vals encodings)) (size (obj_in h name vals encodings)) (omega arith) e))
       go false e = refl
 
@@ -120,7 +119,7 @@ module _ (h : Head) (name vals encodings : List ℕ) (d : Dict) where
     pub holds : model_of (replaced i k obj d) ≡ insert_at (below h.index left) obj left
     pub again : well_formed (replaced i k obj d) ≡ true
 
-  pub keeps : replace_answer_of h name vals encodings d ≡ Done → Holds
+  pub keeps : replace_answer_of h name vals encodings d ≡ (Ok tt) → Holds
   keeps e =
       let a = done_by h name vals encodings d e in
       let u = sound d a.formed in
@@ -140,12 +139,12 @@ module _ (h : Head) (name vals encodings : List ℕ) (d : Dict) where
       }
 
   -- a refusal, or the object replaced
-  by_cases : (P : Dict → Type 0) → P d → (replace_answer_of h name vals encodings d ≡ Done → P (replaced i k obj d)) → P (replace_memory_of h name vals encodings d)
+  by_cases : (P : Dict → Type 0) → P d → (replace_answer_of h name vals encodings d ≡ (Ok tt) → P (replaced i k obj d)) → P (replace_memory_of h name vals encodings d)
   by_cases P p q = go (replace_answer_of h name vals encodings d) q
     where
-      go : (a : Inserted) → (a ≡ Done → P (replaced i k obj d)) → P (memory_after a (replaced i k obj d) d)
-      go Done q = q refl
-      go (Refused r) q = p
+      go : (a : Result (Unit {0}) Refusal) → (a ≡ (Ok tt) → P (replaced i k obj d)) → P (memory_after a (replaced i k obj d) d)
+      go (Ok _) q = q refl
+      go (Err r) q = p
 
   -- whatever the answer: what was well-formed stays so
   pub stays : well_formed d ≡ true → well_formed (replace_memory_of h name vals encodings d) ≡ true
@@ -156,7 +155,7 @@ module _ (h : Head) (name vals encodings : List ℕ) (d : Dict) where
   others_stay x n = by_cases (λ m. object_of x (model_of m) ≡ object_of x (model_of d)) refl (λ e. let t = keeps e in ap (object_of x) t.holds ∙ other (below h.index left) obj left x n ∙ t.rest.others x n)
 
   -- after Done the object is found, and it is the one that was described
-  pub found_there : replace_answer_of h name vals encodings d ≡ Done → object_of h.index (model_of (replace_memory_of h name vals encodings d)) ≡ some obj
+  pub found_there : replace_answer_of h name vals encodings d ≡ (Ok tt) → object_of h.index (model_of (replace_memory_of h name vals encodings d)) ≡ Some obj
   found_there e =
       let t = keeps e in
       ap (λ a. object_of h.index (model_of (memory_after a (replaced i k obj d) d))) e ∙ ap (object_of h.index) t.holds ∙ itself (below h.index left) obj left t.rest.free

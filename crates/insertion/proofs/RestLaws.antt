@@ -1,9 +1,9 @@
 -- The objects without the one that has an index: what is left of them.
 -- Assumes nothing.
+use Rattle.std.specs.Prelude.{Some}
 use mathlib.Core.Path.{◌≡◌, refl, sym, ap, ◌∙◌}
 use mathlib.Core.Bool.{Bool, true, false, cond}
 use mathlib.Core.List.{List, [], ◌∷◌}
-use mathlib.Core.Option.{some}
 use Prim.Native.Nat.{ℕ, suc, ◌+◌, ◌<◌, ◌≤◌}
 use native.Mathlib.Nat.{suc-add}
 use native.Mathlib.Omega.{arith}
@@ -43,7 +43,7 @@ rest x low (o ∷ os) g = go (rest x (o.index + 1) os k.rest) (dec_lt o.index x)
     go ih (yes h) b e =
         let n = ne_eqb o.index x (λ q. omega (arith, q, h)) in
         rw (lt-ltb o.index x h, n, suc-add (below x os) (having x os))
-        (record { free = rw n ih.free; place = rw (lt-ltb o.index x h) (ap suc ih.place); inside = rw (lt-ltb o.index x h, n) (omega (arith, ih.inside)); others = λ y m. ap (λ r. cond (eqb o.index y) (some o) r) (ih.others y m) })
+        (record { free = rw n ih.free; place = rw (lt-ltb o.index x h) (ap suc ih.place); inside = rw (lt-ltb o.index x h, n) (omega (arith, ih.inside)); others = λ y m. ap (λ r. cond (eqb o.index y) (Some o) r) (ih.others y m) })
     go ih (no h) true e =
         let q : o.index ≡ x = eqb-true o.index x e in
         let z : below x (o ∷ os) ≡ 0 = rw (le-ltb o.index x (omega arith)) in

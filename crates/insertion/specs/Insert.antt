@@ -1,13 +1,12 @@
 -- Insertion: RULES.md 6.
 -- Assumes nothing.
-use Rattle.std.specs.Prelude.{ℕ, zero, suc, ◌+◌, Bool, false, cond, ◌&&◌, ◌||◌, List, [], ◌∷◌, length, eqb, leb, ltb}
+use Rattle.answers.specs.declared.Refusal.{Refusal}
+use Rattle.std.specs.Prelude.{ℕ, zero, suc, ◌+◌, Bool, false, cond, ◌&&◌, ◌||◌, List, [], ◌∷◌, length, eqb, leb, ltb, Result, Ok, Err}
 use Rattle.answers.specs.declared.Refusal.TheVariants.{Malformed, BadValue, Occupied, Full}
 use Rattle.entry.specs.Model.{Obj, used, size}
 use Rattle.entry.specs.Table.{Dict, index_at, model_of, number_of, values_of, used_of, row_end, slot_place}
 use Rattle.entry.specs.Judge.{well_formed}
 use Rattle.given.specs.declared.Head.{Head}
-use Rattle.insertion.specs.declared.Inserted.{Inserted}
-use Rattle.insertion.specs.declared.Inserted.TheVariants.{Done, Refused}
 use Rattle.given.specs.Given.{obj_in, right_in}
 use Rattle.placing.specs.Place.{inserted}
 
@@ -27,22 +26,22 @@ fits_in d u g =
     && (leb (values_of d.objects + u) (length d.words) && (leb (used_of d.objects + g) 32768 && leb (used_of d.objects + g) (length d.bytes))))))
 
 -- ---- the answer: R6.2
-unfoldable pub answer_of : Head → List ℕ → List ℕ → List ℕ → Dict → Inserted
+unfoldable pub answer_of : Head → List ℕ → List ℕ → List ℕ → Dict → Result (Unit {0}) Refusal
 answer_of h name vals encodings d =
     cond (well_formed d)
     (cond (right_in h name vals encodings)
     (cond (taken h.index (model_of d))
-    (Refused Occupied)
+    (Err Occupied)
     (cond (fits_in d (used (obj_in h name vals encodings)) (size (obj_in h name vals encodings)))
-    Done
-    (Refused Full)))
-    (Refused BadValue))
-    (Refused Malformed)
+    (Ok tt)
+    (Err Full)))
+    (Err BadValue))
+    (Err Malformed)
 
 -- the memory after it: a refusal leaves it as it is
-abbrev pub memory_after : Inserted → Dict → Dict → Dict
-memory_after Done new old = new
-memory_after (Refused r) new old = old
+abbrev pub memory_after : Result (Unit {0}) Refusal → Dict → Dict → Dict
+memory_after (Ok _) new old = new
+memory_after (Err r) new old = old
 
 abbrev pub memory_of : Head → List ℕ → List ℕ → List ℕ → Dict → Dict
 memory_of h name vals encodings d =

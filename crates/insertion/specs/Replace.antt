@@ -1,6 +1,7 @@
 -- Replacing the object of an index: RULES.md R6.9 to R6.12. Insertion replaces none.
 -- Assumes nothing.
-use Rattle.std.specs.Prelude.{ℕ, ◌+◌, cond, List, ◌∷◌, ◌++◌, take, drop}
+use Rattle.answers.specs.declared.Refusal.{Refusal}
+use Rattle.std.specs.Prelude.{ℕ, ◌+◌, cond, List, ◌∷◌, ◌++◌, take, drop, Result, Ok, Err}
 use Rattle.answers.specs.declared.Refusal.TheVariants.{Malformed, BadValue, Full}
 use Rattle.entry.specs.Model.{Obj, used, size}
 use Rattle.entry.specs.Table.{Dict, model_of, laid}
@@ -8,8 +9,6 @@ use Rattle.entry.specs.Judge.{well_formed}
 use Rattle.given.specs.declared.Head.{Head}
 use Rattle.given.specs.Given.{obj_in, right_in}
 use Rattle.placing.specs.Place.{Room}
-use Rattle.insertion.specs.declared.Inserted.{Inserted}
-use Rattle.insertion.specs.declared.Inserted.TheVariants.{Done, Refused}
 use Rattle.insertion.specs.Insert.{below, taken, fits_in, memory_after}
 
 -- the objects without the k at place i
@@ -40,15 +39,15 @@ abbrev pub gone : ℕ → Dict → Dict
 gone x d = without (below x (model_of d)) (having x (model_of d)) d
 
 -- ---- the answer: R6.9, R6.10
-unfoldable pub replace_answer_of : Head → List ℕ → List ℕ → List ℕ → Dict → Inserted
+unfoldable pub replace_answer_of : Head → List ℕ → List ℕ → List ℕ → Dict → Result (Unit {0}) Refusal
 replace_answer_of h name vals encodings d =
     cond (well_formed d)
     (cond (right_in h name vals encodings)
     (cond (fits_in (gone h.index d) (used (obj_in h name vals encodings)) (size (obj_in h name vals encodings)))
-    Done
-    (Refused Full))
-    (Refused BadValue))
-    (Refused Malformed)
+    (Ok tt)
+    (Err Full))
+    (Err BadValue))
+    (Err Malformed)
 
 -- the memory after it: R6.11
 abbrev pub replace_memory_of : Head → List ℕ → List ℕ → List ℕ → Dict → Dict

@@ -9,6 +9,7 @@ use crate::remove;
 use given::Head;
 
 // The object, of g bytes, comes in the place of the k objects at place i, where k is 0 or 1.
+// `head, name, vals, encodings` are no struct: the public calls take them apart, and a clause would name a moment of it and then of its field.
 pub fn replace_at(
     objects: &mut [u64],
     slots: &mut [u64],

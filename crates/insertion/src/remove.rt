@@ -29,6 +29,6 @@ pub fn remove_at(
     let g = (f - b) as u64;
     lists::move_down(words, v, e, m);
     rows::remove_slots(slots, v, e, m, g);
-    lists::move_down_bytes(bytes, b, f, used);
+    lists::move_down(bytes, b, f, used);
     rows::remove_row(objects, i, n, u, g);
 }

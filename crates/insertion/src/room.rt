@@ -1,45 +1,35 @@
 // Whether there is room for an object in the place of others, and the act where there is.
-ghost use Rattle.std.specs.Prelude.{◌≡◌, true, cond, ◌+◌, ◌≤◌, length};
+ghost use Rattle.std.specs.Prelude.{◌≡◌, true, cond, ◌+◌, ◌≤◌, length, Ok, Err};
 ghost use Rattle.answers.specs.declared.Refusal.TheVariants.{Full};
 ghost use Rattle.entry.specs.Judge.{well_formed};
 ghost use Rattle.entry.specs.Table.{dict, number_of};
 ghost use Rattle.given.specs.Given.{rooms_in, count_in, obj_in, Values};
-ghost use Rattle.insertion.specs.declared.Inserted.TheVariants.{Done, Refused};
 ghost use Rattle.insertion.specs.Insert.{fits_in, memory_after};
 ghost use Rattle.insertion.specs.Replace.{without, replaced};
 
-use crate::{Inserted, act};
+use crate::act;
 use answers::Refusal;
 use given::Head;
+use judge::Dictionary;
 use placing::{bytes_before, values_before};
 
 // Whether there is room for one object more, of u values and g bytes, once the k objects at place i are gone.
-fn fits(
-    objects: &[u64],
-    slots: &[u64],
-    words: &[u64],
-    bytes: &[u8],
-    i: usize,
-    k: usize,
-    u: usize,
-    g: usize,
-) -> bool
-    requires bytes_value { well_formed (dict objects.now slots.now words.now bytes.now) ≡ true }
-    requires k_bound { (i + k ≤ number_of objects.now) × (u ≤ 255) × (g ≤ 400000) }
-    ensures { result ≡ fits_in (without i k (dict objects.now slots.now words.now bytes.now)) u g }
+fn fits(d: &Dictionary, i: usize, k: usize, u: usize, g: usize) -> bool
+    requires { (i + k ≤ number_of d.now.objects) × (u ≤ 255) × (g ≤ 400000) }
+    ensures { result ≡ fits_in (without i k d.now) u g }
 {
-    let n = entry::number_of(objects) as usize - k;
-    let m = entry::values_of(objects) as usize - values_before(objects, i + k)
-        + values_before(objects, i)
+    let n = entry::number_of(d.objects) as usize - k;
+    let m = entry::values_of(d.objects) as usize - values_before(d.objects, i + k)
+        + values_before(d.objects, i)
         + u;
-    let b = entry::used_of(objects) as usize - bytes_before(objects, i + k)
-        + bytes_before(objects, i)
+    let b = entry::used_of(d.objects) as usize - bytes_before(d.objects, i + k)
+        + bytes_before(d.objects, i)
         + g;
     (n < 1024)
-        & ((entry::row_end(n) <= objects.len())
+        & ((entry::row_end(n) <= d.objects.len())
             & ((m <= 6144)
-                & ((entry::slot(m) <= slots.len())
-                    & ((m <= words.len()) & ((b <= 32768) & (b <= bytes.len()))))))
+                & ((entry::slot(m) <= d.slots.len())
+                    & ((m <= d.words.len()) & ((b <= 32768) & (b <= d.bytes.len()))))))
 }
 
 // The object, of g bytes, in the place of the k objects at place i, where k is 0 or 1, if there is room for it.
@@ -55,19 +45,25 @@ pub fn put_in(
     vals: &[u64],
     encodings: &[u8],
     g: usize,
-) -> Inserted
+) -> Result<(), Refusal>
     requires bytes_value { well_formed (dict objects.old slots.old words.old bytes.old) ≡ true }
     requires k_bound { (k ≤ 1) × (i + k ≤ number_of objects.old) × (count_in vals.now ≤ 255) × (g ≤ 400000) }
     requires values { Values vals.now encodings.now (count_in vals.now) × (head.default ≤ count_in vals.now) × (g ≡ length name.now + rooms_in vals.now (count_in vals.now) 0) }
-    ensures answer { result ≡ cond (fits_in (without i k (dict objects.old slots.old words.old bytes.old)) (count_in vals.now) g) Done (Refused Full) }
+    ensures answer { result ≡ cond (fits_in (without i k (dict objects.old slots.old words.old bytes.old)) (count_in vals.now) g) (Ok tt) (Err Full) }
     ensures memory { dict objects.new slots.new words.new bytes.new ≡ memory_after result (replaced i k (obj_in head name.now vals.now encodings.now) (dict objects.old slots.old words.old bytes.old)) (dict objects.old slots.old words.old bytes.old) }
 {
     let u = vals.len() / 3;
-    if !fits(objects, slots, words, bytes, i, k, u, g) {
-        return Inserted::Refused(Refusal::Full);
+    let d = Dictionary {
+        objects,
+        slots,
+        words,
+        bytes,
+    };
+    if !fits(&d, i, k, u, g) {
+        return Err(Refusal::Full);
     }
     act::replace_at(
         objects, slots, words, bytes, i, k, head, name, vals, encodings, g,
     );
-    Inserted::Done
+    Ok(())
 }

@@ -1,6 +1,8 @@
 // Whether four lent slices are a dictionary: one pass over the rows, with running totals.
 #![tactic(auto)]
 
+mod dictionary;
+
 ghost use Rattle.std.specs.Prelude.{◌≡◌, true, false, ◌&&◌, ◌+◌, ◌-◌, ◌≤◌, ◌<◌, eqb, leb, length, take, drop, get_or};
 ghost use Rattle.text.specs.Machine.{judge};
 ghost use Rattle.value.specs.Codec.{is_text, takes, text_word};
@@ -8,11 +10,11 @@ ghost use Rattle.entry.specs.Table.{number_of, values_of, used_of, row_end, slot
 ghost use Rattle.entry.specs.Rules.{is_good, val_ok, tight, head_ok, range_ok, extra_ok};
 ghost use Rattle.entry.specs.Judge.{reserved, slots_from, row_ok, row_fits, rows_from, header_ok, well_formed, Long};
 
+pub use dictionary::Dictionary;
 use entry::{
-    Extra, Sum, Walk, access_at, count_at, default_at, extra_at, first_at, index_at, kind_at,
-    name_at, name_len_at, number_of, room_at, row, slot, start_at, type_at, used_of, values_of,
+    Extra, access_at, count_at, default_at, extra_at, first_at, index_at, kind_at, name_at,
+    name_len_at, number_of, room_at, row, slot, start_at, type_at, used_of, values_of,
 };
-use text::Text;
 
 // Whether a part of s is text.
 pub fn is_good(s: &[u8], start: usize, len: usize) -> bool
@@ -20,8 +22,8 @@ pub fn is_good(s: &[u8], start: usize, len: usize) -> bool
     ensures { result ≡ is_good (judge (take len (drop start s.now))) }
 {
     match text::part_ok(s, start, len) {
-        Text::Good => true,
-        Text::Bad(_) => false,
+        Ok(()) => true,
+        Err(_) => false,
     }
 }
 
@@ -149,29 +151,27 @@ fn walk_slots(
     from: usize,
     k: usize,
     start: usize,
-) -> Sum
+) -> Option<usize>
     requires k_bound { (from + k ≤ 6144) × (slot_place (from + k) ≤ length slots.now) × (from + k ≤ length words.now) × (12 ≤ length objects.now) × (start ≤ used_of objects.now) × (used_of objects.now ≤ length bytes.now) × (used_of objects.now ≤ 32768) }
     requires k_bound_2 { k ≤ elements + 1 }
     ensures { result ≡ slots_from (dict objects.now slots.now words.now bytes.now) elements k from start }
 {
     let used = used_of(objects);
     let end = from + k;
-    let mut p = from;
     let mut b = start;
-    while p < end {
+    for p in from..end {
         if !slot_ok(slots, words, bytes, used, p, b) {
-            return Sum::Bad;
+            return None;
         }
         b += room_at(slots, p) as usize;
-        p += 1;
     }
     if elements < k as u64 {
         let q = end - 1;
         if !tight(type_at(slots, q), words[q], room_at(slots, q)) {
-            return Sum::Bad;
+            return None;
         }
     }
-    Sum::Upto(b)
+    Some(b)
 }
 
 fn row_ok(objects: &[u64], i: usize, v: usize, b: usize, low: u64) -> bool
@@ -211,35 +211,33 @@ fn row_fits(objects: &[u64], bytes: &[u8], i: usize, v: usize, b: usize) -> bool
     is_good(bytes, b, len as usize)
 }
 
-fn walk_rows(objects: &[u64], slots: &[u64], words: &[u64], bytes: &[u8]) -> Walk
+fn walk_rows(objects: &[u64], slots: &[u64], words: &[u64], bytes: &[u8]) -> Option<(usize, usize)>
     requires { Long (dict objects.now slots.now words.now bytes.now) }
     ensures { result ≡ rows_from (dict objects.now slots.now words.now bytes.now) (number_of objects.now) 0 0 0 0 }
 {
     let n = number_of(objects) as usize;
-    let mut i = 0;
     let mut v = 0;
     let mut b = 0;
     let mut low = 0;
-    while i < n {
+    for i in 0..n {
         if !row_ok(objects, i, v, b, low) {
-            return Walk::Broken;
+            return None;
         }
         if !row_fits(objects, bytes, i, v, b) {
-            return Walk::Broken;
+            return None;
         }
         let count = count_at(objects, i);
         let used = count as usize + default_at(objects, i) as usize;
         let len = name_len_at(objects, i) as usize;
         let index = index_at(objects, i);
-        let Sum::Upto(e) = walk_slots(objects, slots, words, bytes, count, v, used, b + len) else {
-            return Walk::Broken;
+        let Some(e) = walk_slots(objects, slots, words, bytes, count, v, used, b + len) else {
+            return None;
         };
         v += used;
         b = e;
         low = index + 1;
-        i += 1;
     }
-    Walk::Whole(v, b)
+    Some((v, b))
 }
 
 fn header_ok(objects: &[u64], slots: &[u64], words: &[u64], bytes: &[u8]) -> bool
@@ -273,7 +271,7 @@ pub fn well_formed(objects: &[u64], slots: &[u64], words: &[u64], bytes: &[u8]) 
     }
     let m = values_of(objects) as usize;
     let used = used_of(objects) as usize;
-    let Walk::Whole(v, b) = walk_rows(objects, slots, words, bytes) else {
+    let Some((v, b)) = walk_rows(objects, slots, words, bytes) else {
         return false;
     };
     (v == m) & (b == used)

@@ -1,7 +1,7 @@
 // The act of insertion: gaps are opened and filled. It cannot fail.
 #![tactic(auto)]
 
-ghost use Rattle.std.specs.Prelude.{◌≡◌, false, cond, ◌++◌, ℕ, ◌+◌, ◌-◌, ◌*◌, ◌^◌, ◌≤◌, ◌<◌, length, get_or, take, drop};
+ghost use Rattle.std.specs.Prelude.{◌≡◌, false, ◌++◌, ℕ, ◌+◌, ◌-◌, ◌*◌, ◌^◌, ◌≤◌, ◌<◌, length, get_or, take, drop};
 ghost use Rattle.lists.specs.Lists.{over, grown, spliced};
 ghost use Rattle.value.specs.Codec.{is_text};
 ghost use Rattle.entry.specs.Model.{rooms, words_of};
@@ -10,7 +10,7 @@ ghost use Rattle.rows.specs.Rows.{rows_grown, starts_grown, totalled};
 ghost use Rattle.given.specs.Given.{word_in, room_of, given, rooms_in, slots_in, count_in, obj_in, Values};
 ghost use Rattle.placing.specs.Place.{row_in, inserted, Room};
 
-use given::{Head, length_in, room_in, type_in};
+use given::{Head, held_in, length_in, room_in, type_in};
 
 // The word that an encoding says.
 fn word_in(t: u64, s: &[u8], start: usize, len: usize) -> u64
@@ -23,26 +23,17 @@ fn word_in(t: u64, s: &[u8], start: usize, len: usize) -> u64
     lists::number(s, start, len)
 }
 
-// How many of its bytes lie in the room.
-fn held_of(t: u64, len: usize) -> usize
-    ensures { result ≡ cond (is_text t) len 0 }
-{
-    if value::is_text(t) { len } else { 0 }
-}
-
 // The new object's slots, words and rooms, laid into the gaps.
 fn fill_slots(slots: &mut [u64], v: usize, b: usize, vals: &[u64], u: usize)
     requires u_bound { (u ≤ 255) × (v + u ≤ 6144) × (slot_place (v + u) ≤ length slots.old) × (3 * u ≤ length vals.now) }
     requires u_bound_2 { b + rooms_in vals.now u 0 ≤ 32768 }
     ensures { slots.new ≡ over slots.old (slot_place v) (slots_in vals.now u 0 b) }
 {
-    let mut j = 0;
     let mut start = b;
-    while j < u {
+    for j in 0..u {
         let room = room_in(vals, j);
         rows::set_slot(slots, v + j, type_in(vals, j), start as u64, room);
         start += room as usize;
-        j += 1;
     }
 }
 
@@ -50,14 +41,11 @@ fn fill_words(words: &mut [u64], v: usize, vals: &[u64], encodings: &[u8], u: us
     requires { (v + u ≤ length words.old) × Values vals.now encodings.now u }
     ensures { words.new ≡ over words.old v (words_of (given vals.now encodings.now u 0 0)) }
 {
-    let mut j = 0;
     let mut t = 0;
-    while j < u {
+    for j in 0..u {
         let len = length_in(vals, j) as usize;
-        let word = word_in(type_in(vals, j), encodings, t, len);
-        words[v + j] = word;
+        words[v + j] = word_in(type_in(vals, j), encodings, t, len);
         t += len;
-        j += 1;
     }
 }
 
@@ -75,17 +63,15 @@ fn fill_rooms(bytes: &mut [u8], at: usize, vals: &[u64], encodings: &[u8], u: us
     requires { (at + rooms_in vals.now u 0 ≤ length bytes.old) × Values vals.now encodings.now u }
     ensures { bytes.new ≡ over bytes.old at (rooms (given vals.now encodings.now u 0 0)) }
 {
-    let mut j = 0;
     let mut p = at;
     let mut t = 0;
-    while j < u {
+    for j in 0..u {
         let room = room_in(vals, j) as usize;
         let len = length_in(vals, j) as usize;
-        let held = held_of(type_in(vals, j), len);
+        let held = held_in(type_in(vals, j), len);
         fill_room(bytes, p, room, encodings, t, held);
         p += room;
         t += len;
-        j += 1;
     }
 }
 
@@ -122,7 +108,7 @@ fn insert_bytes(
     requires { (b ≤ used) × (used + g ≤ length bytes.old) × (g ≡ length name.now + rooms_in vals.now u 0) × Values vals.now encodings.now u }
     ensures { bytes.new ≡ spliced b used (name.now ++ rooms (given vals.now encodings.now u 0 0)) bytes.old }
 {
-    lists::move_up_bytes(bytes, b, used, g);
+    lists::move_up(bytes, b, used, g);
     lists::lay(bytes, b, name);
     fill_rooms(bytes, b + name.len(), vals, encodings, u);
 }
@@ -171,7 +157,8 @@ fn insert_object(
     rows::set_totals(objects, (n + 1) as u64, m + u as u64, used + g as u64);
 }
 
-// How many values, and how many bytes, lie before object i.
+// How many values, and how many bytes, lie before object i. One function over both would take its two reads as closures, with clauses
+// on what these answer, and be longer than the two.
 pub fn values_before(objects: &[u64], i: usize) -> usize
     requires { (number_of objects.now ≤ 1024) × (row_place (number_of objects.now) ≤ length objects.now) }
     ensures { result ≡ values_before objects.now i }

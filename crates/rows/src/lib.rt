@@ -16,7 +16,7 @@ pub fn lay_header(objects: &mut [u64], edition: u64)
     ensures { objects.new ≡ over objects.old 0 (header edition []) }
 {
     let words = [0, 0, 0, edition, 0, 0, 0, 0, 0, 0, 0, 0];
-    lists::lay_words(objects, 0, &words);
+    lists::lay(objects, 0, &words);
 }
 
 // The header's totals.
@@ -87,7 +87,7 @@ pub fn insert_row(objects: &mut [u64], i: usize, n: usize, row: &[u64; 12], u: u
     lists::grow(objects, 12 * i + 16, 12, n - i, u);
     lists::grow(objects, 12 * i + 17, 12, n - i, g);
     lists::move_up(objects, 12 * i + 12, 12 * n + 12, 12);
-    lists::lay_words(objects, 12 * i + 12, row);
+    lists::lay(objects, 12 * i + 12, row);
 }
 
 // The rows behind row i of n move down, with u values and g bytes less before them; the header's totals fall.
@@ -95,8 +95,8 @@ pub fn remove_row(objects: &mut [u64], i: usize, n: usize, u: u64, g: u64)
     requires { (i < n) × (n ≤ 1024) × (row_place n ≤ length objects.old) }
     ensures { objects.new ≡ totalled (n - 1) (values_of objects.old - u) (used_of objects.old - g) (rows_fallen i (n - (i + 1)) u g (over objects.old (row_place i) (slice (row_end i) (row_place n) objects.old))) }
 {
-    let m = lists::less(values_of(objects), u);
-    let used = lists::less(used_of(objects), g);
+    let m = values_of(objects).saturating_sub(u);
+    let used = used_of(objects).saturating_sub(g);
     lists::move_down(objects, 12 * i + 12, 12 * i + 24, 12 * n + 12);
     lists::fall(objects, 12 * i + 16, 12, n - (i + 1), u);
     lists::fall(objects, 12 * i + 17, 12, n - (i + 1), g);

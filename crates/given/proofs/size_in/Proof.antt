@@ -1,4 +1,5 @@
 -- `given::size_in` meets its contract. Assumes nothing.
+use Rattle.std.specs.Prelude.{None}
 use mathlib.Core.Path.{◌≡◌, sym, ◌∙◌}
 use mathlib.Core.Bool.{cond}
 use Prim.Native.Nat.{◌-◌}
@@ -6,7 +7,6 @@ use lib.ListN.{length}
 use lib.Seq.{take-length}
 use borrow.Author.Tests.{eq-eqb, ne_eqb, lt-leb, le-leb}
 use Rattle.entry.proofs.JudgeLaws.{head_ok_lem}
-use Rattle.given.specs.declared.Size.TheVariants as sz
 use Rattle.given.specs.Given.{count_in, range_in, size_in, vals_in}
 use Rattle.given.proofs.RightLaws.{size_judged}
 use native.Mathlib.Omega.{arith}
@@ -30,7 +30,7 @@ abbrev start : tie.Else-not-is_good → tie.Start
 start c = c.before.before.before.before.before.before.before.before.before.before
 
 -- the words add up, the default is there, the head and the name are right
-asked : (c : tie.Else-not-is_good) → let a = (start c).args in size_in a.head a.name.now a.vals.now a.encodings.now ≡ cond (range_in a.head) (vals_in a.vals.now a.encodings.now (count_in a.vals.now - a.head.default) (count_in a.vals.now) 0 0 (length a.name.now)) sz.Bad
+asked : (c : tie.Else-not-is_good) → let a = (start c).args in size_in a.head a.name.now a.vals.now a.encodings.now ≡ cond (range_in a.head) (vals_in a.vals.now a.encodings.now (count_in a.vals.now - a.head.default) (count_in a.vals.now) 0 0 (length a.name.now)) None
 asked c = size_judged _ _ _ _ ∙ simp (eq-eqb _ _ c.if-m-vals.false, le-leb _ _ c.if-u-flag.false, sym c.head_ok.ensures ∙ c.if-not-head_ok.false, sym (rw take-length at c.is_good.ensures) ∙ c.if-not-is_good.false)
 
 returns-5 : tie.Need-returns-then-not-range_in

@@ -10,6 +10,3 @@ abbrev pub invariant-loop-p : goal.invariant-loop-p
 invariant-loop-p l =
     (l.b ≤ used_of l.objects)
     × (plain_from (dict l.objects l.slots l.words l.bytes) l.k l.«from» l.start ≡ plain_from (dict l.objects l.slots l.words l.bytes) (l.«from» + l.k - l.p) l.p l.b)
-
-abbrev pub decreases-loop-p : goal.decreases-loop-p
-decreases-loop-p l = l.«from» + l.k - l.p

@@ -1,7 +1,6 @@
 -- `placing::fill_words` meets its contract. The loop's invariant: what is still to be laid, laid from here on, gives the same. Assumes nothing.
 use mathlib.Core.Path.{◌≡◌}
-use Prim.Native.Nat.{◌≤◌, ◌-◌, ◌+◌}
-use lib.ListN.{length}
+use Prim.Native.Nat.{◌-◌, ◌+◌}
 use Rattle.lists.specs.Lists.{over}
 use Rattle.entry.specs.Model.{words_of}
 use Rattle.given.specs.Given.{given, lengths_in}
@@ -9,7 +8,5 @@ use Rattle.placing.proofs.fill_words.Given as goal
 
 abbrev pub invariant-loop-j : goal.invariant-loop-j
 invariant-loop-j l =
-    (l.j ≤ l.u) × (length l.words ≡ length l.initial.words) × (l.t + lengths_in l.vals (l.u - l.j) l.j ≡ lengths_in l.vals l.u 0) × (over l.initial.words l.v (words_of (given l.vals l.encodings l.u 0 0)) ≡ over l.words (l.v + l.j) (words_of (given l.vals l.encodings (l.u - l.j) l.j l.t)))
-
-abbrev pub decreases-loop-j : goal.decreases-loop-j
-decreases-loop-j l = l.u - l.j
+    (l.t + lengths_in l.vals (l.u - l.j) l.j ≡ lengths_in l.vals l.u 0)
+    × (over l.initial.words l.v (words_of (given l.vals l.encodings l.u 0 0)) ≡ over l.words (l.v + l.j) (words_of (given l.vals l.encodings (l.u - l.j) l.j l.t)))

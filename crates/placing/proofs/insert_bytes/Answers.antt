@@ -25,5 +25,5 @@ returns c =
     let o = over s (a.b + a.g) (slice a.b a.used s) in
     let ln = length_over s (a.b + a.g) (slice a.b a.used s) (omega (arith, sl, k.requires)) in
     let ol : a.b + length a.name.now ≤ length o = omega (arith, ln, k.requires) in
-    c.fill_rooms.ensures ∙ rw (c.lay.ensures, c.move_up_bytes.ensures)
+    c.fill_rooms.ensures ∙ rw (c.lay.ensures, c.move_up.ensures)
     (over-over o a.b a.name.now (a.b + length a.name.now) r refl ol ∙ fill_gap s a.b a.used a.g (a.name.now ++ r) l k.requires.0 k.requires.1)

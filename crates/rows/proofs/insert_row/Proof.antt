@@ -18,7 +18,7 @@ returns c =
     let a = c.args in
     let s = grown 12 a.g (a.n - a.i) (12 * a.i + 17) (grown 12 a.u (a.n - a.i) (12 * a.i + 16) a.objects.now) in
     let l : length s ≡ length a.objects.now = length-grown 12 a.g (a.n - a.i) (12 * a.i + 17) (grown 12 a.u (a.n - a.i) (12 * a.i + 16) a.objects.now) ∙ length-grown 12 a.u (a.n - a.i) (12 * a.i + 16) a.objects.now in
-    c.lay_words.ensures ∙ rw (c.move_up.ensures, c.grow-2.ensures, c.grow.ensures) (fill_gap s (12 * a.i + 12) (12 * a.n + 12) 12 a.row.now (search rules) (omega (arith, c.requires.0)) (omega (arith, c.requires.0, l)))
+    c.lay.ensures ∙ rw (c.move_up.ensures, c.grow-2.ensures, c.grow.ensures) (fill_gap s (12 * a.i + 12) (12 * a.n + 12) 12 a.row.now (search rules) (omega (arith, c.requires.0)) (omega (arith, c.requires.0, l)))
 
 pub insert_row_spec : {M : Type 1} → statement M
 insert_row_spec =

@@ -4,4 +4,4 @@ use Rattle.rows.proofs.lay_header.Goals as goal
 
 pub returns : goal.returns
 unfolding all_words all_bytes
-returns c = c.lay_words.ensures
+returns c = c.lay.ensures

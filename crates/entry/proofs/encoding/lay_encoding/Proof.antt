@@ -50,7 +50,7 @@ part-lay-end c = omega (arith, inside c.before)
 lay-requires : tie.Need-lay-requires
 lay-requires c κs =
     let s = c.before.before in
-    omega (arith, ap length (string s), (begin s.before.before.before.before).requires.room)
+    (search rules, omega (arith, ap length (string s), (begin s.before.before.before.before).requires.room))
 
 put-number-requires : tie.Need-put_number-requires
 put-number-requires c κs =

@@ -20,14 +20,14 @@ sub-at-requires c κs =
     let f = i in
     let a = f in
     let s = a.args.objects.now in
-    (a.requires, omega (arith, (found_row s a.args.index (number_of s) 0 _ (sym f.find.ensures ∙ i.in-At.is)).below))
+    (a.requires, omega (arith, (found_row s a.args.index (number_of s) 0 _ (sym f.find.ensures ∙ i.in-Some.is)).below))
 
 returns-2 : tie.Need-returns
 returns-2 c =
     let i = c in
     let f = i in
     let a = f.args in
-    c.sub_at.ensures ∙ ap (on_row a.objects.now a.sub) (sym i.in-At.is ∙ f.find.ensures)
+    c.sub_at.ensures ∙ ap (on_row a.objects.now a.sub) (sym i.in-Some.is ∙ f.find.ensures)
 
 pub locate_spec : {M : Type 1} → statement M
 locate_spec =

@@ -1,8 +1,6 @@
 -- `entry::lookup::lower` meets its contract: rows before the part that is left are below, and rows behind it are not. Assumes nothing.
-use Prim.Native.Nat.{ℕ, ◌+◌, ◌/◌, ◌-◌, ◌<◌, ◌≤◌}
+use Prim.Native.Nat.{ℕ, ◌-◌, ◌<◌, ◌≤◌}
 use Rattle.entry.specs.Table.{number_of, index_at}
-use Rattle.entry.proofs.FindLaws.{all-before, all-behind}
-use native.Mathlib.Omega.{arith}
 use Rattle.entry.proofs.lookup.lower.Given as goal
 
 abbrev pub invariant-loop-low : goal.invariant-loop-low

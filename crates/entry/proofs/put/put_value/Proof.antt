@@ -23,7 +23,7 @@ untexted c = rw c.type_at-t.ensures at (sym c.is_text.ensures ∙ c.if-is_text.f
 lay-requires : tie.Need-lay-requires
 lay-requires c κs =
     let b = c.before.before in
-    omega (arith, c.start_at-start.ensures, b.requires.text (texted b))
+    (search rules, omega (arith, c.start_at-start.ensures, b.requires.text (texted b)))
 
 number-requires : tie.Need-number-requires
 number-requires c κs =

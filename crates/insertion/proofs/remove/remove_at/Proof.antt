@@ -28,13 +28,13 @@ sub-g : tie.Need-overflow_sub-g
 sub-g c = omega (arith, (inside c).bytes)
 
 move-down-requires : tie.Need-move_down-requires
-move-down-requires c κs = let p = c.before in let s = begin p in ((inside p).values, (inside p).last, omega (arith, (spot p).values, s.requires.1.0.words))
+move-down-requires c κs = let p = c.before in let s = begin p in (search rules, ((inside p).values, (inside p).last, omega (arith, (spot p).values, s.requires.1.0.words)))
 
 remove-slots-requires : tie.Need-remove_slots-requires
 remove-slots-requires c κs = let p = c.before.before.before.before.before in let s = begin p in ((inside p).values, (inside p).last, omega (arith, (spot p).values, s.requires.1.0.values), omega (arith, (spot p).values, s.requires.1.0.slots))
 
-move-down-bytes-requires : tie.Need-move_down_bytes-requires
-move-down-bytes-requires c κs = let p = c.before.before.before.before.before.before.before.before.before in let s = begin p in ((inside p).bytes, (inside p).end, omega (arith, (spot p).bytes, s.requires.1.0.bytes))
+move-down-bytes-requires : tie.Need-move_down-requires-2
+move-down-bytes-requires c κs = let p = c.before.before.before.before.before.before.before.before.before in let s = begin p in (search rules, ((inside p).bytes, (inside p).end, omega (arith, (spot p).bytes, s.requires.1.0.bytes)))
 
 remove-row-requires : tie.Need-remove_row-requires
 remove-row-requires c κs = let p = c.before.before.before.before.before.before.before.before.before.before.before.before.before in let s = begin p in (omega (arith, (spot p).number, s.requires.1.1), omega (arith, (spot p).number, s.requires.1.0.few), omega (arith, (spot p).number, s.requires.1.0.rows))
@@ -47,7 +47,7 @@ returns c =
     (c.remove_row.ensures ∙ objects_gone (model_of (D s)) (D s) s.requires.0 s.args.i _ _ _ _ _ _ _ s.requires.1.1 (spot p))
     (c.remove_slots.ensures ∙ slots_gone (model_of (D s)) (D s) s.requires.0 s.args.i _ _ _ _ _ _ _ s.requires.1.1 (spot p))
     (c.move_down.ensures ∙ words_gone (model_of (D s)) (D s) s.requires.0 s.args.i _ _ _ _ _ _ _ s.requires.1.1 (spot p))
-    (c.move_down_bytes.ensures ∙ bytes_gone (model_of (D s)) (D s) s.requires.0 s.args.i _ _ _ _ _ _ _ s.requires.1.1 (spot p))
+    (c.move_down-2.ensures ∙ bytes_gone (model_of (D s)) (D s) s.requires.0 s.args.i _ _ _ _ _ _ _ s.requires.1.1 (spot p))
 
 pub remove_at_spec : {M : Type 1} → statement M
 remove_at_spec =

@@ -1,0 +1,13 @@
+-- `placing::fill_rooms` meets its contract. The loop's invariant: what is still to be laid, laid from here on, gives the same. Assumes nothing.
+use mathlib.Core.Path.{◌≡◌}
+use Prim.Native.Nat.{◌-◌, ◌+◌}
+use Rattle.lists.specs.Lists.{over}
+use Rattle.entry.specs.Model.{rooms}
+use Rattle.given.specs.Given.{given, rooms_in, lengths_in}
+use Rattle.placing.proofs.fill_rooms.Given as goal
+
+abbrev pub invariant-loop-j : goal.invariant-loop-j
+invariant-loop-j l =
+    (l.p + rooms_in l.vals (l.u - l.j) l.j ≡ l.at + rooms_in l.vals l.u 0)
+    × (l.t + lengths_in l.vals (l.u - l.j) l.j ≡ lengths_in l.vals l.u 0)
+    × (over l.initial.bytes l.at (rooms (given l.vals l.encodings l.u 0 0)) ≡ over l.bytes l.p (rooms (given l.vals l.encodings (l.u - l.j) l.j l.t)))
