@@ -8,9 +8,10 @@ use native.Mathlib.Omega.{arith}
 use lib.ListN.{length, length-append}
 use Rattle.lists.specs.Lists.{over}
 use Rattle.lists.specs.Numbers.{bytes_of}
-use Rattle.lists.proofs.ListLaws.{over_none, over-over, lay_two, lay_next}
+use Rattle.lists.proofs.ListLaws.{length_over, over_none, over-over, over_comm, lay_two, lay_next}
 use Rattle.lists.proofs.NumberLaws.{length-bytes_of}
 use Rattle.image.specs.Image.{Rec, head_of, heads, bodies, image_of}
+use Rattle.commands.specs.Save.{recs_laid}
 
 -- ---- lengths
 pub length_head : (index sub type start len : ℕ) → length (head_of index sub type start len) ≡ 8
@@ -75,13 +76,24 @@ pub bodies_two : (s : List ℕ) (a : ℕ) (xs ys : List Rec) (b : ℕ) → b ≡
     → over s a (bodies (xs ++ ys)) ≡ over (over s a (bodies xs)) b (bodies ys)
 bodies_two s a xs ys b e h = ap (over s a) (bodies-append xs ys) ∙ lay_two s a (bodies xs) (bodies ys) b e h
 
-pub heads_none : (s : List ℕ) (a start : ℕ) (rs : List Rec) → rs ≡ [] → over s a (heads start rs) ≡ s
-unfolding heads
-heads_none s a start rs e = rw e (over_none s a)
+-- a table laid behind another one, records behind records and bodies behind bodies
+pub laid_two : (s : List ℕ) (a b start : ℕ) (xs ys : List Rec) → a + 8 * (length xs + length ys) ≤ b → b + start + (length (bodies xs) + length (bodies ys)) ≤ length s
+    → recs_laid s a b start (xs ++ ys) ≡ recs_laid (recs_laid s a b start xs) (a + 8 * length xs) b (start + length (bodies xs)) ys
+laid_two s a b start xs ys h k =
+    let hx = heads start xs in
+    let next = start + length (bodies xs) in
+    let hy = heads next ys in
+    let x = over s a hx in
+    let lx : length x ≡ length s = length_over s a hx (omega (arith, length-heads start xs)) in
+    let y = over x (a + 8 * length xs) hy in
+    let ly : length y ≡ length x = length_over x (a + 8 * length xs) hy (omega (arith, lx, length-heads next ys)) in
+    ap (λ z. over z (b + start) (bodies (xs ++ ys))) (heads_two s a start xs ys (a + 8 * length xs) refl (omega arith))
+    ∙ bodies_two y (b + start) xs ys (b + next) (omega arith) (omega (arith, lx, ly))
+    ∙ ap (λ z. over z (b + next) (bodies ys)) (over_comm x (a + 8 * length xs) hy (b + start) (bodies xs) (omega (arith, length-heads next ys)) (omega (arith, lx)))
 
-pub bodies_none : (s : List ℕ) (a : ℕ) (rs : List Rec) → rs ≡ [] → over s a (bodies rs) ≡ s
-unfolding bodies
-bodies_none s a rs e = rw e (over_none s a)
+pub laid_none : (s : List ℕ) (a b start : ℕ) (rs : List Rec) → rs ≡ [] → recs_laid s a b start rs ≡ s
+unfolding heads bodies
+laid_none s a b start rs e = rw e (ap (λ x. over x (b + start) []) (over_none s a) ∙ over_none s (b + start))
 
 pub no_bytes : (rs : List Rec) → rs ≡ [] → length (bodies rs) ≡ 0
 unfolding bodies

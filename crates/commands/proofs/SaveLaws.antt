@@ -1,9 +1,11 @@
 -- The two answers of a save, and what StoreFull is judged by.
 -- Assumes nothing.
+use Rattle.std.specs.Prelude.{Ok, Err}
 use mathlib.Core.Path.{◌≡◌, sym, ap, ◌∙◌}
 use mathlib.Core.Bool.{true, false}
 use mathlib.Core.List.{List}
 use Prim.Native.Nat.{ℕ, ◌+◌, ◌*◌, ◌≤◌, ◌<◌}
+use native.Mathlib.Nat.{add-zero}
 use native.Mathlib.Omega.{arith}
 use borrow.Author.Tests.{le-leb, lt-leb}
 use lib.Dec.{leb}
@@ -13,11 +15,10 @@ use Rattle.lists.specs.Lists.{over}
 use Rattle.lists.specs.Numbers.{bytes_of}
 use Rattle.entry.specs.Table.{Dict}
 use Rattle.entry.proofs.WalkLaws.{and_false}
-use Rattle.image.specs.Image.{Rec, heads, bodies, image_of, new_table, offered_in, offered}
+use Rattle.image.specs.Image.{Rec, bodies, image_of, new_table, offered_in, offered}
 use Rattle.image.specs.Ranges.{range_of}
 use Rattle.image.specs.declared.ranging.Range.{Range}
-use Rattle.commands.specs.Save.{fits, after_save, save_of, size_in}
-use Rattle.commands.specs.declared.Saved.TheVariants.{Done, Refused}
+use Rattle.commands.specs.Save.{fits, after_save, save_of, size_in, recs_laid}
 use Rattle.commands.specs.declared.offering.Size.{Size}
 use Rattle.commands.proofs.ImageLaws.{image-laid, length-image}
 
@@ -44,11 +45,11 @@ module _ (rs : List Rec) (store : List ℕ) where
 
 module _ (d : Dict) (l : ℕ) (store : List ℕ) where
   -- R10.3: "StoreFull (18), judged before the first byte"
-  pub save-full : fits (new_table d l store) store ≡ false → save_of d store l ≡ after_save (Refused StoreFull) store
+  pub save-full : fits (new_table d l store) store ≡ false → save_of d store l ≡ after_save (Err StoreFull) store
   unfolding save_of
   save-full e = rw e
 
-  pub save_done : fits (new_table d l store) store ≡ true → save_of d store l ≡ after_save Done (over store 0 (image_of (new_table d l store)))
+  pub save_done : fits (new_table d l store) store ≡ true → save_of d store l ≡ after_save (Ok tt) (over store 0 (image_of (new_table d l store)))
   unfolding save_of
   save_done e = rw e
 
@@ -60,21 +61,21 @@ module _ (d : Dict) (store : List ℕ) (l : ℕ) (range : Range) (e : range ≡ 
   pub measured_bytes : z.bytes ≡ length (bodies (offered d l))
   measured_bytes = ap (λ (z : Size). z.bytes) h ∙ ap (λ (r : Range). length (bodies (offered_in d r.first r.last))) e
 
-  pub full_of_records : 2048 < z.records → after_save (Refused StoreFull) store ≡ save_of d store l
+  pub full_of_records : 2048 < z.records → after_save (Err StoreFull) store ≡ save_of d store l
   full_of_records k = sym (save-full d l store (many_records (offered d l) store (omega (arith, measured_records))))
 
-  pub full_of_bytes : 16384 < z.bytes → after_save (Refused StoreFull) store ≡ save_of d store l
+  pub full_of_bytes : 16384 < z.bytes → after_save (Err StoreFull) store ≡ save_of d store l
   full_of_bytes k = sym (save-full d l store (many_bytes (offered d l) store (omega (arith, measured_bytes))))
 
-  pub full_of_length : length store < 2 + 8 * z.records + z.bytes → after_save (Refused StoreFull) store ≡ save_of d store l
+  pub full_of_length : length store < 2 + 8 * z.records + z.bytes → after_save (Err StoreFull) store ≡ save_of d store l
   full_of_length k = sym (save-full d l store (short_store (offered d l) store (omega (arith, measured_records, measured_bytes))))
 
-  -- the count, the records and the bodies, laid one after the other, are the image
-  pub laid : z.records ≤ 2048 → z.bytes ≤ 16384 → 2 + 8 * z.records + z.bytes ≤ length store → (a b c : List ℕ) → a ≡ over store 0 (bytes_of 2 z.records) → b ≡ over a 2 (heads 0 (offered_in d range.first range.last))
-      → c ≡ over b (2 + 8 * z.records) (bodies (offered_in d range.first range.last)) → after_save Done c ≡ save_of d store l
-  laid k m n a b c p q r =
+  -- the count, and the records and the bodies behind it, are the image
+  pub laid : z.records ≤ 2048 → z.bytes ≤ 16384 → 2 + 8 * z.records + z.bytes ≤ length store → (a b : List ℕ) → a ≡ over store 0 (bytes_of 2 z.records)
+      → b ≡ recs_laid a 2 (2 + 8 * z.records) 0 (offered_in d range.first range.last) → after_save (Ok tt) b ≡ save_of d store l
+  laid k m n a b p q =
       let rs = offered d l in
       let listed : offered_in d range.first range.last ≡ rs = ap (λ (r : Range). offered_in d r.first r.last) e in
       let w : length (image_of rs) ≤ length store = omega (arith, length-image rs, measured_records, measured_bytes) in
       let f = it_fits rs store (omega (arith, measured_records)) (omega (arith, measured_bytes)) (omega (arith, measured_records, measured_bytes)) in
-      ap (after_save Done) (rw (r, q, p, listed, measured_records) (image-laid store rs w)) ∙ sym (save_done d l store f)
+      ap (after_save (Ok tt)) (rw (q, p, listed, measured_records, add-zero) (image-laid store rs w)) ∙ sym (save_done d l store f)

@@ -1,10 +1,10 @@
 -- An image and its table: the image of a right table is readable and holds it, whatever lies behind; and a readable image is the image
 -- of the table that it holds.
 -- Assumes nothing.
+use Rattle.std.specs.Prelude.{Some, None}
 use mathlib.Core.Path.{◌≡◌, refl, sym, ap, ap₂, ◌∙◌}
 use mathlib.Core.Bool.{Bool, true, false, cond}
 use mathlib.Core.List.{List, [], ◌∷◌, ◌++◌, append_assoc}
-use mathlib.Core.Option.{none, some}
 use Prim.Native.Nat.{ℕ, zero, suc, ◌+◌, ◌*◌, ◌^◌, ◌≤◌, ◌<◌}
 use native.Mathlib.Nat.{add-zero}
 use native.Mathlib.Omega.{arith}
@@ -118,7 +118,7 @@ reads s b (r ∷ rs) a sum low xs ys e f w g h =
         }
 
 -- R10.6: "A table determines its image", and is read back from it, whatever lies behind
-pub image_read : (rs : List Rec) → Right rs → (more : List ℕ) → table_of (image_of rs ++ more) ≡ some rs
+pub image_read : (rs : List Rec) → Right rs → (more : List ℕ) → table_of (image_of rs ++ more) ≡ Some rs
 unfolding image_of table_of
 image_read rs r more =
     let s = image_of rs ++ more in
@@ -131,10 +131,10 @@ image_read rs r more =
     let w = reads s (2 + 8 * n) rs 2 0 0 (bodies rs ++ more) more e₂ e₃ (omega arith) r.good (omega (arith, r.small)) in
     let g : readable s ≡ true = counted s (omega (arith, r.few)) (omega arith) ∙ ap (λ k. heads_ok s k 2 (2 + 8 * k) 0 0) f ∙ w.good in
     let t : recs_at s (field s 0 2) 2 (2 + 8 * field s 0 2) ≡ rs = ap (λ k. recs_at s k 2 (2 + 8 * k)) f ∙ ap (recs_at s n 2) (sym (add-zero (2 + 8 * n))) ∙ w.same in
-    ap (λ b. cond b (some (recs_at s (field s 0 2) 2 (2 + 8 * field s 0 2))) none) g ∙ ap some t
+    ap (λ b. cond b (Some (recs_at s (field s 0 2) 2 (2 + 8 * field s 0 2))) None) g ∙ ap Some t
 
 -- restore finds what a save laid
-pub save_read : (d : Dict) → well_formed d ≡ true → (l : ℕ) (store : List ℕ) → fits (new_table d l store) store ≡ true → table_of (over store 0 (image_of (new_table d l store))) ≡ some (new_table d l store)
+pub save_read : (d : Dict) → well_formed d ≡ true → (l : ℕ) (store : List ℕ) → fits (new_table d l store) store ≡ true → table_of (over store 0 (image_of (new_table d l store))) ≡ Some (new_table d l store)
 unfolding over
 save_read d e l store f =
     let rs = new_table d l store in
@@ -212,12 +212,12 @@ pub record Readable (s : List ℕ) (rs : List Rec) : Type 0 where
   pub right : Right rs
   pub image : s ≡ image_of rs ++ drop (length (image_of rs)) s
 
-by_table : (b : Bool) (ts : List Rec) {rs : List Rec} → cond b (some ts) none ≡ some rs → (b ≡ true) × (ts ≡ rs)
+by_table : (b : Bool) (ts : List Rec) {rs : List Rec} → cond b (Some ts) None ≡ Some rs → (b ≡ true) × (ts ≡ rs)
 by_table true ts e = (refl, (cc))
 by_table false ts e = let z : ◌≡◌ {A = ℕ} 0 1 = cc in absurd (omega arith)
 
 -- an image that is accepted is the image of the table that it holds, and the rest
-pub table-image : (s : List ℕ) → Bytes s → (rs : List Rec) → table_of s ≡ some rs → Readable s rs
+pub table-image : (s : List ℕ) → Bytes s → (rs : List Rec) → table_of s ≡ Some rs → Readable s rs
 unfolding table_of readable image_of
 table-image s h rs e =
     let n = field s 0 2 in

@@ -10,13 +10,13 @@ use Rattle.lists.specs.Lists.{over}
 use Rattle.entry.specs.Table.{Dict, number_of, index_at, kind_at, first_at, type_at}
 use Rattle.entry.specs.Judge.{well_formed}
 use Rattle.entry.specs.Encode.{encoding_at, Lays}
-use Rattle.image.specs.Image.{Rec, sub_in, head_of, recs_in, offers, offered_from, heads, bodies}
+use Rattle.image.specs.Image.{Rec, to_store, sub_in, head_of, recs_in, offers, offered_from, heads, bodies}
 use Rattle.image.specs.Ranges.{Spans}
 use Rattle.image.specs.declared.ranging.Span.{Span}
-use Rattle.commands.specs.Save.{Row, length_in}
-use Rattle.commands.proofs.ImageLaws.{length-bodies, no_bytes, heads_two, bodies_two}
+use Rattle.commands.specs.Save.{Row, length_in, recs_laid}
+use Rattle.commands.proofs.ImageLaws.{length-bodies, no_bytes, laid_two}
 use Rattle.entry.proofs.ValueLaws.{row_lies}
-use Rattle.commands.proofs.OfferLaws.{recs_step, recs_end, recs_all, length_recs, one_body, offered-step, offered_end, offers_few, facts, length-value, length_small, lays}
+use Rattle.commands.proofs.OfferLaws.{recs_step, recs_end, recs_all, length_recs, one_body, offered-step, offered_end, offers-row, offers_few, facts, length-value, length_small, lays}
 
 -- ---- the values of row i
 module _ (d : Dict) (i : ℕ) where
@@ -34,47 +34,50 @@ module _ (d : Dict) (i : ℕ) where
   unfolding bodies
   left_end n k h = ap (λ rs. length (bodies rs)) (recs_end d i n k h)
 
-  pub heads_more : (store store' : List ℕ) (at n k s s' x : ℕ) → k < n → at + 8 * n ≤ length store
-      → x ≡ length (encoding_at d (first_at d.objects i + k)) → s' ≡ s + x → store' ≡ over store (at + 8 * k) (heads s (recs_in d i 1 k))
-      → over store (at + 8 * k) (heads s (recs_in d i (n - k) k)) ≡ over store' (at + 8 * (k + 1)) (heads s' (recs_in d i (n - (k + 1)) (k + 1)))
-  heads_more store store' at n k s s' x h l e f q =
-      let g : s' ≡ s + length (bodies (recs_in d i 1 k)) = omega (arith, one_body d i k) in
-      ap (λ rs. over store (at + 8 * k) (heads s rs)) (recs_step d i n k h)
-      ∙ heads_two store (at + 8 * k) s (recs_in d i 1 k) (recs_in d i (n - (k + 1)) (k + 1)) (at + 8 * (k + 1)) (omega (arith, length_recs d i 1 k)) (omega arith)
-      ∙ rw (q, g)
+  -- the record and the body of value k
+  pub one_laid : (store : List ℕ) (a b k x sub t s len : ℕ) → x ≡ index_at d.objects i → sub ≡ sub_in (kind_at d.objects i) k → t ≡ type_at d.slots (first_at d.objects i + k)
+      → len ≡ length (encoding_at d (first_at d.objects i + k))
+      → over (over store a (head_of x sub t s len)) (b + s) (encoding_at d (first_at d.objects i + k)) ≡ recs_laid store a b s (recs_in d i 1 k)
+  unfolding recs_in heads bodies
+  one_laid store a b k x sub t s len p q r e = rw (p, q, r, e) (simp append-nil)
 
-  -- one record
-  pub one_head : (k x sub t s len : ℕ) → x ≡ index_at d.objects i → sub ≡ sub_in (kind_at d.objects i) k → t ≡ type_at d.slots (first_at d.objects i + k)
-      → len ≡ length (encoding_at d (first_at d.objects i + k)) → head_of x sub t s len ≡ heads s (recs_in d i 1 k)
-  unfolding recs_in heads
-  one_head k x sub t s len a b c e = rw (a, b, c, e, append-nil)
+  -- value k, and those behind it
+  pub laid_more : (store store' : List ℕ) (at b n k s s' x : ℕ) → k < n → at + 8 * n ≤ b → b + s + left n k ≤ length store
+      → x ≡ length (bodies (recs_in d i 1 k)) → s' ≡ s + x → store' ≡ recs_laid store (at + 8 * k) b s (recs_in d i 1 k)
+      → recs_laid store (at + 8 * k) b s (recs_in d i (n - k) k) ≡ recs_laid store' (at + 8 * (k + 1)) b s' (recs_in d i (n - (k + 1)) (k + 1))
+  laid_more store store' at b n k s s' x h l m e f q =
+      let one = recs_in d i 1 k in
+      let more = recs_in d i (n - (k + 1)) (k + 1) in
+      let a' : at + 8 * k + 8 * length one ≡ at + 8 * (k + 1) = omega (arith, length_recs d i 1 k) in
+      let g : s + length (bodies one) ≡ s' = omega arith in
+      ap (recs_laid store (at + 8 * k) b s) (recs_step d i n k h)
+      ∙ laid_two store (at + 8 * k) b s one more (omega (arith, length_recs d i 1 k, length_recs d i (n - (k + 1)) (k + 1))) (omega (arith, left_step n k h, one_body d i k))
+      ∙ rw (a', g, q)
 
-  one_bodies : (k : ℕ) → bodies (recs_in d i 1 k) ≡ encoding_at d (first_at d.objects i + k)
-  unfolding recs_in bodies
-  one_bodies k = append-nil (encoding_at d (first_at d.objects i + k))
+-- what was read of value k of row i, with f as the row's first slot, in the columns of m, of which d is the view
+module _ (m d : Dict) (v : m ≡ d) (e : well_formed m ≡ true) (i n : ℕ) (r : Row d.objects i n) (k : ℕ) (h : k < n) (f : ℕ) (q : f ≡ first_at m.objects i) where
+  row_in : Row m.objects i n
+  row_in = rw v r
 
-  pub bodies_more : (store store' : List ℕ) (n k p p' x : ℕ) → k < n → p + left n k ≤ length store
-      → x ≡ length (encoding_at d (first_at d.objects i + k)) → p' ≡ p + x → store' ≡ over store p (encoding_at d (first_at d.objects i + k))
-      → over store p (bodies (recs_in d i (n - k) k)) ≡ over store' p' (bodies (recs_in d i (n - (k + 1)) (k + 1)))
-  bodies_more store store' n k p p' x h l e f q =
-      let w : store' ≡ over store p (bodies (recs_in d i 1 k)) = q ∙ ap (over store p) (sym (one_bodies k)) in
-      ap (λ rs. over store p (bodies rs)) (recs_step d i n k h)
-      ∙ bodies_two store p (recs_in d i 1 k) (recs_in d i (n - (k + 1)) (k + 1)) p' (omega (arith, one_body d i k)) (omega (arith, left_step n k h))
-      ∙ rw w
+  pub value_few : n ≤ 254
+  value_few = omega (arith, (row_lies m e i row_in.below).few, row_in.within)
 
--- what was read of value k of row i, with f as the row's first slot
-module _ (d : Dict) (e : well_formed d ≡ true) (i n : ℕ) (r : Row d.objects i n) (k : ℕ) (h : k < n) (f : ℕ) (q : f ≡ first_at d.objects i) where
-  pub value_there : (f + k < 6144) × (3 * (f + k) + 3 ≤ length d.slots) × (f + k < length d.words)
-  value_there = let v = facts d e i n r k h in rw q (v.low, v.slot, v.word)
+  length_in_m : (x : ℕ) → x ≡ length_in m.slots m.words (f + k) → x ≡ length (encoding_at m (first_at m.objects i + k))
+  length_in_m x z = z ∙ ap (λ t. length_in m.slots m.words (t + k)) q ∙ length-value m e i n row_in k h
 
-  pub value-length : (x : ℕ) → x ≡ length_in d.slots d.words (f + k) → x ≡ length (encoding_at d (first_at d.objects i + k))
-  value-length x z = z ∙ ap (λ m. length_in d.slots d.words (m + k)) q ∙ length-value d e i n r k h
+  pub value_there : (f + k < 6144) × (3 * (f + k) + 3 ≤ length m.slots) × (f + k < length m.words)
+  value_there = let t = facts m e i n row_in k h in rw q (t.low, t.slot, t.word)
 
-  pub value_small : (x : ℕ) → x ≡ length_in d.slots d.words (f + k) → x ≤ 1490
-  value_small x z = omega (arith, value-length x z, length_small d e i n r k h)
+  pub value-length : (x : ℕ) → x ≡ length_in m.slots m.words (f + k) → x ≡ length (encoding_at d (first_at d.objects i + k))
+  value-length x z = rw (sym v) (length_in_m x z)
 
-  pub value_lays : (store : List ℕ) (a : ℕ) → a + left d i n k ≤ length store → Lays d.slots d.words d.bytes (f + k) store a
-  value_lays store a l = rw q (lays d e i n r k h store a (omega (arith, left_step d i n k h)))
+  pub value_small : (x : ℕ) → x ≡ length_in m.slots m.words (f + k) → x ≤ 1490
+  value_small x z = omega (arith, length_in_m x z, length_small m e i n row_in k h)
+
+  pub value_lays : (store : List ℕ) (a : ℕ) → a + length (bodies (recs_in d i 1 k)) ≤ length store → Lays m.slots m.words m.bytes (f + k) store a
+  value_lays store a l =
+      let l' : a + length (bodies (recs_in m i 1 k)) ≤ length store = rw v l in
+      rw q (lays m e i n row_in k h store a (omega (arith, l', one_body m i k)))
 
 -- ---- the rows of a range
 module _ (d : Dict) (first last : ℕ) where
@@ -115,21 +118,15 @@ module _ (d : Dict) (first last : ℕ) where
       split : rest i ≡ recs_in d i m 0 ++ rest (i + 1)
       split = offered-step d first last (number_of d.objects) i h ∙ ap (λ t. recs_in d i t 0 ++ rest (i + 1)) (sym z)
 
-      pub heads_rows : (store store' : List ℕ) (at at' s s' : ℕ) → at + 8 * records i ≤ length store → at' ≡ at + 8 * m
-          → s' ≡ s + length (bodies (recs_in d i m 0)) → store' ≡ over store at (heads s (recs_in d i m 0))
-          → over store at (heads s (rest i)) ≡ over store' at' (heads s' (rest (i + 1)))
-      heads_rows store store' at at' s s' b f g q =
-          ap (λ t. over store at (heads s t)) split
-          ∙ heads_two store at s (recs_in d i m 0) (rest (i + 1)) at' (omega (arith, length_recs d i m 0)) (omega (arith, records-step))
-          ∙ rw (q, g)
-
-      pub bodies_rows : (store store' : List ℕ) (p p' : ℕ) → p + room i ≤ length store → p' ≡ p + length (bodies (recs_in d i m 0))
-          → store' ≡ over store p (bodies (recs_in d i m 0)) → over store p (bodies (rest i)) ≡ over store' p' (bodies (rest (i + 1)))
-      bodies_rows store store' p p' b f q =
+      pub laid_rows : (store store' : List ℕ) (at at' b s s' : ℕ) → at + 8 * records i ≤ b → b + s + room i ≤ length store → at' ≡ at + 8 * m
+          → s' ≡ s + length (bodies (recs_in d i m 0)) → store' ≡ recs_laid store at b s (recs_in d i m 0)
+          → recs_laid store at b s (rest i) ≡ recs_laid store' at' b s' (rest (i + 1))
+      laid_rows store store' at at' b s s' h k f g q =
           let w : length (bodies (recs_in d i m 0)) ≡ length (bodies (recs_in d i (here i) 0)) = ap (λ t. length (bodies (recs_in d i t 0))) z in
-          ap (λ t. over store p (bodies t)) split
-          ∙ bodies_two store p (recs_in d i m 0) (rest (i + 1)) p' f (omega (arith, bytes_step))
-          ∙ rw q
+          let a' : at + 8 * length (recs_in d i m 0) ≡ at' = omega (arith, length_recs d i m 0) in
+          ap (recs_laid store at b s) split
+          ∙ laid_two store at b s (recs_in d i m 0) (rest (i + 1)) (omega (arith, length_recs d i m 0, records-step)) (omega (arith, bytes_step))
+          ∙ rw (a', g, q)
 
       -- what a row offers is there, and not too long
       pub row_there : Row d.objects i m
@@ -149,3 +146,40 @@ pub row_bytes : (d : Dict) → well_formed d ≡ true → (i n : ℕ) → Row d.
 row_bytes d e i n r =
     let z : n - n ≡ 0 = omega arith in
     omega (arith, row_small d e i n r n (omega arith), ap (left d i n) z, ap (λ rs. length (bodies rs)) (recs_all d i n))
+
+-- ---- the turn of a row of the range, of which n values are for the store
+pub record Turn (d : Dict) (first last i n : ℕ) : Type 0 where
+  pub below : i < number_of d.objects
+  pub low : i < 1024
+  pub offer : n ≡ offers d.objects first last i
+  pub row : Row d.objects i n
+  pub few : n ≤ 254
+  pub small : length (bodies (recs_in d i n 0)) ≤ 378460
+  pub records : records d first last i ≡ n + records d first last (i + 1)
+  pub room : room d first last i ≡ length (bodies (recs_in d i n 0)) + room d first last (i + 1)
+
+pub turn : (d : Dict) → well_formed d ≡ true → (first last : ℕ) {s : Span} → Spans d.objects first last s → (i n : ℕ) → s.from ≤ i → i < s.end → n ≡ to_store d.objects i → Turn d first last i n
+turn d e first last c i n lo hi q =
+    let h : i < number_of d.objects = omega (arith, c.high.within) in
+    let z = offers-row d first last c i n lo hi q in
+    let r = row_there d first last i h n z in
+    let f = row_few d first last i h n z e in
+    let w = ap (λ k. length (bodies (recs_in d i k 0))) z in
+    record {
+      below = h;
+      low = (row_lies d e i h).small;
+      offer = z;
+      row = r;
+      few = f;
+      small = omega (arith, f, row_bytes d e i n r);
+      records = omega (arith, records-step d first last i h);
+      room = omega (arith, bytes_step d first last i h, w);
+    }
+
+-- of the dictionary d, whose columns are those of m
+pub turned : (m d : Dict) → m ≡ d → well_formed m ≡ true → (first last : ℕ) {s : Span} → Spans m.objects first last s → (i n : ℕ) → s.from ≤ i → i < s.end → n ≡ to_store m.objects i
+    → Turn d first last i n
+turned m d v e first last c i n lo hi q = rw (sym v) (turn m e first last c i n lo hi q)
+
+pub spanned : (m d : Dict) → m ≡ d → (first last : ℕ) {s : Span} → Spans m.objects first last s → Spans d.objects first last s
+spanned m d v first last c = rw (sym v) c

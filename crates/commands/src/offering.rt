@@ -1,9 +1,10 @@
 // What a save offers, and how large it is.
-ghost use Rattle.std.specs.Prelude.{◌≡◌, true, ◌≤◌, ◌<◌, length};
-ghost use Rattle.entry.specs.Table.{dict, row_end, slot_end};
-ghost use Rattle.entry.specs.Judge.{well_formed};
+ghost use Rattle.std.specs.Prelude.{◌≡◌, ◌≤◌, ◌<◌, length};
+ghost use Rattle.entry.specs.Table.{row_end, slot_end};
 ghost use Rattle.image.specs.Image.{to_store, sub_in, recs_in, offered_in, bodies};
 ghost use Rattle.commands.specs.Save.{size_in, length_in, Row};
+
+use judge::Dictionary;
 
 // How many records, and how many bytes their bodies have.
 #[derive(Clone, Copy)]
@@ -46,52 +47,31 @@ pub fn length_at(slots: &[u64], words: &[u64], p: usize) -> usize
 }
 
 // The bytes of the bodies of n values of row i.
-fn row_bytes(
-    objects: &[u64],
-    slots: &[u64],
-    words: &[u64],
-    bytes: &[u8],
-    i: usize,
-    n: usize,
-) -> usize
-    requires bytes_value { well_formed (dict objects.now slots.now words.now bytes.now) ≡ true }
-    requires row { Row objects.now i n }
-    ensures { result ≡ length (bodies (recs_in (dict objects.now slots.now words.now bytes.now) i n 0)) }
+fn row_bytes(d: &Dictionary, i: usize, n: usize) -> usize
+    requires { Row d.now.objects i n }
+    ensures { result ≡ length (bodies (recs_in d.now i n 0)) }
 {
-    let first = entry::first_at(objects, i) as usize;
+    let first = entry::first_at(d.objects, i) as usize;
     let mut sum = 0;
-    let mut k = 0;
-    while k < n {
-        sum += length_at(slots, words, first + k);
-        k += 1;
+    for k in 0..n {
+        sum += length_at(d.slots, d.words, first + k);
     }
     sum
 }
 
-pub fn measure(
-    objects: &[u64],
-    slots: &[u64],
-    words: &[u64],
-    bytes: &[u8],
-    first: u16,
-    last: u16,
-) -> Size
-    requires { well_formed (dict objects.now slots.now words.now bytes.now) ≡ true }
-    ensures { result ≡ size_in (offered_in (dict objects.now slots.now words.now bytes.now) first last) }
+// How large it is. A walk of its own beside that of `lay`: nothing may be laid before all is measured.
+pub fn measure(d: &Dictionary, first: u16, last: u16) -> Size
+    ensures { result ≡ size_in (offered_in d.now first last) }
 {
-    let rows = image::rows_in(objects, first, last);
-    let end = rows.end;
-    let mut m = 0;
-    let mut sum = 0;
-    let mut i = rows.from;
-    while i < end {
-        let n = to_store(objects, i);
-        sum += row_bytes(objects, slots, words, bytes, i, n);
-        m += n;
-        i += 1;
+    let rows = image::rows_in(d.objects, first, last);
+    let mut size = Size {
+        records: 0,
+        bytes: 0,
+    };
+    for i in rows.from..rows.end {
+        let n = to_store(d.objects, i);
+        size.bytes += row_bytes(d, i, n);
+        size.records += n;
     }
-    Size {
-        records: m,
-        bytes: sum,
-    }
+    size
 }

@@ -6,34 +6,27 @@ ghost use Rattle.entry.specs.Table.{dict};
 ghost use Rattle.entry.specs.Judge.{well_formed};
 ghost use Rattle.counter.specs.Counter.{counter_at, after_increment, counter_of};
 
-use answers::{Answer, Refusal};
-use entry::{Found, Place};
+use answers::Refusal;
+use entry::Place;
+use judge::Dictionary;
 
 // The value that is a counter: a U32 that is a Variable or a Record's element.
-fn counter_at(
-    objects: &[u64],
-    slots: &[u64],
-    words: &[u64],
-    bytes: &[u8],
-    index: u16,
-    sub: u8,
-) -> Found
-    requires { well_formed (dict objects.now slots.now words.now bytes.now) ≡ true }
-    ensures { result ≡ counter_at (dict objects.now slots.now words.now bytes.now) index sub }
+fn counter_at(d: &Dictionary, index: u16, sub: u8) -> Option<usize>
+    ensures { result ≡ counter_at d.now index sub }
 {
-    let Found::At(i) = entry::find(objects, index) else {
-        return Found::Nothing;
+    let Some(i) = entry::find(d.objects, index) else {
+        return None;
     };
-    if entry::kind_at(objects, i) == 1 {
-        return Found::Nothing;
+    if entry::kind_at(d.objects, i) == 1 {
+        return None;
     }
-    let Place::Value(p) = entry::sub_at(objects, i, sub) else {
-        return Found::Nothing;
+    let Place::Value(p) = entry::sub_at(d.objects, i, sub) else {
+        return None;
     };
-    if entry::type_at(slots, p) == 7 {
-        return Found::At(p);
+    if entry::type_at(d.slots, p) == 7 {
+        return Some(p);
     }
-    Found::Nothing
+    None
 }
 
 // Adds 1 to a counter of a dictionary that was judged.
@@ -44,16 +37,22 @@ pub fn increment_counter_judged(
     bytes: &[u8],
     index: u16,
     sub: u8,
-) -> Answer
+) -> Result<(), Refusal>
     requires { well_formed (dict objects.now slots.now words.old bytes.now) ≡ true }
     ensures { after_increment result words.new ≡ counter_of (dict objects.now slots.now words.old bytes.now) index sub }
 {
-    let Found::At(p) = counter_at(objects, slots, words, bytes, index, sub) else {
-        return Answer::Done;
+    let d = Dictionary {
+        objects,
+        slots,
+        words: &*words,
+        bytes,
+    };
+    let Some(p) = counter_at(&d, index, sub) else {
+        return Ok(());
     };
     let value = words[p] as u32;
-    words[p] = std::num::wrapping_add_u32(value, 1) as u64;
-    Answer::Done
+    words[p] = value.wrapping_add(1) as u64;
+    Ok(())
 }
 
 // Adds 1 to a counter, modulo 2^32; elsewhere nothing happens.
@@ -64,11 +63,11 @@ pub fn increment_counter(
     bytes: &[u8],
     index: u16,
     sub: u8,
-) -> Answer
+) -> Result<(), Refusal>
     ensures { after_increment result words.new ≡ counter_of (dict objects.now slots.now words.old bytes.now) index sub }
 {
     if !judge::well_formed(objects, slots, words, bytes) {
-        return Answer::Refused(Refusal::Malformed);
+        return Err(Refusal::Malformed);
     }
     increment_counter_judged(objects, slots, words, bytes, index, sub)
 }

@@ -1,4 +1,5 @@
 -- What a choice comes from. Assumes nothing.
+use Rattle.std.specs.Prelude.{Option, Some, None}
 use mathlib.Core.Path.{◌≡◌, refl, ap, ◌∙◌}
 use mathlib.Core.Bool.{Bool, true, false, cond, ◌||◌, not}
 use mathlib.Core.List.{List}
@@ -10,8 +11,6 @@ use lib.ListN.{length}
 use Rattle.lists.proofs.NumberLaws.{part_length}
 use Rattle.value.specs.Codec.{exact}
 use Rattle.entry.specs.Table.{Dict, default_at}
-use Rattle.entry.specs.declared.Found.{Found}
-use Rattle.entry.specs.declared.Found.TheVariants.{At, Nothing}
 use Rattle.image.specs.Readable.{field, key_in, type_in, start_in, size_at, readable}
 use Rattle.fitting.specs.Records.{records, record_place, record_from, record_of, body_in, Body}
 use Rattle.fitting.specs.Fit.{default_in, key_at, has_default, choice_of, chosen_at}
@@ -25,12 +24,12 @@ record Among (n a : ℕ) : Type 0 where
   below : number < n
   place : a ≡ record_place number
 
-among : (s : List ℕ) (n k key a : ℕ) → record_from s n k key ≡ At a → Among (k + n) a
+among : (s : List ℕ) (n k key a : ℕ) → record_from s n k key ≡ Some a → Among (k + n) a
 unfolding record_from
 among s zero k key a e = let z : ◌≡◌ {A = ℕ} 0 1 = cc in absurd (omega arith)
 among s (suc n) k key a e = go (eqb (key_in s (record_place k)) key) e (among s n (suc k) key a)
   where
-    go : (b : Bool) → cond b (At (record_place k)) (record_from s n (suc k) key) ≡ At a → (record_from s n (suc k) key ≡ At a → Among (suc k + n) a) → Among (k + suc n) a
+    go : (b : Bool) → cond b (Some (record_place k)) (record_from s n (suc k) key) ≡ Some a → (record_from s n (suc k) key ≡ Some a → Among (suc k + n) a) → Among (k + suc n) a
     go true q ih = record { number = k; below = omega arith; place = cc }
     go false q ih = let r = ih q in record { number = r.number; below = omega (arith, r.below); place = r.place }
 
@@ -75,20 +74,20 @@ module _ (d : Dict) (s : List ℕ) (i k : ℕ) where
   unfolding chosen_at
   chosen_stored a e = go (record_of s (key_at d.objects i k)) refl e
     where
-      go : (f : Found) → record_of s (key_at d.objects i k) ≡ f → choice_of d i k f ≡ Stored a → StoredAt s a
-      go (At b) q h =
+      go : (f : Option ℕ) → record_of s (key_at d.objects i k) ≡ f → choice_of d i k f ≡ Stored a → StoredAt s a
+      go (Some b) q h =
           let z : b ≡ a = cc in
-          let m = among s (records s) 0 (key_at d.objects i k) a (q ∙ ap At z) in
+          let m = among s (records s) 0 (key_at d.objects i k) a (q ∙ ap Some z) in
           stored_at s a (record { number = m.number; below = omega (arith, m.below); place = m.place })
-      go Nothing q h = absurd (no-stored (has_default d i k) (default_in d.objects i) a h)
+      go None q h = absurd (no-stored (has_default d i k) (default_in d.objects i) a h)
 
   pub chosen_default : (q : ℕ) → chosen_at d s i k ≡ Default q → (q ≡ default_in d.objects i) × (default_at d.objects i ≡ 1)
   unfolding chosen_at
   chosen_default q e = go (record_of s (key_at d.objects i k)) e
     where
-      go : (f : Found) → choice_of d i k f ≡ Default q → (q ≡ default_in d.objects i) × (default_at d.objects i ≡ 1)
-      go (At b) h = let z : ◌≡◌ {A = ℕ} 0 1 = cc in absurd (omega arith)
-      go Nothing h =
+      go : (f : Option ℕ) → choice_of d i k f ≡ Default q → (q ≡ default_in d.objects i) × (default_at d.objects i ≡ 1)
+      go (Some b) h = let z : ◌≡◌ {A = ℕ} 0 1 = cc in absurd (omega arith)
+      go None h =
           let b = by_default (has_default d i k) (default_in d.objects i) q h in
           (b.1, eqb-true (default_at d.objects i) 1 (and_true (eqb (default_at d.objects i) 1) _ b.0).0)
 

@@ -1,5 +1,6 @@
 -- Looking a record up along rising keys is looking it up from the first one on.
 -- Assumes nothing.
+use Rattle.std.specs.Prelude.{Option, Some, None}
 use mathlib.Core.Path.{◌≡◌, refl, sym, ap, ◌∙◌}
 use mathlib.Core.Bool.{Bool, true, false, cond}
 use mathlib.Core.Logic.{◌⊎◌, inl, inr, ⊎_elim, ◌≢◌}
@@ -9,8 +10,6 @@ use native.Mathlib.Omega.{arith}
 use native.Mathlib.Decide.{dec_lt}
 use borrow.Author.Tests.{lt-ltb, le-ltb, ltb-true, ltb-false, eq-eqb, ne_eqb, eqb-true}
 use lib.Dec.{eqb, ltb}
-use Rattle.entry.specs.declared.Found.{Found}
-use Rattle.entry.specs.declared.Found.TheVariants.{At, Nothing}
 use Rattle.image.specs.Readable.{key_in}
 use Rattle.fitting.specs.Records.{record_place, record_from, seek_from, Cursor}
 
@@ -67,25 +66,25 @@ pub record Rising (s : List ℕ) (n : ℕ) : Type 0 where
   pub rises : (i j : ℕ) → i < j → j < n → key_in s (record_place i) < key_in s (record_place j)
 
 -- where no record of those from record k on has the key
-pub none_from : (s : List ℕ) (n k key : ℕ) → ((j : ℕ) → k ≤ j → j < k + n → key_in s (record_place j) ≢ key) → record_from s n k key ≡ Nothing
+pub none_from : (s : List ℕ) (n k key : ℕ) → ((j : ℕ) → k ≤ j → j < k + n → key_in s (record_place j) ≢ key) → record_from s n k key ≡ None
 unfolding record_from
 none_from s zero k key f = refl
 none_from s (suc n) k key f =
     rw (ne_eqb _ _ (f k (omega arith) (omega arith))) (none_from s n (suc k) key (λ j a b. f j (omega arith) (omega arith)))
 
 -- and where record r is the first that has it
-pub one_from : (s : List ℕ) (n k key r : ℕ) → k ≤ r → r < k + n → ((j : ℕ) → k ≤ j → j < r → key_in s (record_place j) ≢ key) → key_in s (record_place r) ≡ key → record_from s n k key ≡ At (record_place r)
+pub one_from : (s : List ℕ) (n k key r : ℕ) → k ≤ r → r < k + n → ((j : ℕ) → k ≤ j → j < r → key_in s (record_place j) ≢ key) → key_in s (record_place r) ≡ key → record_from s n k key ≡ Some (record_place r)
 unfolding record_from
 one_from s zero k key r a b f e = absurd (omega arith)
 one_from s (suc n) k key r a b f e = go (first_or_later k r a) (λ l. one_from s n (suc k) key r l (omega arith) (λ j c d. f j (omega (arith, c)) d) e)
   where
-    go : (r ≡ k) ⊎ (suc k ≤ r) → (suc k ≤ r → record_from s n (suc k) key ≡ At (record_place r)) → cond (eqb (key_in s (record_place k)) key) (At (record_place k)) (record_from s n (suc k) key) ≡ At (record_place r)
-    go (inl q) ih = let z : eqb (key_in s (record_place k)) key ≡ true = eq-eqb _ _ (ap (λ m. key_in s (record_place m)) (sym q) ∙ e) in rw z (ap (λ m. At (record_place m)) (sym q))
+    go : (r ≡ k) ⊎ (suc k ≤ r) → (suc k ≤ r → record_from s n (suc k) key ≡ Some (record_place r)) → cond (eqb (key_in s (record_place k)) key) (Some (record_place k)) (record_from s n (suc k) key) ≡ Some (record_place r)
+    go (inl q) ih = let z : eqb (key_in s (record_place k)) key ≡ true = eq-eqb _ _ (ap (λ m. key_in s (record_place m)) (sym q) ∙ e) in rw z (ap (λ m. Some (record_place m)) (sym q))
     go (inr l) ih = let z : eqb (key_in s (record_place k)) key ≡ false = ne_eqb _ _ (f k (omega arith) (omega (arith, l))) in rw z (ih l)
 
 -- the record where a cursor stops is the one, or there is none
-abbrev pub stopped : List ℕ → ℕ → ℕ → ℕ → Found
-stopped s n r key = cond (ltb r n) (cond (eqb (key_in s (record_place r)) key) (At (record_place r)) Nothing) Nothing
+abbrev pub stopped : List ℕ → ℕ → ℕ → ℕ → Option ℕ
+stopped s n r key = cond (ltb r n) (cond (eqb (key_in s (record_place r)) key) (Some (record_place r)) None) None
 
 pub lookup : (s : List ℕ) (n k key : ℕ) → Rising s n → Cursor s n k key → record_from s n 0 key ≡ stopped s n (seek_from s (n - k) k key) key
 lookup s n k key u c = within (ltb (seek_from s (n - k) k key) n) refl
@@ -102,7 +101,7 @@ lookup s n k key u c = within (ltb (seek_from s (n - k) k key) n) refl
         let f = (sought s (n - k) k key).first (omega (arith, h, c.here)) in
         omega (arith, f, u.rises (seek_from s (n - k) k key) j a b)
 
-    here : seek_from s (n - k) k key < n → (b : Bool) → eqb (key_in s (record_place (seek_from s (n - k) k key))) key ≡ b → record_from s n 0 key ≡ cond b (At (record_place (seek_from s (n - k) k key))) Nothing
+    here : seek_from s (n - k) k key < n → (b : Bool) → eqb (key_in s (record_place (seek_from s (n - k) k key))) key ≡ b → record_from s n 0 key ≡ cond b (Some (record_place (seek_from s (n - k) k key))) None
     here h true q = one_from s n 0 key (seek_from s (n - k) k key) (omega arith) (omega (arith, h)) (λ j a b e. absurd (omega (arith, below j b, e))) (eqb-true _ _ q)
     here h false q = none_from s n 0 key (λ j a b e. other j b e (dec_lt j (seek_from s (n - k) k key)))
       where
@@ -114,6 +113,6 @@ lookup s n k key u c = within (ltb (seek_from s (n - k) k key) n) refl
             later (inl w) = let z : true ≡ false = sym (eq-eqb _ _ (ap (λ m. key_in s (record_place m)) (sym w) ∙ e)) ∙ q in let y : ◌≡◌ {A = ℕ} 0 1 = cc in absurd (omega arith)
             later (inr w) = absurd (omega (arith, above h j (omega (arith, w)) (omega (arith, b)), e))
 
-    within : (b : Bool) → ltb (seek_from s (n - k) k key) n ≡ b → record_from s n 0 key ≡ cond b (cond (eqb (key_in s (record_place (seek_from s (n - k) k key))) key) (At (record_place (seek_from s (n - k) k key))) Nothing) Nothing
+    within : (b : Bool) → ltb (seek_from s (n - k) k key) n ≡ b → record_from s n 0 key ≡ cond b (cond (eqb (key_in s (record_place (seek_from s (n - k) k key))) key) (Some (record_place (seek_from s (n - k) k key))) None) None
     within true q = here (ltb-true _ _ q) (eqb (key_in s (record_place (seek_from s (n - k) k key))) key) refl
     within false q = none_from s n 0 key (λ j a b e. absurd (omega (arith, below j (omega (arith, b, ltb-false (seek_from s (n - k) k key) n q)), e)))

@@ -1,9 +1,7 @@
 -- What a restore gives each value, and whether it fits its room: RULES.md 10. Assumes nothing.
-use Rattle.std.specs.Prelude.{ℕ, zero, suc, ◌+◌, Bool, true, cond, not, ◌&&◌, ◌||◌, List, eqb, leb, get_or}
+use Rattle.std.specs.Prelude.{ℕ, zero, suc, ◌+◌, Bool, true, cond, not, ◌&&◌, ◌||◌, List, eqb, leb, get_or, Option, Some, None}
 use Rattle.value.specs.Codec.{is_text}
 use Rattle.entry.specs.Table.{Dict, index_at, kind_at, count_at, first_at, default_at, type_at, room_at}
-use Rattle.entry.specs.declared.Found.{Found}
-use Rattle.entry.specs.declared.Found.TheVariants.{At, Nothing}
 use Rattle.image.specs.Ranges.{covers}
 use Rattle.image.specs.Image.{sub_in}
 use Rattle.image.specs.Readable.{key_of, type_in, size_at}
@@ -28,9 +26,9 @@ has_default d i k =
     eqb (default_at d.objects i) 1
     && (eqb (kind_at d.objects i) 0 || eqb (type_at d.slots (default_in d.objects i)) (type_at d.slots (slot_in d.objects i k)))
 
-abbrev pub choice_of : Dict → ℕ → ℕ → Found → Choice
-choice_of d i k (At a) = Stored a
-choice_of d i k Nothing = cond (has_default d i k) (Default (default_in d.objects i)) Keep
+abbrev pub choice_of : Dict → ℕ → ℕ → Option ℕ → Choice
+choice_of d i k (Some a) = Stored a
+choice_of d i k None = cond (has_default d i k) (Default (default_in d.objects i)) Keep
 
 unfoldable pub chosen_at : Dict → List ℕ → ℕ → ℕ → Choice
 chosen_at d s i k = choice_of d i k (record_of s (key_at d.objects i k))

@@ -1,7 +1,5 @@
 -- Looking a record up in the stored image. Assumes nothing.
-use Rattle.std.specs.Prelude.{ℕ, zero, suc, ◌+◌, ◌*◌, ◌<◌, ◌≤◌, cond, List, eqb, ltb, length, take, drop}
-use Rattle.entry.specs.declared.Found.{Found}
-use Rattle.entry.specs.declared.Found.TheVariants.{At, Nothing}
+use Rattle.std.specs.Prelude.{ℕ, zero, suc, ◌+◌, ◌*◌, ◌<◌, ◌≤◌, cond, List, eqb, ltb, length, take, drop, Option, Some, None}
 use Rattle.image.specs.Readable.{field, key_in, start_in, size_at, readable}
 
 -- R10.7: "Any other image counts as no table."
@@ -13,11 +11,11 @@ abbrev pub record_place : ℕ → ℕ
 record_place k = 2 + 8 * k
 
 -- the place of the first of n records from record k on that has the key
-unfoldable pub record_from : List ℕ → ℕ → ℕ → ℕ → Found
-record_from s zero k key = Nothing
-record_from s (suc n) k key = cond (eqb (key_in s (record_place k)) key) (At (record_place k)) (record_from s n (suc k) key)
+unfoldable pub record_from : List ℕ → ℕ → ℕ → ℕ → Option ℕ
+record_from s zero k key = None
+record_from s (suc n) k key = cond (eqb (key_in s (record_place k)) key) (Some (record_place k)) (record_from s n (suc k) key)
 
-abbrev pub record_of : List ℕ → ℕ → Found
+abbrev pub record_of : List ℕ → ℕ → Option ℕ
 record_of s key = record_from s (records s) 0 key
 
 -- the bytes of the value of the record at place a

@@ -1,14 +1,12 @@
 // What each value gets.
-ghost use Rattle.std.specs.Prelude.{◌≡◌, true, ◌<◌, ◌≤◌, length};
-ghost use Rattle.entry.specs.Table.{dict, number_of, row_end, index_at, count_at};
-ghost use Rattle.entry.specs.Judge.{well_formed};
-ghost use Rattle.entry.specs.declared.Found.TheVariants.{Nothing};
+ghost use Rattle.std.specs.Prelude.{◌≡◌, ◌<◌, ◌≤◌, length, None};
+ghost use Rattle.entry.specs.Table.{number_of, row_end, index_at, count_at};
 ghost use Rattle.fitting.specs.Records.{records};
 ghost use Rattle.fitting.specs.Fit.{key_at, choice_of, chosen_at};
 
 use crate::looking::look_up;
 use crate::{Choice, Chosen};
-use entry::Found;
+use judge::Dictionary;
 
 // The key of value k of row i.
 fn key_at(objects: &[u64], i: usize, k: usize) -> u64
@@ -21,58 +19,40 @@ fn key_at(objects: &[u64], i: usize, k: usize) -> u64
 }
 
 // Without a record: the default, or nothing.
-fn default_for(
-    objects: &[u64],
-    slots: &[u64],
-    words: &[u64],
-    bytes: &[u8],
-    i: usize,
-    k: usize,
-) -> Choice
-    requires bytes_value { well_formed (dict objects.now slots.now words.now bytes.now) ≡ true }
-    requires i_bound { (i < number_of objects.now) × (k < count_at objects.now i) }
-    ensures { result ≡ choice_of (dict objects.now slots.now words.now bytes.now) i k Nothing }
+fn default_for(d: &Dictionary, i: usize, k: usize) -> Choice
+    requires { (i < number_of d.now.objects) × (k < count_at d.now.objects i) }
+    ensures { result ≡ choice_of d.now i k None }
 {
-    if entry::default_at(objects, i) != 1 {
+    if entry::default_at(d.objects, i) != 1 {
         return Choice::Keep;
     }
-    let first = entry::first_at(objects, i) as usize;
-    let default = first + entry::count_at(objects, i) as usize;
-    if entry::kind_at(objects, i) == 0 {
+    let first = entry::first_at(d.objects, i) as usize;
+    let default = first + entry::count_at(d.objects, i) as usize;
+    if entry::kind_at(d.objects, i) == 0 {
         return Choice::Default(default);
     }
-    let t = entry::type_at(slots, first + k);
-    if entry::type_at(slots, default) == t {
+    let t = entry::type_at(d.slots, first + k);
+    if entry::type_at(d.slots, default) == t {
         return Choice::Default(default);
     }
     Choice::Keep
 }
 
 // The record of its key wins.
-pub fn choose(
-    objects: &[u64],
-    slots: &[u64],
-    words: &[u64],
-    bytes: &[u8],
-    store: &[u8],
-    n: usize,
-    i: usize,
-    k: usize,
-    near: usize,
-) -> Chosen
-    requires bytes_value { well_formed (dict objects.now slots.now words.now bytes.now) ≡ true }
-    requires i_bound { (i < number_of objects.now) × (k < count_at objects.now i) }
+pub fn choose(d: &Dictionary, store: &[u8], n: usize, i: usize, k: usize, near: usize) -> Chosen
+    requires i_bound { (i < number_of d.now.objects) × (k < count_at d.now.objects i) }
     requires n_value { (n ≡ records store.now) × (near ≤ n) }
-    ensures choice { result.choice ≡ chosen_at (dict objects.now slots.now words.now bytes.now) store.now i k }
+    ensures choice { result.choice ≡ chosen_at d.now store.now i k }
     ensures near { result.near ≤ n }
 {
-    let key = key_at(objects, i, k);
+    let key = key_at(d.objects, i, k);
     let l = look_up(store, n, near, key);
-    let near = l.near;
-    let found = l.found;
-    let choice = match found {
-        Found::At(a) => Choice::Stored(a),
-        Found::Nothing => default_for(objects, slots, words, bytes, i, k),
+    let choice = match l.found {
+        Some(a) => Choice::Stored(a),
+        None => default_for(d, i, k),
     };
-    Chosen { choice, near }
+    Chosen {
+        choice,
+        near: l.near,
+    }
 }

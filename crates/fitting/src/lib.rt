@@ -6,14 +6,13 @@ mod looking;
 mod rooms;
 
 pub use choosing::choose;
-use entry::Found;
 pub use looking::records;
 pub use rooms::{restorable, rows_fit};
 
 // The place of a record in the image, or none, and the record near which the next one lies.
 #[derive(Clone, Copy)]
 pub struct Lookup {
-    pub found: Found,
+    pub found: Option<usize>,
     pub near: usize,
 }
 

@@ -3,7 +3,6 @@ ghost use Rattle.std.specs.Prelude.{◌≡◌, ◌-◌, ◌≤◌};
 ghost use Rattle.fitting.specs.Records.{records, record_of, seek_from, Cursor};
 
 use crate::Lookup;
-use entry::Found;
 
 pub fn records(store: &[u8]) -> usize
     ensures { result ≡ records store.now }
@@ -19,14 +18,12 @@ fn seek(store: &[u8], n: usize, k: usize, key: u64) -> usize
     requires { (n ≡ records store.now) × (k ≤ n) }
     ensures { result ≡ seek_from store.now (n - k) k key }
 {
-    let mut j = k;
-    while j < n {
+    for j in k..n {
         if key <= image::key_in(store, 2 + 8 * j) {
             return j;
         }
-        j += 1;
     }
-    j
+    n
 }
 
 // From where to seek: from record `near` on, unless the one before it is not below the key.
@@ -54,13 +51,13 @@ pub fn look_up(store: &[u8], n: usize, near: usize, key: u64) -> Lookup
         let a = 2 + 8 * r;
         if image::key_in(store, a) == key {
             return Lookup {
-                found: Found::At(a),
+                found: Some(a),
                 near: r,
             };
         }
     }
     Lookup {
-        found: Found::Nothing,
+        found: None,
         near: r,
     }
 }

@@ -51,9 +51,6 @@ module _ (s : List ℕ) (n b : ℕ) where
   unfolding heads_ok
   onward_end k sum low h = let e : n - k ≡ 0 = omega arith in rw e
 
-  pub onward-all : heads_ok s n 2 b 0 0 ≡ onward 0 0 0
-  onward-all = let e : n - 0 ≡ n = omega arith in rw e
-
   pub not_placed : (k sum low : ℕ) → k < n → placed s (2 + 8 * k) b sum low ≡ false → onward k sum low ≡ false
   not_placed k sum low h e = onward-step k sum low h ∙ rw e
 

@@ -1,7 +1,6 @@
 -- Which images are readable, and the table that one holds: RULES.md 10.
 -- Assumes nothing.
-use Rattle.std.specs.Prelude.{ℕ, zero, suc, ◌+◌, ◌*◌, ◌≤◌, ◌≡◌, Bool, true, cond, ◌&&◌, List, [], ◌∷◌, eqb, leb, ltb, length, take, drop}
-use Rattle.std.proofs.Math.Option.{Option, none, some}
+use Rattle.std.specs.Prelude.{ℕ, zero, suc, ◌+◌, ◌*◌, ◌≤◌, ◌≡◌, Bool, true, cond, ◌&&◌, List, [], ◌∷◌, eqb, leb, ltb, length, take, drop, Option, Some, None}
 use Rattle.lists.specs.Numbers.{number}
 use Rattle.value.specs.Codec.{exact}
 use Rattle.image.specs.Image.{Rec, bodies}
@@ -70,4 +69,4 @@ readable s =
 
 -- "Any other image counts as no table."
 unfoldable pub table_of : List ℕ → Option (List Rec)
-table_of s = let r = field s 0 2 in cond (readable s) (some (recs_at s r 2 (2 + 8 * r))) none
+table_of s = let r = field s 0 2 in cond (readable s) (Some (recs_at s r 2 (2 + 8 * r))) None

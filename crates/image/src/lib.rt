@@ -68,8 +68,7 @@ fn heads_ok(s: &[u8], count: usize) -> bool
     let b = 2 + 8 * count;
     let mut sum = 0;
     let mut low = 0;
-    let mut k = 0;
-    while k < count {
+    for k in 0..count {
         let a = 2 + 8 * k;
         if !placed(s, a, b, sum, low) {
             return false;
@@ -79,7 +78,6 @@ fn heads_ok(s: &[u8], count: usize) -> bool
         }
         sum += size_at(s, a);
         low = key_in(s, a) + 1;
-        k += 1;
     }
     true
 }

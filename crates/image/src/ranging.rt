@@ -17,28 +17,25 @@ pub struct Span {
     pub end: usize,
 }
 
+#[tactic(auto, unfolding(crate::specs::Ranges::range_of))]
 pub fn range_of(list: u8) -> Range
     ensures { result ≡ range_of list }
 {
-    if list == 1 {
-        return Range {
+    match list {
+        1 => Range {
             first: 0,
             last: 0xFFFF,
-        };
-    }
-    if list == 2 {
-        return Range {
+        },
+        2 => Range {
             first: 0x1000,
             last: 0x1FFF,
-        };
-    }
-    if list == 3 {
-        return Range {
+        },
+        3 => Range {
             first: 0x6000,
             last: 0x9FFF,
-        };
+        },
+        _ => Range { first: 1, last: 0 },
     }
-    Range { first: 1, last: 0 }
 }
 
 // The rows whose index is from the first to the last, found by halves.

@@ -1,87 +1,46 @@
 // Finding an object by its name.
 #![tactic(auto)]
 
-ghost use Rattle.std.specs.Prelude.{◌≡◌, true, ◌+◌, ◌<◌, ◌≤◌, length, take, drop};
+ghost use Rattle.std.specs.Prelude.{◌≡◌, ◌<◌};
 ghost use Rattle.entry.specs.Table.{dict, number_of};
-ghost use Rattle.entry.specs.Judge.{well_formed};
 ghost use Rattle.names.specs.Names.{same, name_of, name_from, by_name_of};
 
 use answers::Refusal;
-use text::Text;
+use judge::Dictionary;
 
-// The index of an object.
-#[derive(Clone, Copy)]
-pub enum ByName {
-    At(u16),
-    Refused(Refusal),
+fn has_name(d: &Dictionary, i: usize, name: &[u8]) -> bool
+    requires { i < number_of d.now.objects }
+    ensures { result ≡ same (name_of d.now i) name.now }
+{
+    let start = entry::name_at(d.objects, i) as usize;
+    let end = start + entry::name_len_at(d.objects, i) as usize;
+    let own = &d.bytes[start..end];
+    own == name
 }
 
-// Are the bytes from `start` on, as many as the name has, the name?
-fn same_part(bytes: &[u8], start: usize, name: &[u8]) -> bool
-    requires { (start ≤ 32768) × (start + length name.now ≤ length bytes.now) }
-    ensures { result ≡ same (take (length name.now) (drop start bytes.now)) name.now }
+fn first_named(d: &Dictionary, name: &[u8]) -> Result<u16, Refusal>
+    ensures { result ≡ name_from d.now name.now (number_of d.now.objects) 0 }
 {
-    let mut i = 0;
-    while i < name.len() {
-        if bytes[start + i] != name[i] {
-            return false;
+    for i in 0..entry::number_of(d.objects) as usize {
+        if has_name(d, i, name) {
+            return Ok(entry::index_at(d.objects, i) as u16);
         }
-        i += 1;
     }
-    true
-}
-
-fn has_name(
-    objects: &[u64],
-    slots: &[u64],
-    words: &[u64],
-    bytes: &[u8],
-    i: usize,
-    name: &[u8],
-) -> bool
-    requires { (well_formed (dict objects.now slots.now words.now bytes.now) ≡ true) × (i < number_of objects.now) }
-    ensures { result ≡ same (name_of (dict objects.now slots.now words.now bytes.now) i) name.now }
-{
-    let start = entry::name_at(objects, i) as usize;
-    if entry::name_len_at(objects, i) as usize == name.len() {
-        same_part(bytes, start, name)
-    } else {
-        false
-    }
-}
-
-fn first_named(objects: &[u64], slots: &[u64], words: &[u64], bytes: &[u8], name: &[u8]) -> ByName
-    requires { well_formed (dict objects.now slots.now words.now bytes.now) ≡ true }
-    ensures { result ≡ name_from (dict objects.now slots.now words.now bytes.now) name.now (number_of objects.now) 0 }
-{
-    let n = entry::number_of(objects) as usize;
-    let mut i = 0;
-    while i < n {
-        if has_name(objects, slots, words, bytes, i, name) {
-            return ByName::At(entry::index_at(objects, i) as u16);
-        }
-        i += 1;
-    }
-    ByName::Refused(Refusal::ObjectNotFound)
+    Err(Refusal::ObjectNotFound)
 }
 
 // The lowest index of that name in a dictionary that was judged.
-pub fn find_by_name_judged(
-    objects: &[u64],
-    slots: &[u64],
-    words: &[u64],
-    bytes: &[u8],
-    name: &[u8],
-) -> ByName
-    requires { well_formed (dict objects.now slots.now words.now bytes.now) ≡ true }
-    ensures { result ≡ by_name_of (dict objects.now slots.now words.now bytes.now) name.now }
+pub fn find_by_name_judged(d: &Dictionary, name: &[u8]) -> Result<u16, Refusal>
+    ensures { result ≡ by_name_of d.now name.now }
 {
+    // Opens d for the proof: an answer before any row is read needs that d is well-formed too.
+    let _ = &d.objects;
     if name.len() > 32 {
-        return ByName::Refused(Refusal::BadValue);
+        return Err(Refusal::BadValue);
     }
     match text::text_ok(name) {
-        Text::Good => first_named(objects, slots, words, bytes, name),
-        Text::Bad(_) => ByName::Refused(Refusal::BadValue),
+        Ok(()) => first_named(d, name),
+        Err(_) => Err(Refusal::BadValue),
     }
 }
 
@@ -92,11 +51,9 @@ pub fn find_by_name(
     words: &[u64],
     bytes: &[u8],
     name: &[u8],
-) -> ByName
+) -> Result<u16, Refusal>
     ensures { result ≡ by_name_of (dict objects.now slots.now words.now bytes.now) name.now }
 {
-    if !judge::well_formed(objects, slots, words, bytes) {
-        return ByName::Refused(Refusal::Malformed);
-    }
-    find_by_name_judged(objects, slots, words, bytes, name)
+    let d = Dictionary::judged(objects, slots, words, bytes)?;
+    find_by_name_judged(&d, name)
 }

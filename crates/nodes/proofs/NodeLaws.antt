@@ -1,5 +1,6 @@
 -- The walk over the elements of 1F81h, and where they lie.
 -- Assumes nothing.
+use Rattle.std.specs.Prelude.{Option, Some, None}
 use mathlib.Core.Path.{◌≡◌, refl, sym, ap, ◌∙◌}
 use mathlib.Core.Bool.{Bool, true, false, cond}
 use mathlib.Core.List.{List, [], ◌∷◌}
@@ -12,8 +13,6 @@ use Rattle.lists.proofs.ListLaws.{over_first}
 use Rattle.entry.specs.Table.{Dict, kind_at, count_at, first_at, type_at}
 use Rattle.entry.specs.Find.{find_row, Elements}
 use Rattle.entry.specs.Judge.{well_formed}
-use Rattle.entry.specs.declared.Found.{Found}
-use Rattle.entry.specs.declared.Found.TheVariants.{At, Nothing}
 use Rattle.entry.proofs.ValueLaws.{found_lies, elements_lie}
 use Rattle.nodes.specs.Nodes.{configured, nodes_from, elements_on, elements_at}
 
@@ -47,24 +46,23 @@ rest_all slots words n p =
 
 -- ---- m of them found before element k
 pub record Walked (slots words : List ℕ) (n p m k : ℕ) : Type 0 where
-  pub here : k ≤ n
   pub below : m ≤ k
   pub left : m + length (rest slots words n p k) ≡ length (nodes_from slots words n 1 p)
 
 pub walked_start : (slots words : List ℕ) (n p m k : ℕ) → m ≡ 0 → k ≡ 0 → Walked slots words n p m k
 walked_start slots words n p m k e q =
     let r = ap length (rest_all slots words n p) in
-    rw (e, q) (record { here = omega arith; below = omega arith; left = omega (arith, r) })
+    rw (e, q) (record { below = omega arith; left = omega (arith, r) })
 
 pub walked_yes : (slots words : List ℕ) (n p m k m' : ℕ) → Walked slots words n p m k → k < n → configured (type_at slots (p + k)) (get_or words (p + k) 0) ≡ true → m' ≡ m + 1 → Walked slots words n p m' (k + 1)
 walked_yes slots words n p m k m' w h e q =
     let r = ap length (rest_yes slots words n p k h e) in
-    record { here = omega arith; below = omega (arith, w.below); left = omega (arith, w.left, r) }
+    record { below = omega (arith, w.below); left = omega (arith, w.left, r) }
 
 pub walked_no : (slots words : List ℕ) (n p m k m' : ℕ) → Walked slots words n p m k → k < n → configured (type_at slots (p + k)) (get_or words (p + k) 0) ≡ false → m' ≡ m → Walked slots words n p m' (k + 1)
 walked_no slots words n p m k m' w h e q =
     let r = ap length (rest-no slots words n p k h e) in
-    record { here = omega arith; below = omega (arith, w.below); left = omega (arith, w.left, r) }
+    record { below = omega (arith, w.below); left = omega (arith, w.left, r) }
 
 pub walked_end : (slots words : List ℕ) (n p m k : ℕ) → Walked slots words n p m k → n ≤ k → m ≡ length (nodes_from slots words n 1 p)
 walked_end slots words n p m k w h =
@@ -108,13 +106,13 @@ nodes_lie d w = row (find_row d.objects 0x1F81) refl
     none : Elements d.slots d.words 0 0
     none = record { few = omega arith; low = omega arith; slotted = omega arith; worded = omega arith }
 
-    array : (i : ℕ) → find_row d.objects 0x1F81 ≡ At i → Elements d.slots d.words (count_at d.objects i) (first_at d.objects i)
+    array : (i : ℕ) → find_row d.objects 0x1F81 ≡ Some i → Elements d.slots d.words (count_at d.objects i) (first_at d.objects i)
     array i f = elements_lie d w i _ (found_lies d w 0x1F81 i f).below (omega arith)
 
-    kind : (i : ℕ) → find_row d.objects 0x1F81 ≡ At i → (b : Bool) → eqb (kind_at d.objects i) 1 ≡ b → let e = elements_on d.objects (At i) in Elements d.slots d.words e.count e.first
+    kind : (i : ℕ) → find_row d.objects 0x1F81 ≡ Some i → (b : Bool) → eqb (kind_at d.objects i) 1 ≡ b → let e = elements_on d.objects (Some i) in Elements d.slots d.words e.count e.first
     kind i f true q = rw q (array i f)
     kind i f false q = rw q none
 
-    row : (f : Found) → find_row d.objects 0x1F81 ≡ f → let e = elements_on d.objects f in Elements d.slots d.words e.count e.first
-    row (At i) f = kind i f (eqb (kind_at d.objects i) 1) refl
-    row Nothing f = none
+    row : (f : Option ℕ) → find_row d.objects 0x1F81 ≡ f → let e = elements_on d.objects f in Elements d.slots d.words e.count e.first
+    row (Some i) f = kind i f (eqb (kind_at d.objects i) 1) refl
+    row None f = none

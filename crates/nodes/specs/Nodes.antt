@@ -1,14 +1,11 @@
 -- get_configured_cns: RULES.md 7. Assumes nothing.
-use Rattle.std.specs.Prelude.{ℕ, zero, suc, ◌/◌, ◌%◌, Bool, cond, ◌&&◌, List, [], ◌∷◌, eqb, ltb, length, get_or}
+use Rattle.answers.specs.declared.Refusal.{Refusal}
+use Rattle.std.specs.Prelude.{ℕ, zero, suc, ◌/◌, ◌%◌, Bool, cond, ◌&&◌, List, [], ◌∷◌, eqb, ltb, length, get_or, Option, Some, None, Result, Ok, Err}
 use Rattle.lists.specs.Lists.{over}
 use Rattle.answers.specs.declared.Refusal.TheVariants.{Malformed, BufferTooShort}
 use Rattle.entry.specs.Table.{Dict, kind_at, count_at, first_at, type_at}
 use Rattle.entry.specs.Find.{find_row}
 use Rattle.entry.specs.Judge.{well_formed}
-use Rattle.entry.specs.declared.Found.{Found}
-use Rattle.entry.specs.declared.Found.TheVariants.{At, Nothing}
-use Rattle.nodes.specs.declared.Listed.{Listed}
-use Rattle.nodes.specs.declared.Listed.TheVariants as listed
 use Rattle.nodes.specs.declared.Span.{Span}
 
 -- "a U32 has bit 0 set and bit 8 clear"
@@ -25,9 +22,9 @@ nodes_from slots words (suc n) k p =
 abbrev pub span_of : ℕ → ℕ → Span
 span_of n p = record { count = n; first = p }
 
-abbrev pub elements_on : List ℕ → Found → Span
-elements_on objects (At i) = cond (eqb (kind_at objects i) 1) (span_of (count_at objects i) (first_at objects i)) (span_of 0 0)
-elements_on objects Nothing = span_of 0 0
+abbrev pub elements_on : List ℕ → Option ℕ → Span
+elements_on objects (Some i) = cond (eqb (kind_at objects i) 1) (span_of (count_at objects i) (first_at objects i)) (span_of 0 0)
+elements_on objects None = span_of 0 0
 
 unfoldable pub elements_at : List ℕ → Span
 elements_at objects = elements_on objects (find_row objects 0x1F81)
@@ -37,10 +34,10 @@ nodes_of d = let e = elements_at d.objects in nodes_from d.slots d.words e.count
 
 -- an answer, and the lent output after it
 pub record AfterListing : Type 0 where
-  pub answer : Listed
+  pub answer : Result ℕ Refusal
   pub out : List ℕ
 
-abbrev pub after_listing : Listed → List ℕ → AfterListing
+abbrev pub after_listing : Result ℕ Refusal → List ℕ → AfterListing
 after_listing a out = record { answer = a; out = out }
 
 -- BufferTooShort is judged on what is found
@@ -48,6 +45,6 @@ unfoldable pub cns_of : Dict → List ℕ → AfterListing
 cns_of d out =
     cond (well_formed d)
     (cond (ltb (length out) (length (nodes_of d)))
-    (after_listing (listed.Refused BufferTooShort) out)
-    (after_listing (listed.Numbers (length (nodes_of d))) (over out 0 (nodes_of d))))
-    (after_listing (listed.Refused Malformed) out)
+    (after_listing (Err BufferTooShort) out)
+    (after_listing (Ok (length (nodes_of d))) (over out 0 (nodes_of d))))
+    (after_listing (Err Malformed) out)

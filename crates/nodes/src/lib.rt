@@ -1,22 +1,14 @@
 // The configured nodes: the Array 1F81h.
 #![tactic(auto)]
 
-ghost use Rattle.std.specs.Prelude.{◌≡◌, true, ◌<◌, ◌≤◌, length, get_or};
+ghost use Rattle.std.specs.Prelude.{◌≡◌, ◌<◌, ◌≤◌, length, get_or};
 ghost use Rattle.lists.specs.Lists.{over};
 ghost use Rattle.entry.specs.Table.{dict, type_at, slot_end};
 ghost use Rattle.entry.specs.Find.{Elements};
-ghost use Rattle.entry.specs.Judge.{well_formed};
 ghost use Rattle.nodes.specs.Nodes.{configured, nodes_from, elements_at, after_listing, cns_of};
 
 use answers::Refusal;
-use entry::Found;
-
-// How many node numbers were laid into the output.
-#[derive(Clone, Copy)]
-pub enum Listed {
-    Numbers(usize),
-    Refused(Refusal),
-}
+use judge::Dictionary;
 
 // How many elements, and the slot of the first.
 #[derive(Clone, Copy)]
@@ -40,12 +32,10 @@ fn count_nodes(slots: &[u64], words: &[u64], count: usize, first: usize) -> usiz
     ensures { result ≡ length (nodes_from slots.now words.now count 1 first) }
 {
     let mut m = 0;
-    let mut k = 0;
-    while k < count {
+    for k in 0..count {
         if is_configured(slots, words, first + k) {
             m += 1;
         }
-        k += 1;
     }
     m
 }
@@ -56,53 +46,43 @@ fn lay_nodes(slots: &[u64], words: &[u64], count: usize, first: usize, out: &mut
     ensures { out.new ≡ over out.old 0 (nodes_from slots.now words.now count 1 first) }
 {
     let mut m = 0;
-    let mut k = 0;
-    while k < count {
+    for k in 0..count {
         if is_configured(slots, words, first + k) {
             out[m] = (k + 1) as u8;
             m += 1;
         }
-        k += 1;
     }
 }
 
 // The elements of 1F81h; none where it is missing or no Array.
-fn elements(objects: &[u64], slots: &[u64], words: &[u64], bytes: &[u8]) -> Span
-    requires { well_formed (dict objects.now slots.now words.now bytes.now) ≡ true }
-    ensures { result ≡ elements_at objects.now }
+fn elements(d: &Dictionary) -> Span
+    ensures { result ≡ elements_at d.now.objects }
 {
-    let Found::At(i) = entry::find(objects, 0x1F81) else {
+    let Some(i) = entry::find(d.objects, 0x1F81) else {
         return Span { count: 0, first: 0 };
     };
-    if entry::kind_at(objects, i) == 1 {
+    if entry::kind_at(d.objects, i) == 1 {
         return Span {
-            count: entry::count_at(objects, i) as usize,
-            first: entry::first_at(objects, i) as usize,
+            count: entry::count_at(d.objects, i) as usize,
+            first: entry::first_at(d.objects, i) as usize,
         };
     }
     Span { count: 0, first: 0 }
 }
 
 // Lays the nodes of a dictionary that was judged.
-pub fn get_configured_cns_judged(
-    objects: &[u64],
-    slots: &[u64],
-    words: &[u64],
-    bytes: &[u8],
-    out: &mut [u8],
-) -> Listed
-    requires { well_formed (dict objects.now slots.now words.now bytes.now) ≡ true }
-    ensures { after_listing result out.new ≡ cns_of (dict objects.now slots.now words.now bytes.now) out.old }
+pub fn get_configured_cns_judged(d: &Dictionary, out: &mut [u8]) -> Result<usize, Refusal>
+    ensures { after_listing result out.new ≡ cns_of d.now out.old }
 {
-    let span = elements(objects, slots, words, bytes);
+    let span = elements(d);
     let count = span.count;
     let first = span.first;
-    let m = count_nodes(slots, words, count, first);
+    let m = count_nodes(d.slots, d.words, count, first);
     if out.len() < m {
-        return Listed::Refused(Refusal::BufferTooShort);
+        return Err(Refusal::BufferTooShort);
     }
-    lay_nodes(slots, words, count, first, out);
-    Listed::Numbers(m)
+    lay_nodes(d.slots, d.words, count, first, out);
+    Ok(m)
 }
 
 // Lays the numbers of the configured nodes, rising, over `out`.
@@ -112,11 +92,9 @@ pub fn get_configured_cns(
     words: &[u64],
     bytes: &[u8],
     out: &mut [u8],
-) -> Listed
+) -> Result<usize, Refusal>
     ensures { after_listing result out.new ≡ cns_of (dict objects.now slots.now words.now bytes.now) out.old }
 {
-    if !judge::well_formed(objects, slots, words, bytes) {
-        return Listed::Refused(Refusal::Malformed);
-    }
-    get_configured_cns_judged(objects, slots, words, bytes, out)
+    let d = Dictionary::judged(objects, slots, words, bytes)?;
+    get_configured_cns_judged(&d, out)
 }

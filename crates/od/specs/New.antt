@@ -1,7 +1,6 @@
 -- An empty dictionary: RULES.md 5. Assumes nothing.
-use Rattle.std.specs.Prelude.{ℕ, cond, List, [], ltb, length}
-use Rattle.answers.specs.declared.Answer.{Answer}
-use Rattle.answers.specs.declared.Answer.TheVariants.{Done, Refused}
+use Rattle.answers.specs.declared.Refusal.{Refusal}
+use Rattle.std.specs.Prelude.{ℕ, cond, List, [], ltb, length, Result, Ok, Err}
 use Rattle.lists.specs.Lists.{over}
 use Rattle.answers.specs.declared.Refusal.TheVariants.{Malformed, Full}
 use Rattle.entry.specs.Model.{header}
@@ -10,15 +9,15 @@ use Rattle.entry.specs.Rules.{is_edition}
 
 -- an answer, and the lent rows after it
 pub record Made : Type 0 where
-  pub answer : Answer
+  pub answer : Result (Unit {0}) Refusal
   pub objects : List ℕ
 
-abbrev pub made : Answer → List ℕ → Made
+abbrev pub made : Result (Unit {0}) Refusal → List ℕ → Made
 made a os = record { answer = a; objects = os }
 
 -- R5.14: the header of no object, of an edition; of another one: Malformed; where the rows cannot hold it: Full
 abbrev pub new_of : ℕ → List ℕ → Made
 new_of edition objects =
     cond (is_edition edition)
-    (cond (ltb (length objects) (row_place 0)) (made (Refused Full) objects) (made Done (over objects 0 (header edition []))))
-    (made (Refused Malformed) objects)
+    (cond (ltb (length objects) (row_place 0)) (made (Err Full) objects) (made (Ok tt) (over objects 0 (header edition []))))
+    (made (Err Malformed) objects)

@@ -1,61 +1,45 @@
 // Reading a value.
-ghost use Rattle.std.specs.Prelude.{◌≡◌, true};
+ghost use Rattle.std.specs.Prelude.{◌≡◌, ◌+◌, ◌≤◌, true, Some, IfOk, length};
+ghost use Rattle.value.specs.Codec.{is_text};
 ghost use Rattle.entry.specs.Table.{dict};
 ghost use Rattle.entry.specs.Find.{find_row};
 ghost use Rattle.entry.specs.Judge.{well_formed};
-ghost use Rattle.entry.specs.declared.Found.TheVariants.{At};
 ghost use Rattle.od.specs.Read.{read_of, part_in, of_type};
 
-use crate::{Number, Stored};
+use crate::Stored;
 use answers::Refusal;
-use entry::{Found, Place};
+use entry::Place;
+use judge::Dictionary;
 
 // The value at a sub-index of row i, which has the index.
-fn read_in(
-    objects: &[u64],
-    slots: &[u64],
-    words: &[u64],
-    bytes: &[u8],
-    i: usize,
-    index: u16,
-    sub: u8,
-) -> Stored
-    requires bytes_value { well_formed (dict objects.now slots.now words.now bytes.now) ≡ true }
-    requires index_value { find_row objects.now index ≡ At i }
-    ensures { result ≡ read_of (dict objects.now slots.now words.now bytes.now) index sub }
+fn read_in(d: &Dictionary, i: usize, index: u16, sub: u8) -> Result<Stored, Refusal>
+    requires { find_row d.now.objects index ≡ Some i }
+    ensures { result ≡ read_of d.now index sub }
 {
-    match entry::sub_at(objects, i, sub) {
-        Place::NoObject => Stored::Refused(Refusal::ObjectNotFound),
-        Place::NoSub => Stored::Refused(Refusal::SubObjectNotFound),
-        Place::Count(n) => Stored::Is {
+    match entry::sub_at(d.objects, i, sub) {
+        Place::NoObject => Err(Refusal::ObjectNotFound),
+        Place::NoSub => Err(Refusal::SubObjectNotFound),
+        Place::Count(n) => Ok(Stored {
             value_type: 5,
             word: n,
             start: 0,
-        },
-        Place::Value(p) => Stored::Is {
-            value_type: entry::type_at(slots, p),
-            word: words[p],
-            start: entry::start_at(slots, p),
-        },
+        }),
+        Place::Value(p) => Ok(Stored {
+            value_type: entry::type_at(d.slots, p),
+            word: d.words[p],
+            start: entry::start_at(d.slots, p),
+        }),
     }
 }
 
 // The value at an index and a sub-index of a dictionary that was judged.
-pub fn read_judged(
-    objects: &[u64],
-    slots: &[u64],
-    words: &[u64],
-    bytes: &[u8],
-    index: u16,
-    sub: u8,
-) -> Stored
-    requires { well_formed (dict objects.now slots.now words.now bytes.now) ≡ true }
-    ensures { result ≡ read_of (dict objects.now slots.now words.now bytes.now) index sub }
+pub fn read_judged(d: &Dictionary, index: u16, sub: u8) -> Result<Stored, Refusal>
+    ensures { result ≡ read_of d.now index sub }
 {
-    let Found::At(i) = entry::find(objects, index) else {
-        return Stored::Refused(Refusal::ObjectNotFound);
+    let Some(i) = entry::find(d.objects, index) else {
+        return Err(Refusal::ObjectNotFound);
     };
-    read_in(objects, slots, words, bytes, i, index, sub)
+    read_in(d, i, index, sub)
 }
 
 // The value at an index and a sub-index; a list's sub-index 0 is the count of its elements.
@@ -66,16 +50,32 @@ pub fn read(
     bytes: &[u8],
     index: u16,
     sub: u8,
-) -> Stored
+) -> Result<Stored, Refusal>
     ensures { result ≡ read_of (dict objects.now slots.now words.now bytes.now) index sub }
 {
-    if !judge::well_formed(objects, slots, words, bytes) {
-        return Stored::Refused(Refusal::Malformed);
-    }
-    read_judged(objects, slots, words, bytes, index, sub)
+    let d = Dictionary::judged(objects, slots, words, bytes)?;
+    read_judged(&d, index, sub)
 }
 
-// The part of the lent bytes that holds a text or bytes of a dictionary that was judged.
+// The part of the lent bytes that holds a text or bytes that were found; the empty part where a number or nothing was.
+fn part_in<'a>(bytes: &'a [u8], found: Result<Stored, Refusal>) -> &'a [u8]
+    requires { IfOk found (λ v. is_text v.value_type ≡ true → v.start + v.word ≤ length bytes.now) }
+    ensures { result.now ≡ part_in bytes.now found }
+{
+    match found {
+        Ok(v) => if value::is_text(v.value_type) {
+            let from = v.start as usize;
+            let end = from + v.word as usize;
+            &bytes[from..end]
+        } else {
+            &bytes[0..0]
+        },
+        Err(_) => &bytes[0..0],
+    }
+}
+
+// The part of the lent bytes that holds a text or bytes of a dictionary that was judged. It takes the slices, since a dictionary has one
+// lifetime, and only the bytes must live as long as the part.
 pub fn read_part_judged<'a>(
     objects: &[u64],
     slots: &[u64],
@@ -87,20 +87,13 @@ pub fn read_part_judged<'a>(
     requires { well_formed (dict objects.now slots.now words.now bytes.now) ≡ true }
     ensures { result.now ≡ part_in bytes.now (read_of (dict objects.now slots.now words.now bytes.now) index sub) }
 {
-    let Stored::Is {
-        value_type,
-        word,
-        start,
-    } = read_judged(objects, slots, words, bytes, index, sub)
-    else {
-        return &bytes[0..0];
+    let d = Dictionary {
+        objects,
+        slots,
+        words,
+        bytes,
     };
-    if value::is_text(value_type) {
-        let from = start as usize;
-        let end = from + word as usize;
-        return &bytes[from..end];
-    }
-    &bytes[0..0]
+    part_in(bytes, read_judged(&d, index, sub))
 }
 
 // The part of the lent bytes that holds a text or bytes; the empty part where a number or nothing is read.
@@ -114,46 +107,27 @@ pub fn read_part<'a>(
 ) -> &'a [u8]
     ensures { result.now ≡ part_in bytes.now (read_of (dict objects.now slots.now words.now bytes.now) index sub) }
 {
-    if !judge::well_formed(objects, slots, words, bytes) {
-        return &bytes[0..0];
-    }
-    read_part_judged(objects, slots, words, bytes, index, sub)
+    part_in(bytes, read(objects, slots, words, bytes, index, sub))
 }
 
-fn of_type(found: Stored, t: u64) -> Number
+fn of_type(found: Result<Stored, Refusal>, t: u64) -> Result<u64, Refusal>
     ensures { result ≡ of_type t found }
 {
     match found {
-        Stored::Is {
-            value_type,
-            word,
-            start: _,
-        } => if value_type == t {
-            Number::Is(word)
+        Ok(v) => if v.value_type == t {
+            Ok(v.word)
         } else {
-            Number::Refused(Refusal::TypeMismatch)
+            Err(Refusal::TypeMismatch)
         },
-        Stored::Refused(r) => Number::Refused(r),
+        Err(r) => Err(r),
     }
 }
 
 // The number of type t at an index and a sub-index of a dictionary that was judged.
-pub fn read_number_judged(
-    objects: &[u64],
-    slots: &[u64],
-    words: &[u64],
-    bytes: &[u8],
-    index: u16,
-    sub: u8,
-    t: u64,
-) -> Number
-    requires { well_formed (dict objects.now slots.now words.now bytes.now) ≡ true }
-    ensures { result ≡ of_type t (read_of (dict objects.now slots.now words.now bytes.now) index sub) }
+pub fn read_number_judged(d: &Dictionary, index: u16, sub: u8, t: u64) -> Result<u64, Refusal>
+    ensures { result ≡ of_type t (read_of d.now index sub) }
 {
-    let Found::At(i) = entry::find(objects, index) else {
-        return Number::Refused(Refusal::ObjectNotFound);
-    };
-    of_type(read_in(objects, slots, words, bytes, i, index, sub), t)
+    of_type(read_judged(d, index, sub), t)
 }
 
 // The number of type t at an index and a sub-index.
@@ -165,15 +139,13 @@ pub fn read_number(
     index: u16,
     sub: u8,
     t: u64,
-) -> Number
+) -> Result<u64, Refusal>
     ensures { result ≡ of_type t (read_of (dict objects.now slots.now words.now bytes.now) index sub) }
 {
-    if !judge::well_formed(objects, slots, words, bytes) {
-        return Number::Refused(Refusal::Malformed);
-    }
-    read_number_judged(objects, slots, words, bytes, index, sub, t)
+    of_type(read(objects, slots, words, bytes, index, sub), t)
 }
 
+// The four readings have the Rust's names: each is the number of one type.
 pub fn read_u8(
     objects: &[u64],
     slots: &[u64],
@@ -181,7 +153,7 @@ pub fn read_u8(
     bytes: &[u8],
     index: u16,
     sub: u8,
-) -> Number
+) -> Result<u64, Refusal>
     ensures { result ≡ of_type 5 (read_of (dict objects.now slots.now words.now bytes.now) index sub) }
 {
     read_number(objects, slots, words, bytes, index, sub, 5)
@@ -194,7 +166,7 @@ pub fn read_u16(
     bytes: &[u8],
     index: u16,
     sub: u8,
-) -> Number
+) -> Result<u64, Refusal>
     ensures { result ≡ of_type 6 (read_of (dict objects.now slots.now words.now bytes.now) index sub) }
 {
     read_number(objects, slots, words, bytes, index, sub, 6)
@@ -207,7 +179,7 @@ pub fn read_u32(
     bytes: &[u8],
     index: u16,
     sub: u8,
-) -> Number
+) -> Result<u64, Refusal>
     ensures { result ≡ of_type 7 (read_of (dict objects.now slots.now words.now bytes.now) index sub) }
 {
     read_number(objects, slots, words, bytes, index, sub, 7)
@@ -220,7 +192,7 @@ pub fn read_u64(
     bytes: &[u8],
     index: u16,
     sub: u8,
-) -> Number
+) -> Result<u64, Refusal>
     ensures { result ≡ of_type 8 (read_of (dict objects.now slots.now words.now bytes.now) index sub) }
 {
     read_number(objects, slots, words, bytes, index, sub, 8)

@@ -1,18 +1,13 @@
 -- The mapping count: RULES.md 9. Assumes nothing.
-use Rattle.std.specs.Prelude.{ℕ, zero, suc, cond, not, ◌||◌, List, eqb, leb, ltb, get_or}
-use Rattle.answers.specs.declared.Answer.{Answer}
-use Rattle.answers.specs.declared.Answer.TheVariants.{Done, Refused}
+use Rattle.answers.specs.declared.Refusal.{Refusal}
+use Rattle.std.specs.Prelude.{ℕ, zero, suc, cond, not, ◌||◌, List, eqb, leb, ltb, get_or, Option, Some, None, Result, Ok, Err}
 use Rattle.answers.specs.declared.Refusal.TheVariants.{Malformed, ObjectNotFound, MissingEntries, PdoMapOverrun}
 use Rattle.mapping.specs.Word.{entry_of, end_of}
 use Rattle.entry.specs.Table.{Dict, sends, is_mapping, kind_at, count_at, first_at, type_at}
 use Rattle.entry.specs.Find.{find_row, place_of}
 use Rattle.entry.specs.Judge.{well_formed}
-use Rattle.entry.specs.declared.Found.{Found}
-use Rattle.entry.specs.declared.Found.TheVariants.{At, Nothing}
 use Rattle.entry.specs.declared.Place.{Place}
 use Rattle.entry.specs.declared.Place.TheVariants.{NoObject, NoSub, Count, Value}
-use Rattle.pdo_validator.specs.declared.Mapped.{Mapped}
-use Rattle.pdo_validator.specs.declared.Mapped.TheVariants.{Upto, Missing}
 
 -- R9.3: the U16 there, or 1,490
 abbrev pub u16_at : Dict → Place → ℕ
@@ -28,28 +23,28 @@ abbrev pub most : ℕ → ℕ → ℕ
 most a b = cond (ltb a b) b a
 
 -- R9.2: the largest end of n mapping words from slot p on, and of e; missing where one is no U64
-unfoldable pub ends_from : List ℕ → List ℕ → ℕ → ℕ → ℕ → Mapped
-ends_from slots words zero p e = Upto e
+unfoldable pub ends_from : List ℕ → List ℕ → ℕ → ℕ → ℕ → Option ℕ
+ends_from slots words zero p e = Some e
 ends_from slots words (suc n) p e =
-    cond (eqb (type_at slots p) 8) (ends_from slots words n (suc p) (most e (end_of (entry_of (get_or words p 0))))) Missing
+    cond (eqb (type_at slots p) 8) (ends_from slots words n (suc p) (most e (end_of (entry_of (get_or words p 0))))) None
 
-abbrev pub within_limit : ℕ → Mapped → Answer
-within_limit limit (Upto e) = cond (leb e limit) Done (Refused PdoMapOverrun)
-within_limit limit Missing = Refused MissingEntries
+abbrev pub within_limit : ℕ → Option ℕ → Result (Unit {0}) Refusal
+within_limit limit (Some e) = cond (leb e limit) (Ok tt) (Err PdoMapOverrun)
+within_limit limit None = Err MissingEntries
 
 -- R9.2: "the object must be an Array"; "All of its first n elements must be there"
-unfoldable pub count_on : Dict → ℕ → ℕ → Found → Answer
-count_on d x n (At i) =
+unfoldable pub count_on : Dict → ℕ → ℕ → Option ℕ → Result (Unit {0}) Refusal
+count_on d x n (Some i) =
     cond (eqb (kind_at d.objects i) 1)
     (cond (leb n (count_at d.objects i))
     (within_limit (limit_of d x) (ends_from d.slots d.words n (first_at d.objects i) 0))
-    (Refused MissingEntries))
-    (Refused ObjectNotFound)
-count_on d x n Nothing = Refused ObjectNotFound
+    (Err MissingEntries))
+    (Err ObjectNotFound)
+count_on d x n None = Err ObjectNotFound
 
 -- R9.1, of a dictionary that was judged
-unfoldable pub count_of : Dict → ℕ → ℕ → Answer
-count_of d x n = cond (eqb n 0 || not (is_mapping x)) Done (count_on d x n (find_row d.objects x))
+unfoldable pub count_of : Dict → ℕ → ℕ → Result (Unit {0}) Refusal
+count_of d x n = cond (eqb n 0 || not (is_mapping x)) (Ok tt) (count_on d x n (find_row d.objects x))
 
-unfoldable pub valid_of : Dict → ℕ → ℕ → Answer
-valid_of d x n = cond (well_formed d) (count_of d x n) (Refused Malformed)
+unfoldable pub valid_of : Dict → ℕ → ℕ → Result (Unit {0}) Refusal
+valid_of d x n = cond (well_formed d) (count_of d x n) (Err Malformed)

@@ -1,23 +1,15 @@
 // The mapping count: whether the first n elements of a mapping may be used.
 #![tactic(auto)]
 
-ghost use Rattle.std.specs.Prelude.{◌≡◌, true, ◌<◌};
+ghost use Rattle.std.specs.Prelude.{◌≡◌, ◌<◌, Some};
 ghost use Rattle.entry.specs.Table.{dict, number_of, sends};
 ghost use Rattle.entry.specs.Find.{Elements};
-ghost use Rattle.entry.specs.Judge.{well_formed};
-ghost use Rattle.entry.specs.declared.Found.TheVariants.{At};
 ghost use Rattle.pdo_validator.specs.Counting.{limit_of, ends_from, within_limit, count_on, count_of, valid_of};
 
-use answers::{Answer, Refusal};
-use entry::{Found, Place};
+use answers::Refusal;
+use entry::Place;
+use judge::Dictionary;
 use mapping::PdoMappingEntry;
-
-// The largest end of some mapping words in bytes, or that one of them is none.
-#[derive(Clone, Copy)]
-pub enum Mapped {
-    Upto(usize),
-    Missing,
-}
 
 fn is_sent(index: u16) -> bool
     ensures { result ≡ sends index }
@@ -26,100 +18,78 @@ fn is_sent(index: u16) -> bool
 }
 
 // The most bytes that a payload may have.
-fn limit(objects: &[u64], slots: &[u64], words: &[u64], bytes: &[u8], index: u16) -> u64
-    requires { well_formed (dict objects.now slots.now words.now bytes.now) ≡ true }
-    ensures { result ≡ limit_of (dict objects.now slots.now words.now bytes.now) index }
+fn limit(d: &Dictionary, index: u16) -> u64
+    ensures { result ≡ limit_of d.now index }
 {
     let sub = if is_sent(index) { 1 } else { 2 };
-    let Place::Value(p) = entry::locate(objects, 0x1F98, sub) else {
+    let Place::Value(p) = entry::locate(d.objects, 0x1F98, sub) else {
         return 1490;
     };
-    if entry::type_at(slots, p) == 6 {
-        return words[p];
+    if entry::type_at(d.slots, p) == 6 {
+        return d.words[p];
     }
     1490
 }
 
 // The largest end of n mapping words, of which the first lies at slot `first`.
-pub fn ends(slots: &[u64], words: &[u64], n: usize, first: usize) -> Mapped
+pub fn ends(slots: &[u64], words: &[u64], n: usize, first: usize) -> Option<usize>
     requires { Elements slots.now words.now n first }
     ensures { result ≡ ends_from slots.now words.now n first 0 }
 {
     let mut end = 0;
-    let mut k = 0;
-    while k < n {
+    for k in 0..n {
         if entry::type_at(slots, first + k) != 8 {
-            return Mapped::Missing;
+            return None;
         }
-        let e = PdoMappingEntry::from_u64(words[first + k]).end();
-        if end < e {
-            end = e;
-        }
-        k += 1;
+        end = end.max(PdoMappingEntry::from_u64(words[first + k]).end());
     }
-    Mapped::Upto(end)
+    Some(end)
 }
 
-fn fits(limit: u64, ends: Mapped) -> Answer
+fn fits(limit: u64, ends: Option<usize>) -> Result<(), Refusal>
     ensures { result ≡ within_limit limit ends }
 {
     match ends {
-        Mapped::Missing => Answer::Refused(Refusal::MissingEntries),
-        Mapped::Upto(e) => if e as u64 <= limit {
-            Answer::Done
+        None => Err(Refusal::MissingEntries),
+        Some(e) => if e as u64 <= limit {
+            Ok(())
         } else {
-            Answer::Refused(Refusal::PdoMapOverrun)
+            Err(Refusal::PdoMapOverrun)
         },
     }
 }
 
 // Of the mapping in row i.
-fn count_in(
-    objects: &[u64],
-    slots: &[u64],
-    words: &[u64],
-    bytes: &[u8],
-    index: u16,
-    n: u8,
-    i: usize,
-) -> Answer
-    requires bytes_value { well_formed (dict objects.now slots.now words.now bytes.now) ≡ true }
-    requires i_bound { i < number_of objects.now }
-    ensures { result ≡ count_on (dict objects.now slots.now words.now bytes.now) index n (At i) }
+fn count_in(d: &Dictionary, index: u16, n: u8, i: usize) -> Result<(), Refusal>
+    requires { i < number_of d.now.objects }
+    ensures { result ≡ count_on d.now index n (Some i) }
 {
-    if entry::kind_at(objects, i) != 1 {
-        return Answer::Refused(Refusal::ObjectNotFound);
+    if entry::kind_at(d.objects, i) != 1 {
+        return Err(Refusal::ObjectNotFound);
     }
-    if entry::count_at(objects, i) < n as u64 {
-        return Answer::Refused(Refusal::MissingEntries);
+    if entry::count_at(d.objects, i) < n as u64 {
+        return Err(Refusal::MissingEntries);
     }
-    let first = entry::first_at(objects, i) as usize;
-    let found = ends(slots, words, n as usize, first);
-    fits(limit(objects, slots, words, bytes, index), found)
+    let first = entry::first_at(d.objects, i) as usize;
+    let found = ends(d.slots, d.words, n as usize, first);
+    fits(limit(d, index), found)
 }
 
 // Of a dictionary that was judged.
-pub fn judge_count(
-    objects: &[u64],
-    slots: &[u64],
-    words: &[u64],
-    bytes: &[u8],
-    index: u16,
-    n: u8,
-) -> Answer
-    requires { well_formed (dict objects.now slots.now words.now bytes.now) ≡ true }
-    ensures { result ≡ count_of (dict objects.now slots.now words.now bytes.now) index n }
+pub fn judge_count(d: &Dictionary, index: u16, n: u8) -> Result<(), Refusal>
+    ensures { result ≡ count_of d.now index n }
 {
     if (n == 0) | !entry::is_mapping(index as u64) {
-        return Answer::Done;
+        return Ok(());
     }
-    let Found::At(i) = entry::find(objects, index) else {
-        return Answer::Refused(Refusal::ObjectNotFound);
+    let Some(i) = entry::find(d.objects, index) else {
+        return Err(Refusal::ObjectNotFound);
     };
-    count_in(objects, slots, words, bytes, index, n, i)
+    count_in(d, index, n, i)
 }
 
 // May the first n elements of the mapping at an index be used? For an index of no mapping, and for n = 0: Done.
+#[tactic(auto, unfolding(crate::specs::Counting::valid_of))]
 pub fn validate_pdo_mapping(
     objects: &[u64],
     slots: &[u64],
@@ -127,11 +97,9 @@ pub fn validate_pdo_mapping(
     bytes: &[u8],
     index: u16,
     n: u8,
-) -> Answer
+) -> Result<(), Refusal>
     ensures { result ≡ valid_of (dict objects.now slots.now words.now bytes.now) index n }
 {
-    if !judge::well_formed(objects, slots, words, bytes) {
-        return Answer::Refused(Refusal::Malformed);
-    }
-    judge_count(objects, slots, words, bytes, index, n)
+    let d = Dictionary::judged(objects, slots, words, bytes)?;
+    judge_count(&d, index, n)
 }

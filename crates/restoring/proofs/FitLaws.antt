@@ -1,4 +1,5 @@
 -- What values and rows get, and whether it fits, does not change where other values do. Assumes nothing.
+use Rattle.std.specs.Prelude.{Option, Some, None}
 use mathlib.Core.Path.{◌≡◌, refl, ap, ap₂, ◌∙◌}
 use mathlib.Core.Bool.{Bool, true, false, ◌&&◌, ◌||◌, not}
 use mathlib.Core.List.{List}
@@ -11,8 +12,6 @@ use Rattle.entry.specs.Table.{Dict, number_of, values_of, index_at, kind_at, cou
 use Rattle.entry.specs.Judge.{well_formed}
 use Rattle.entry.proofs.FactLaws.{row_facts}
 use Rattle.entry.proofs.ApartLaws.{firsts_rise}
-use Rattle.entry.specs.declared.Found.{Found}
-use Rattle.entry.specs.declared.Found.TheVariants.{At, Nothing}
 use Rattle.fitting.specs.Records.{record_of}
 use Rattle.fitting.specs.Fit.{slot_in, default_in, key_at, has_default, choice_of, chosen_at, fits_room, values_fit, in_range, rows_fit}
 use Rattle.fitting.specs.declared.Choice.{Choice}
@@ -45,9 +44,9 @@ module _ (P : ℕ → Type 0) (d e : Dict) (w : well_formed d ≡ true) (o : Onl
     unfolding chosen_at
     chosen_stays k hk away = ap (λ l. choice_of e i k (record_of s (key_at l i k))) o.objects ∙ go (record_of s (key_at d.objects i k))
       where
-        go : (f : Found) → choice_of e i k f ≡ choice_of d i k f
-        go (At a) = refl
-        go Nothing = rw (default_stays k hk away, o.objects)
+        go : (f : Option ℕ) → choice_of e i k f ≡ choice_of d i k f
+        go (Some a) = refl
+        go None = rw (default_stays k hk away, o.objects)
 
     fits_stays : (k : ℕ) → k < count_at d.objects i → ((q : ℕ) → slot_in d.objects i k ≤ q → P q → ⊥)
         → fits_room e s (slot_in d.objects i k) (chosen_at d s i k) ≡ fits_room d s (slot_in d.objects i k) (chosen_at d s i k)

@@ -1,4 +1,5 @@
 -- The two walks, one turn at a time; and the result: it is well-formed, and all but the values of the range stays. Assumes nothing.
+use Rattle.std.specs.Prelude.{Ok, Err}
 use mathlib.Core.Path.{◌≡◌, refl, sym, ap, ◌∙◌, subst}
 use mathlib.Core.Bool.{Bool, true, false, cond, ◌||◌, not}
 use mathlib.Core.List.{List}
@@ -12,7 +13,6 @@ use Rattle.entry.proofs.ApartLaws.{firsts_rise}
 use Rattle.fitting.specs.Fit.{slot_in, chosen_at, fits_room, values_fit, in_range, rows_fit}
 use Rattle.restoring.specs.Restore.{restored_by, values_restored, rows_restored, after_restore, restore_of}
 use Rattle.answers.specs.declared.Refusal.TheVariants.{TooLong}
-use Rattle.restoring.specs.declared.Restored.TheVariants.{Done, Refused}
 use Rattle.restoring.proofs.OnlyLaws.{Only, only_same, only_more, only_then}
 use Rattle.restoring.proofs.TurnLaws.{Kept, turn}
 use Rattle.restoring.proofs.FitLaws.{values_stay, rows_stay}
@@ -139,6 +139,6 @@ pub restore_keeps : (d : Dict) (s : List ℕ) (first last : ℕ) → well_formed
 unfolding restore_of
 restore_keeps d s first last e b bs = rw e (go (rows_fit d s first last (number_of d.objects) 0) refl)
   where
-    go : (a : Bool) → rows_fit d s first last (number_of d.objects) 0 ≡ a → Kept (Touched d.objects first last) d (cond a (after_restore Done (rows_restored d s first last (number_of d.objects) 0)) (after_restore (Refused TooLong) d)).memory
+    go : (a : Bool) → rows_fit d s first last (number_of d.objects) 0 ≡ a → Kept (Touched d.objects first last) d (cond a (after_restore (Ok tt) (rows_restored d s first last (number_of d.objects) 0)) (after_restore (Err TooLong) d)).memory
     go true q = rows_kept s bs first last (number_of d.objects) 0 d (record { well = e; bytes = b; all = omega arith; fits = q })
     go false q = record { well = e; bytes = b; only = only_same (Touched d.objects first last) d }

@@ -1,5 +1,6 @@
 -- restore_power_on_values: RULES.md 10. Assumes nothing.
-use Rattle.std.specs.Prelude.{ℕ, zero, suc, ◌+◌, ◌*◌, ◌^◌, ◌≤◌, ◌<◌, ◌≡◌, true, false, cond, List, length, get_or}
+use Rattle.answers.specs.declared.Refusal.{Refusal}
+use Rattle.std.specs.Prelude.{ℕ, zero, suc, ◌+◌, ◌*◌, ◌^◌, ◌≤◌, ◌<◌, ◌≡◌, true, false, cond, List, length, get_or, Result, Ok, Err}
 use Rattle.answers.specs.declared.Refusal.TheVariants.{Malformed, TooLong}
 use Rattle.value.specs.Codec.{is_text, size_of}
 use Rattle.entry.specs.Table.{Dict, number_of, index_at, count_at, slot_end, type_at, start_at}
@@ -9,8 +10,6 @@ use Rattle.entry.specs.Judge.{well_formed}
 use Rattle.image.specs.Readable.{type_in}
 use Rattle.fitting.specs.declared.Choice.{Choice}
 use Rattle.fitting.specs.declared.Choice.TheVariants.{Keep, Stored, Default}
-use Rattle.restoring.specs.declared.Restored.{Restored}
-use Rattle.restoring.specs.declared.Restored.TheVariants.{Done, Refused}
 use Rattle.fitting.specs.Records.{body_in}
 use Rattle.fitting.specs.Fit.{slot_in, chosen_at, in_range, rows_fit}
 
@@ -33,10 +32,10 @@ rows_restored d s first last (suc n) i =
 
 -- ---- an answer, and the dictionary after it
 pub record AfterRestore : Type 0 where
-  pub answer : Restored
+  pub answer : Result (Unit {0}) Refusal
   pub memory : Dict
 
-abbrev pub after_restore : Restored → Dict → AfterRestore
+abbrev pub after_restore : Result (Unit {0}) Refusal → Dict → AfterRestore
 after_restore a d = record { answer = a; memory = d }
 
 -- R10.8: "Malformed (1), TooLong (13)"; R10.10: "nothing is put"
@@ -44,9 +43,9 @@ unfoldable pub restore_of : Dict → List ℕ → ℕ → ℕ → AfterRestore
 restore_of d s first last =
     cond (well_formed d)
     (cond (rows_fit d s first last (number_of d.objects) 0)
-    (after_restore Done (rows_restored d s first last (number_of d.objects) 0))
-    (after_restore (Refused TooLong) d))
-    (after_restore (Refused Malformed) d)
+    (after_restore (Ok tt) (rows_restored d s first last (number_of d.objects) 0))
+    (after_restore (Err TooLong) d))
+    (after_restore (Err Malformed) d)
 
 -- what copying the default at slot q to value p needs
 pub record Copies (slots words bytes : List ℕ) (p q : ℕ) : Type 0 where

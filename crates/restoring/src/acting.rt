@@ -10,6 +10,7 @@ ghost use Rattle.fitting.specs.Fit.{slot_in, chosen_at, fits_room, values_fit, r
 ghost use Rattle.restoring.specs.Restore.{restored_by, values_restored, rows_restored, Copies};
 
 use fitting::{Choice, choose, restorable};
+use judge::Dictionary;
 
 // Puts the stored value of the record at place a as value p.
 fn put_stored(
@@ -46,7 +47,7 @@ fn put_default(slots: &mut [u64], words: &mut [u64], bytes: &mut [u8], p: usize,
     slots[place] = t;
     words[p] = w;
     if value::is_text(t) {
-        lists::move_down_bytes(bytes, to, from, from + w as usize);
+        lists::move_down(bytes, to, from, from + w as usize);
     }
 }
 
@@ -69,10 +70,15 @@ fn restore_value(
     ensures held { dict objects.now slots.new words.new bytes.new ≡ restored_by (dict objects.now slots.old words.old bytes.old) store.now (slot_in objects.now i k) (chosen_at (dict objects.now slots.old words.old bytes.old) store.now i k) }
     ensures near { result ≤ n }
 {
-    let c = choose(objects, slots, words, bytes, store, n, i, k, near);
+    let d = Dictionary {
+        objects,
+        slots,
+        words,
+        bytes,
+    };
+    let c = choose(&d, store, n, i, k, near);
     let p = entry::first_at(objects, i) as usize + k;
-    let choice = c.choice;
-    match choice {
+    match c.choice {
         Choice::Keep => {}
         Choice::Stored(a) => put_stored(slots, words, bytes, store, p, a),
         Choice::Default(q) => put_default(slots, words, bytes, p, q),
@@ -100,14 +106,13 @@ fn restore_values(
 {
     let count = entry::count_at(objects, i) as usize;
     let mut at = near;
-    let mut k = 0;
-    while k < count {
+    for k in 0..count {
         at = restore_value(objects, slots, words, bytes, store, n, i, k, at);
-        k += 1;
     }
     at
 }
 
+// `rows_fit` walks the same rows. One walk of both would take a closure, and of what it changes in the slices a proof knows nothing.
 pub fn restore_rows(
     objects: &[u64],
     slots: &mut [u64],
@@ -124,13 +129,10 @@ pub fn restore_rows(
     ensures { dict objects.now slots.new words.new bytes.new ≡ rows_restored (dict objects.now slots.old words.old bytes.old) store.now first last (number_of objects.now) 0 }
 {
     let rows = image::rows_in(objects, first, last);
-    let end = rows.end;
     let mut at = 0;
-    let mut i = rows.from;
-    while i < end {
+    for i in rows.from..rows.end {
         if restorable(entry::index_at(objects, i)) {
             at = restore_values(objects, slots, words, bytes, store, n, i, at);
         }
-        i += 1;
     }
 }

@@ -4,11 +4,4 @@
 mod acting;
 mod restore;
 
-use answers::Refusal;
 pub use restore::{restore_judged, restore_power_on_values};
-
-#[derive(Clone, Copy)]
-pub enum Restored {
-    Done,
-    Refused(Refusal),
-}

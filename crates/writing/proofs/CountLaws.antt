@@ -1,4 +1,5 @@
 -- Where a write keeps a count: in edition 2, of a mapping's row, and no more than its elements. Assumes nothing.
+use Rattle.std.specs.Prelude.{Option, Some, None, Ok, Err}
 use mathlib.Core.Path.{◌≡◌, refl, sym, ap, ◌∙◌}
 use mathlib.Core.Bool.{Bool, true, false, cond, not, ◌&&◌, ◌||◌}
 use mathlib.Core.List.{List}
@@ -8,15 +9,12 @@ use borrow.Author.Tests.{eqb-true, leb-true}
 use lib.Dec.{eqb, leb, ltb}
 use lib.ListN.{length, get_or}
 use Rattle.lists.specs.Numbers.{number}
-use Rattle.answers.specs.declared.Answer.TheVariants as answer
 use Rattle.answers.specs.declared.Refusal.TheVariants.{ObjectNotFound, MissingEntries, ReadOnly, TypeMismatch, TooLong, OutOfRange, CountNotWritable}
 use Rattle.value.specs.Codec.{is_text}
 use Rattle.entry.specs.declared.Extra.{Extra}
 use Rattle.entry.specs.Table.{Dict, edition_of, is_mapping, number_of, kind_at, access_at, count_at, list_count, first_at, extra_at, type_at, room_at}
 use Rattle.entry.specs.Find.{find_row, sub_at}
 use Rattle.entry.specs.Judge.{well_formed}
-use Rattle.entry.specs.declared.Found.{Found}
-use Rattle.entry.specs.declared.Found.TheVariants.{At, Nothing}
 use Rattle.entry.specs.declared.Place.{Place}
 use Rattle.entry.specs.declared.Place.TheVariants.{NoObject, NoSub, Count, Value}
 use Rattle.entry.proofs.ValueLaws.{found_lies}
@@ -27,7 +25,7 @@ use Rattle.writing.proofs.ReachLaws.{reached}
 
 -- what a kept count comes from
 pub record Counted (d : Dict) (x sub : ℕ) (s : List ℕ) (i n : ℕ) : Type 0 where
-  pub found : find_row d.objects x ≡ At i
+  pub found : find_row d.objects x ≡ Some i
   pub number : n ≡ get_or s 0 0
   pub edition : eqb (edition_of d.objects) 2 ≡ true
   pub mapping : is_mapping x ≡ true
@@ -45,16 +43,16 @@ sub-count objects i sub m e = go (eqb (kind_at objects i) 0) (eqb sub 0) (leb su
     go false false false e = let z : ◌≡◌ {A = ℕ} 0 1 = cc in absurd (omega arith)
 
 -- a count that is right is of no more than the elements
-count_fits : (d : Dict) (x n i : ℕ) → is_mapping x ≡ true → find_row d.objects x ≡ At i → count_of d x n ≡ answer.Done → n ≤ count_at d.objects i
+count_fits : (d : Dict) (x n i : ℕ) → is_mapping x ≡ true → find_row d.objects x ≡ Some i → count_of d x n ≡ (Ok tt) → n ≤ count_at d.objects i
 unfolding count_of count_on
-count_fits d x n i m f e = go (eqb n 0) (is_mapping x) refl m (sym (ap (λ g. cond (eqb n 0 || not (is_mapping x)) answer.Done (count_on d x n g)) f) ∙ e)
+count_fits d x n i m f e = go (eqb n 0) (is_mapping x) refl m (sym (ap (λ g. cond (eqb n 0 || not (is_mapping x)) (Ok tt) (count_on d x n g)) f) ∙ e)
   where
-    on : (k l : Bool) → leb n (count_at d.objects i) ≡ l → cond k (cond l (within_limit (limit_of d x) (ends_from d.slots d.words n (first_at d.objects i) 0)) (answer.Refused MissingEntries)) (answer.Refused ObjectNotFound) ≡ answer.Done → n ≤ count_at d.objects i
+    on : (k l : Bool) → leb n (count_at d.objects i) ≡ l → cond k (cond l (within_limit (limit_of d x) (ends_from d.slots d.words n (first_at d.objects i) 0)) (Err MissingEntries)) (Err ObjectNotFound) ≡ (Ok tt) → n ≤ count_at d.objects i
     on true true q e = leb-true _ _ q
     on true false q e = let z : ◌≡◌ {A = ℕ} 0 1 = cc in absurd (omega arith)
     on false l q e = let z : ◌≡◌ {A = ℕ} 0 1 = cc in absurd (omega arith)
 
-    go : (a b : Bool) → eqb n 0 ≡ a → b ≡ true → cond (a || not b) answer.Done (count_on d x n (At i)) ≡ answer.Done → n ≤ count_at d.objects i
+    go : (a b : Bool) → eqb n 0 ≡ a → b ≡ true → cond (a || not b) (Ok tt) (count_on d x n (Some i)) ≡ (Ok tt) → n ≤ count_at d.objects i
     go true b h m e = omega (arith, eqb-true n 0 h)
     go false true h m e = on (eqb (kind_at d.objects i) 1) (leb n (count_at d.objects i)) refl e
     go false false h m e = let z : ◌≡◌ {A = ℕ} 0 1 = cc in absurd (omega arith)
@@ -73,25 +71,25 @@ object_kept : (d : Dict) (x sub t : ℕ) (s : List ℕ) (i n : ℕ) → in_objec
 unfolding keep_of
 object_kept d x sub t s i n e = row (find_row d.objects x) refl e
   where
-    counted : (j m : ℕ) → find_row d.objects x ≡ At j → sub_at d.objects j sub ≡ Count m → (a b : Bool) → is_mapping x ≡ a → eqb (edition_of d.objects) 2 ≡ b
+    counted : (j m : ℕ) → find_row d.objects x ≡ Some j → sub_at d.objects j sub ≡ Count m → (a b : Bool) → is_mapping x ≡ a → eqb (edition_of d.objects) 2 ≡ b
         → cond a (cond b (Keep j (get_or s 0 0)) Accepted) (Refused CountNotWritable) ≡ Keep i n → Counted d x sub s i n
-    counted j m f w true true u v e = record { found = f ∙ ap At (cc e); number = cc e; edition = v; mapping = u; count = sub-count d.objects j sub m w }
+    counted j m f w true true u v e = record { found = f ∙ ap Some (cc e); number = cc e; edition = v; mapping = u; count = sub-count d.objects j sub m w }
     counted j m f w true false u v e = let z : ◌≡◌ {A = ℕ} 0 1 = cc in absurd (omega arith)
     counted j m f w false b u v e = let z : ◌≡◌ {A = ℕ} 0 1 = cc in absurd (omega arith)
 
-    place : (j : ℕ) → find_row d.objects x ≡ At j → (q : Place) → sub_at d.objects j sub ≡ q → in_place d j x t s q ≡ Keep i n → Counted d x sub s i n
+    place : (j : ℕ) → find_row d.objects x ≡ Some j → (q : Place) → sub_at d.objects j sub ≡ q → in_place d j x t s q ≡ Keep i n → Counted d x sub s i n
     place j f NoObject w e = let z : ◌≡◌ {A = ℕ} 0 1 = cc in absurd (omega arith)
     place j f NoSub w e = let z : ◌≡◌ {A = ℕ} 0 1 = cc in absurd (omega arith)
     place j f (Count m) w e = counted j m f w (is_mapping x) (eqb (edition_of d.objects) 2) refl refl e
     place j f (Value q) w e = absurd (value_not_kept d.slots (extra_at d.objects j) q t s i n e)
 
-    allowed : (j : ℕ) → find_row d.objects x ≡ At j → (b : Bool) → cond b (Refused ReadOnly) (in_place d j x t s (sub_at d.objects j sub)) ≡ Keep i n → Counted d x sub s i n
+    allowed : (j : ℕ) → find_row d.objects x ≡ Some j → (b : Bool) → cond b (Refused ReadOnly) (in_place d j x t s (sub_at d.objects j sub)) ≡ Keep i n → Counted d x sub s i n
     allowed j f true e = let z : ◌≡◌ {A = ℕ} 0 1 = cc in absurd (omega arith)
     allowed j f false e = place j f (sub_at d.objects j sub) refl e
 
-    row : (f : Found) → find_row d.objects x ≡ f → in_object d x sub t s f ≡ Keep i n → Counted d x sub s i n
-    row (At j) f e = allowed j f (eqb (access_at d.objects j) 0 || eqb (access_at d.objects j) 5) e
-    row Nothing f e = let z : ◌≡◌ {A = ℕ} 0 1 = cc in absurd (omega arith)
+    row : (f : Option ℕ) → find_row d.objects x ≡ f → in_object d x sub t s f ≡ Keep i n → Counted d x sub s i n
+    row (Some j) f e = allowed j f (eqb (access_at d.objects j) 0 || eqb (access_at d.objects j) 5) e
+    row None f e = let z : ◌≡◌ {A = ℕ} 0 1 = cc in absurd (omega arith)
 
 -- ---- so it is of a row that is there, and of no more than its elements
 pub record Keeping (d : Dict) (x sub : ℕ) (s : List ℕ) (i n : ℕ) : Type 0 where
@@ -106,7 +104,7 @@ judged_keep d w m x sub t s i n e =
     let k = object_kept d x sub t s i n r.object in
     record { counted = k; below = (found_lies d w x i k.found).below; few = right k (eqb sub 0) (is_mapping x) (eqb t 5) k.count k.mapping r.counts }
   where
-    right : Counted d x sub s i n → (a b c : Bool) → a ≡ true → b ≡ true → cond (a && b) (cond c (count_of d x (get_or s 0 0)) (answer.Refused TypeMismatch)) answer.Done ≡ answer.Done → n ≤ count_at d.objects i
+    right : Counted d x sub s i n → (a b c : Bool) → a ≡ true → b ≡ true → cond (a && b) (cond c (count_of d x (get_or s 0 0)) (Err TypeMismatch)) (Ok tt) ≡ (Ok tt) → n ≤ count_at d.objects i
     right k true true true p q e = rw k.number (count_fits d x (get_or s 0 0) i k.mapping k.found e)
     right k true true false p q e = let z : ◌≡◌ {A = ℕ} 0 1 = cc in absurd (omega arith)
     right k true false c p q e = let z : ◌≡◌ {A = ℕ} 0 1 = cc in absurd (omega arith)

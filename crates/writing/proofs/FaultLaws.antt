@@ -1,5 +1,7 @@
 -- R8.5: data that does not decode is refused with its fault, whatever it is written to, and the fault is what R3.9 says of the data.
 -- Assumes nothing.
+use Rattle.std.specs.Prelude.{Option, Some, None, Result, Ok, Err}
+use Rattle.answers.specs.declared.Refusal.{Refusal}
 use mathlib.Core.Path.{◌≡◌, refl, ap, ◌∙◌}
 use mathlib.Core.Bool.{Bool, true, false, cond, ◌&&◌, ◌||◌}
 use mathlib.Core.List.{List}
@@ -7,8 +9,6 @@ use Prim.Native.Nat.{ℕ}
 use native.Mathlib.Omega.{arith}
 use lib.Dec.{eqb, ltb}
 use lib.ListN.{length, get_or}
-use Rattle.answers.specs.declared.Answer.{Answer}
-use Rattle.answers.specs.declared.Answer.TheVariants as answer
 use Rattle.answers.specs.declared.Refusal.TheVariants.{Malformed, ReadOnly, NoStorage, CountNotWritable, TooLong, OutOfRange}
 use Rattle.lists.specs.Numbers.{number}
 use Rattle.value.specs.Codec.{is_text, exactly_of}
@@ -20,12 +20,8 @@ use Rattle.value.proofs.FaultLaws.{exactly_tells}
 use Rattle.entry.specs.Table.{Dict, edition_of, access_at, extra_at, type_at, room_at, is_mapping}
 use Rattle.entry.specs.Find.{find_row, sub_at}
 use Rattle.entry.specs.Judge.{well_formed}
-use Rattle.entry.specs.declared.Found.{Found}
-use Rattle.entry.specs.declared.Found.TheVariants.{At, Nothing}
 use Rattle.entry.specs.declared.Place.{Place}
 use Rattle.entry.specs.declared.Place.TheVariants.{NoObject, NoSub, Count, Value}
-use Rattle.commands.specs.declared.Saved.{Saved}
-use Rattle.commands.specs.declared.Saved.TheVariants as saved
 use Rattle.commands.specs.Save.{save_of}
 use Rattle.writing.specs.declared.Judged.{Judged}
 use Rattle.writing.specs.declared.Judged.TheVariants.{Put, Accepted, Keep, Save, Restore, NoValue, Refused}
@@ -62,13 +58,13 @@ value_decoded d n x sub t s =
     place i (Value p) =
         either (eqb (type_at d.slots p) t) _ _ (either (outside (extra_at d.objects i) t (number s)) (Refused OutOfRange) _ tt (either (is_text t && ltb (room_at d.slots p) (length s)) (Refused TooLong) (Put p) tt tt)) tt
 
-    row : (f : Found) → Decoded (in_object d x sub t s f)
-    row (At i) = either (eqb (access_at d.objects i) 0 || eqb (access_at d.objects i) 5) (Refused ReadOnly) _ tt (place i (sub_at d.objects i sub))
-    row Nothing = tt
+    row : (f : Option ℕ) → Decoded (in_object d x sub t s f)
+    row (Some i) = either (eqb (access_at d.objects i) 0 || eqb (access_at d.objects i) 5) (Refused ReadOnly) _ tt (place i (sub_at d.objects i sub))
+    row None = tt
 
-    counted : (a : Answer) → Decoded (after_count a (in_object d x sub t s (find_row d.objects x)))
-    counted answer.Done = row (find_row d.objects x)
-    counted (answer.Refused r) = tt
+    counted : (a : Result (Unit {0}) Refusal) → Decoded (after_count a (in_object d x sub t s (find_row d.objects x)))
+    counted (Ok _) = row (find_row d.objects x)
+    counted (Err r) = tt
 
 -- ---- the theorem, both ways
 pub write_no-value : (d : Dict) (store : List ℕ) (x sub t : ℕ) (s : List ℕ) (f : CodecFault) → well_formed d ≡ true → exactly_of t s ≡ exactly.Fails f
@@ -86,9 +82,9 @@ write_tells d store x sub t s f h = formed (well_formed d) h
     told (exactly.Fails g) q e = let z : g ≡ f = cc in exactly_tells t s f (q ∙ ap exactly.Fails z)
     told exactly.Many q e = let z : ◌≡◌ {A = ℕ} 0 1 = cc in absurd (omega arith)
 
-    saving : (a : Saved) → saved_as a ≡ wrote.NoValue f → Tells t s f
-    saving saved.Done e = let z : ◌≡◌ {A = ℕ} 0 1 = cc in absurd (omega arith)
-    saving (saved.Refused r) e = let z : ◌≡◌ {A = ℕ} 0 1 = cc in absurd (omega arith)
+    saving : (a : Result (Unit {0}) Refusal) → saved_as a ≡ wrote.NoValue f → Tells t s f
+    saving (Ok _) e = let z : ◌≡◌ {A = ℕ} 0 1 = cc in absurd (omega arith)
+    saving (Err r) e = let z : ◌≡◌ {A = ℕ} 0 1 = cc in absurd (omega arith)
 
     acted : (j : Judged) → judge_of d (length store) x sub t s ≡ j → (write_act_of d store sub s j).answer ≡ wrote.NoValue f → Tells t s f
     acted (Put p) q e = let z : ◌≡◌ {A = ℕ} 0 1 = cc in absurd (omega arith)

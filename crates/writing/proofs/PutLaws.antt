@@ -1,5 +1,6 @@
 -- Where a write puts a value, the value is of its type and fits its room; so a write keeps a dictionary well-formed.
 -- Assumes nothing.
+use Rattle.std.specs.Prelude.{Option, Some, None}
 use mathlib.Core.Path.{◌≡◌, refl, sym, ap, ◌∙◌}
 use mathlib.Core.Bool.{Bool, true, false, cond, ◌&&◌, ◌||◌}
 use mathlib.Core.List.{List}
@@ -16,8 +17,6 @@ use Rattle.entry.specs.declared.Extra.{Extra}
 use Rattle.entry.specs.Table.{Dict, edition_of, access_at, extra_at, type_at, room_at, is_mapping}
 use Rattle.entry.specs.Find.{find_row, sub_at, place_of, on_row}
 use Rattle.entry.specs.Judge.{well_formed}
-use Rattle.entry.specs.declared.Found.{Found}
-use Rattle.entry.specs.declared.Found.TheVariants.{At, Nothing}
 use Rattle.entry.specs.declared.Place.{Place}
 use Rattle.entry.specs.declared.Place.TheVariants.{NoObject, NoSub, Count, Value}
 use Rattle.entry.proofs.ValueLaws.{ValueFacts, element_of_lem, element_facts}
@@ -36,7 +35,7 @@ pub record Placed (d : Dict) (x sub t : ℕ) (s : List ℕ) (p : ℕ) : Type 0 w
   pub typed : type_at d.slots p ≡ t
   pub room : is_text t ≡ true → length s ≤ room_at d.slots p
   pub row : ℕ
-  pub found : find_row d.objects x ≡ At row
+  pub found : find_row d.objects x ≡ Some row
   pub inside : outside (extra_at d.objects row) t (number s) ≡ false
 
 record PutAt (slots : List ℕ) (x : Extra) (q t : ℕ) (s : List ℕ) (p : ℕ) : Type 0 where
@@ -70,7 +69,7 @@ object-placed d x sub t s p e = row (find_row d.objects x) refl e
     counted true false i n e = let z : ◌≡◌ {A = ℕ} 0 1 = cc in absurd (omega arith)
     counted false b i n e = let z : ◌≡◌ {A = ℕ} 0 1 = cc in absurd (omega arith)
 
-    place : (i : ℕ) → find_row d.objects x ≡ At i → (q : Place) → place_of d.objects x sub ≡ q → in_place d i x t s q ≡ Put p → Placed d x sub t s p
+    place : (i : ℕ) → find_row d.objects x ≡ Some i → (q : Place) → place_of d.objects x sub ≡ q → in_place d i x t s q ≡ Put p → Placed d x sub t s p
     place i f NoObject h e = let z : ◌≡◌ {A = ℕ} 0 1 = cc in absurd (omega arith)
     place i f NoSub h e = let z : ◌≡◌ {A = ℕ} 0 1 = cc in absurd (omega arith)
     place i f (Count n) h e = counted (is_mapping x) (eqb (edition_of d.objects) 2) i (get_or s 0 0) e
@@ -78,13 +77,13 @@ object-placed d x sub t s p e = row (find_row d.objects x) refl e
         let v = value-placed d.slots (extra_at d.objects i) q t s p e in
         record { place = h ∙ ap Value v.same; typed = sym (ap (type_at d.slots) v.same) ∙ v.typed; room = rw v.same at v.room; row = i; found = f; inside = v.inside }
 
-    allowed : (i : ℕ) → find_row d.objects x ≡ At i → (b : Bool) → cond b (Refused ReadOnly) (in_place d i x t s (sub_at d.objects i sub)) ≡ Put p → Placed d x sub t s p
+    allowed : (i : ℕ) → find_row d.objects x ≡ Some i → (b : Bool) → cond b (Refused ReadOnly) (in_place d i x t s (sub_at d.objects i sub)) ≡ Put p → Placed d x sub t s p
     allowed i f true e = let z : ◌≡◌ {A = ℕ} 0 1 = cc in absurd (omega arith)
     allowed i f false e = place i f (sub_at d.objects i sub) (ap (on_row d.objects sub) f) e
 
-    row : (f : Found) → find_row d.objects x ≡ f → in_object d x sub t s f ≡ Put p → Placed d x sub t s p
-    row (At i) f e = allowed i f (eqb (access_at d.objects i) 0 || eqb (access_at d.objects i) 5) e
-    row Nothing f e = let z : ◌≡◌ {A = ℕ} 0 1 = cc in absurd (omega arith)
+    row : (f : Option ℕ) → find_row d.objects x ≡ f → in_object d x sub t s f ≡ Put p → Placed d x sub t s p
+    row (Some i) f e = allowed i f (eqb (access_at d.objects i) 0 || eqb (access_at d.objects i) 5) e
+    row None f e = let z : ◌≡◌ {A = ℕ} 0 1 = cc in absurd (omega arith)
 
 pub judged_put : (d : Dict) (n x sub t : ℕ) (s : List ℕ) (p : ℕ) → judge_of d n x sub t s ≡ Put p → (exact t s ≡ true) × Placed d x sub t s p
 judged_put d n x sub t s p e = let r = reached d n x sub t s (Put p) tt e in (r.exactly, object-placed d x sub t s p r.object)

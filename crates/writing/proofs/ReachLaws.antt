@@ -1,11 +1,11 @@
 -- Where a write changes something of the dictionary, what was judged of it. Assumes nothing.
+use Rattle.std.specs.Prelude.{Result, Ok, Err}
+use Rattle.answers.specs.declared.Refusal.{Refusal}
 use mathlib.Core.Path.{◌≡◌, refl, sym, ap, subst}
 use mathlib.Core.Bool.{Bool, true, false, cond}
 use mathlib.Core.List.{List}
 use Prim.Native.Nat.{ℕ}
 use lib.Dec.{eqb, ltb}
-use Rattle.answers.specs.declared.Answer.{Answer}
-use Rattle.answers.specs.declared.Answer.TheVariants as answer
 use Rattle.answers.specs.declared.Refusal.TheVariants.{NoStorage, BadSignature}
 use Rattle.value.specs.Codec.{exactly_of, is_exact, exact}
 use Rattle.value.specs.declared.Exactness.{Exactness}
@@ -39,7 +39,7 @@ no_command signature c n sub t s = go (signed_by signature sub t s) (ltb n 2)
 -- where something changes, the data is a value, its count is right where it is one, and the object says what
 pub record Reached (d : Dict) (x sub t : ℕ) (s : List ℕ) (j : Judged) : Type 0 where
   pub exactly : exact t s ≡ true
-  pub counts : count_first d x sub t s ≡ answer.Done
+  pub counts : count_first d x sub t s ≡ Ok tt
   pub object : in_object d x sub t s (find_row d.objects x) ≡ j
 
 pub reached : (d : Dict) (n x sub t : ℕ) (s : List ℕ) (j : Judged) → Changes j → judge_of d n x sub t s ≡ j → Reached d x sub t s j
@@ -49,9 +49,9 @@ reached d n x sub t s j c e = right (exactly_of t s) refl e
     o : Judged
     o = in_object d x sub t s (find_row d.objects x)
 
-    counted : is_exact (exactly_of t s) ≡ true → (a : Answer) → count_first d x sub t s ≡ a → after_count a o ≡ j → Reached d x sub t s j
-    counted h answer.Done q e = record { exactly = h; counts = q; object = e }
-    counted h (answer.Refused r) q e = absurd (subst Changes (sym e) c)
+    counted : is_exact (exactly_of t s) ≡ true → (a : Result (Unit {0}) Refusal) → count_first d x sub t s ≡ a → after_count a o ≡ j → Reached d x sub t s j
+    counted h (Ok _) q e = record { exactly = h; counts = q; object = e }
+    counted h (Err r) q e = absurd (subst Changes (sym e) c)
 
     loads : is_exact (exactly_of t s) ≡ true → (b : Bool) → cond b (command_of load Restore n sub t s) (after_count (count_first d x sub t s) o) ≡ j → Reached d x sub t s j
     loads h true e = absurd (no_command load Restore n sub t s (subst Changes (sym e) c))

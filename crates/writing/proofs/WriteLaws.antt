@@ -5,11 +5,10 @@ use mathlib.Core.List.{List}
 use Prim.Native.Nat.{ℕ, ◌*◌, ◌^◌, ◌<◌, ◌≤◌}
 use native.Mathlib.Omega.{arith}
 use borrow.Author.Tests.{eqb-true, eqb-false, ne_eqb, leb-true, lt-leb, lt-ltb}
-use lib.Dec.{eqb, leb, ltb}
-use lib.ListN.{length, get_or, take, drop}
+use lib.Dec.{eqb, leb}
+use lib.ListN.{length, take, drop}
 use lib.Seq.{take_all}
-use Rattle.answers.specs.declared.Answer.TheVariants as answer
-use Rattle.answers.specs.declared.Refusal.TheVariants.{TypeMismatch, TooLong, OutOfRange}
+use Rattle.answers.specs.declared.Refusal.TheVariants.{TypeMismatch}
 use Rattle.lists.specs.Numbers.{number, Bytes}
 use Rattle.lists.proofs.NumberLaws.{number_lt}
 use Rattle.value.specs.Codec.{is_text, size_of, fits_type, exact}
@@ -17,32 +16,18 @@ use Rattle.value.specs.Order.{ordered}
 use Rattle.value.proofs.CodecLaws.{size_le, exact_fixed}
 use Rattle.entry.specs.declared.Extra.{Extra}
 use Rattle.entry.specs.Rules.{range_ok, extra_ok}
-use Rattle.entry.specs.Table.{Dict, kept_at, count_at, number_of, extra_at, type_at, room_at, is_mapping}
+use Rattle.entry.specs.Table.{Dict, kept_at, count_at, number_of, extra_at, type_at}
 use Rattle.entry.specs.Judge.{well_formed}
 use Rattle.entry.proofs.FactLaws.{row_facts}
 use Rattle.entry.proofs.JudgeLaws.{and_true}
-use Rattle.pdo_validator.specs.Counting.{count_of}
-use Rattle.writing.specs.declared.Judged.TheVariants.{Put, Refused}
-use Rattle.writing.specs.Judging.{outside, at_value, count_first}
+use Rattle.writing.specs.declared.Judged.TheVariants.{Refused}
+use Rattle.writing.specs.Judging.{outside, at_value}
 
 -- ---- at a value
 module _ (slots : List ℕ) (x : Extra) (p t : ℕ) (s : List ℕ) where
   pub value_type : eqb (type_at slots p) t ≡ false → at_value slots x p t s ≡ Refused TypeMismatch
   unfolding at_value
   value_type e = rw e
-
-  module _ (e : eqb (type_at slots p) t ≡ true) where
-    pub value-outside : outside x t (number s) ≡ true → at_value slots x p t s ≡ Refused OutOfRange
-    unfolding at_value
-    value-outside o = rw (e, o)
-
-    pub value_room : outside x t (number s) ≡ false → (is_text t && ltb (room_at slots p) (length s)) ≡ true → at_value slots x p t s ≡ Refused TooLong
-    unfolding at_value
-    value_room o q = rw (e, o, q)
-
-    pub value_put : outside x t (number s) ≡ false → (is_text t && ltb (room_at slots p) (length s)) ≡ false → at_value slots x p t s ≡ Put p
-    unfolding at_value
-    value_put o q = rw (e, o, q)
 
 -- ---- a range that is of another type, or none, has nothing outside it
 module _ (x : Extra) (t w : ℕ) where
@@ -94,20 +79,6 @@ ranged t low high l e =
     let b = and_true (fits_type t low) _ a.1 in
     record { small = leb-true t 8 a.0; low_fits = b.0; high_fits = (and_true (fits_type t high) _ b.1).0 }
 
--- ---- a mapping's count
-module _ (d : Dict) (x sub t : ℕ) (s : List ℕ) where
-  pub count_type : (eqb sub 0 && is_mapping x) ≡ true → eqb t 5 ≡ false → count_first d x sub t s ≡ answer.Refused TypeMismatch
-  unfolding count_first
-  count_type e q = rw (e, q)
-
-  pub count_there : (eqb sub 0 && is_mapping x) ≡ true → eqb t 5 ≡ true → count_first d x sub t s ≡ count_of d x (get_or s 0 0)
-  unfolding count_first
-  count_there e q = rw (e, q)
-
-  pub count_else : (eqb sub 0 && is_mapping x) ≡ false → count_first d x sub t s ≡ answer.Done
-  unfolding count_first
-  count_else e = rw e
-
 -- a U8 has one byte
 pub one_byte : (t : ℕ) (s : List ℕ) → exact t s ≡ true → t ≡ 5 → length s ≡ 1
 unfolding size_of
@@ -116,9 +87,6 @@ one_byte t s e q =
     eqb-true (length s) (size_of 5) (sym (exact_fixed 5 s (omega arith) refl) ∙ f)
 
 -- ---- a signature
-pub four_bytes : (t sub : ℕ) (s : List ℕ) → (eqb t 11 && (ltb 0 sub && eqb (length s) 4)) ≡ true → length s ≡ 4
-four_bytes t sub s e = eqb-true _ _ (and_true (ltb 0 sub) _ (and_true (eqb t 11) _ e).1).1
-
 pub whole : (s : List ℕ) → length s ≡ 4 → take 4 (drop 0 s) ≡ s
 whole s e = take_all 4 s (omega arith)
 

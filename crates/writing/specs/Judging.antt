@@ -1,8 +1,7 @@
 -- What a write comes to, before anything is stored: RULES.md 8.
 -- Assumes nothing.
-use Rattle.std.specs.Prelude.{ℕ, Bool, cond, not, ◌&&◌, ◌||◌, List, [], ◌∷◌, eqb, ltb, get_or, length}
-use Rattle.answers.specs.declared.Answer.{Answer}
-use Rattle.answers.specs.declared.Answer.TheVariants as answer
+use Rattle.answers.specs.declared.Refusal.{Refusal}
+use Rattle.std.specs.Prelude.{ℕ, Bool, cond, not, ◌&&◌, ◌||◌, List, [], ◌∷◌, eqb, ltb, get_or, length, Option, Some, None, Result, Ok, Err}
 use Rattle.lists.specs.Numbers.{number}
 use Rattle.answers.specs.declared.Refusal.TheVariants.{BadValue, ObjectNotFound, SubObjectNotFound, TypeMismatch, ReadOnly, BadSignature, NoStorage, CountNotWritable, TooLong, OutOfRange}
 use Rattle.value.specs.Codec.{is_text, exactly_of}
@@ -12,8 +11,6 @@ use Rattle.value.specs.Order.{ordered}
 use Rattle.entry.specs.declared.Extra.{Extra}
 use Rattle.entry.specs.Table.{Dict, edition_of, access_at, extra_at, type_at, room_at, is_mapping}
 use Rattle.entry.specs.Find.{find_row, sub_at}
-use Rattle.entry.specs.declared.Found.{Found}
-use Rattle.entry.specs.declared.Found.TheVariants.{At, Nothing}
 use Rattle.entry.specs.declared.Place.{Place}
 use Rattle.entry.specs.declared.Place.TheVariants.{NoObject, NoSub, Count, Value}
 use Rattle.pdo_validator.specs.Counting.{count_of}
@@ -61,21 +58,21 @@ in_place d i x t s (Count n) = cond (is_mapping x) (keep_of (edition_of d.object
 in_place d i x t s (Value p) = at_value d.slots (extra_at d.objects i) p t s
 
 -- 5 and 6: object, then access, of which ReadOnly is 0 and Constant 5
-abbrev pub in_object : Dict → ℕ → ℕ → ℕ → List ℕ → Found → Judged
-in_object d x sub t s (At i) =
+abbrev pub in_object : Dict → ℕ → ℕ → ℕ → List ℕ → Option ℕ → Judged
+in_object d x sub t s (Some i) =
     cond (eqb (access_at d.objects i) 0 || eqb (access_at d.objects i) 5)
     (Refused ReadOnly)
     (in_place d i x t s (sub_at d.objects i sub))
-in_object d x sub t s Nothing = Refused ObjectNotFound
+in_object d x sub t s None = Refused ObjectNotFound
 
 -- 4: a mapping's count comes before object and access
-unfoldable pub count_first : Dict → ℕ → ℕ → ℕ → List ℕ → Answer
+unfoldable pub count_first : Dict → ℕ → ℕ → ℕ → List ℕ → Result (Unit {0}) Refusal
 count_first d x sub t s =
-    cond (eqb sub 0 && is_mapping x) (cond (eqb t 5) (count_of d x (get_or s 0 0)) (answer.Refused TypeMismatch)) answer.Done
+    cond (eqb sub 0 && is_mapping x) (cond (eqb t 5) (count_of d x (get_or s 0 0)) (Err TypeMismatch)) (Ok tt)
 
-abbrev pub after_count : Answer → Judged → Judged
-after_count answer.Done next = next
-after_count (answer.Refused r) next = Refused r
+abbrev pub after_count : Result (Unit {0}) Refusal → Judged → Judged
+after_count (Ok _) next = next
+after_count (Err r) next = Refused r
 
 -- 3 to 9, of a value, a dictionary that was judged and a store of n bytes
 unfoldable pub judge_value_of : Dict → ℕ → ℕ → ℕ → ℕ → List ℕ → Judged

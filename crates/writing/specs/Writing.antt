@@ -1,14 +1,13 @@
 -- Writing: RULES.md 8. What was judged, and what it does.
 -- Assumes nothing.
-use Rattle.std.specs.Prelude.{ℕ, cond, List, length}
+use Rattle.answers.specs.declared.Refusal.{Refusal}
+use Rattle.std.specs.Prelude.{ℕ, cond, List, length, Result, Ok, Err}
 use Rattle.answers.specs.declared.Refusal.TheVariants.{Malformed}
 use Rattle.entry.specs.Table.{Dict, dict}
 use Rattle.entry.specs.Put.{contents, put_in}
 use Rattle.entry.specs.Judge.{well_formed}
 use Rattle.rows.specs.Rows.{kept_in}
 use Rattle.commands.specs.Save.{save_of}
-use Rattle.commands.specs.declared.Saved.{Saved}
-use Rattle.commands.specs.declared.Saved.TheVariants as saved
 use Rattle.writing.specs.declared.Judged.{Judged}
 use Rattle.writing.specs.declared.Judged.TheVariants as judged
 use Rattle.writing.specs.declared.Wrote.{Wrote}
@@ -30,9 +29,9 @@ after_write a os ws bs st = record { answer = a; objects = os; words = ws; bytes
 abbrev pub written_in : Dict → AfterWrite → Dict
 written_in d a = dict a.objects d.slots a.words a.bytes
 
-abbrev pub saved_as : Saved → Wrote
-saved_as saved.Done = Done
-saved_as (saved.Refused r) = Refused r
+abbrev pub saved_as : Result (Unit {0}) Refusal → Wrote
+saved_as (Ok _) = Done
+saved_as (Err r) = Refused r
 
 -- R8.2, R8.3 and R8.7: "Else the value is put"; "the store only by a save"; "the rows only by a count that is kept"
 unfoldable pub write_act_of : Dict → List ℕ → ℕ → List ℕ → Judged → AfterWrite

@@ -6,14 +6,14 @@ ghost use Rattle.writing.specs.Writing.{after_write, saved_as, write_of};
 
 use crate::{Judged, Wrote};
 use answers::Refusal;
-use commands::Saved;
+use judge::Dictionary;
 
-fn saved(a: Saved) -> Wrote
+fn saved(a: Result<(), Refusal>) -> Wrote
     ensures { result ≡ saved_as a }
 {
     match a {
-        Saved::Done => Wrote::Done,
-        Saved::Refused(r) => Wrote::Refused(r),
+        Ok(()) => Wrote::Done,
+        Err(r) => Wrote::Refused(r),
     }
 }
 
@@ -33,7 +33,13 @@ pub fn write_judged(
     ensures { after_write result objects.new words.new bytes.new store.new ≡ write_of (dict objects.old slots.now words.old bytes.old) store.old index sub t «data».now }
 {
     let size = store.len();
-    match crate::judging::judge_write(objects, slots, words, bytes, size, index, sub, t, data) {
+    let d = Dictionary {
+        objects: &*objects,
+        slots,
+        words: &*words,
+        bytes: &*bytes,
+    };
+    match crate::judging::judge_write(&d, size, index, sub, t, data) {
         Judged::Put(p) => {
             entry::put_value(slots, words, bytes, p, data);
             Wrote::Done
@@ -43,7 +49,7 @@ pub fn write_judged(
             rows::set_kept(objects, i, n as u64);
             Wrote::Done
         }
-        Judged::Save => saved(commands::save(objects, slots, words, bytes, sub, store)),
+        Judged::Save => saved(commands::save(&d, sub, store)),
         Judged::Restore => Wrote::RestoreRequested,
         Judged::NoValue(f) => Wrote::NoValue(f),
         Judged::Refused(r) => Wrote::Refused(r),

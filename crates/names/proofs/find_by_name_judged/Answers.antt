@@ -6,12 +6,12 @@ use Rattle.names.proofs.find_by_name_judged.Goals as goal
 
 pub returns-then-name-gt32 : goal.returns-then-name-gt32
 unfolding by_name_of
-returns-then-name-gt32 c = simp (c.requires, lt-leb _ _ c.if-name-gt32.true)
+returns-then-name-gt32 c = rw (sym c.d.view_is) (simp (c.d.invariant, lt-leb _ _ c.if-name-gt32.true))
 
-pub returns-in-Good : goal.returns-in-Good
+pub returns-in-Ok : goal.returns-in-Ok
 unfolding by_name_of
-returns-in-Good c = simp (c.requires, le-leb _ _ c.if-name-gt32.false, sym c.text_ok.ensures ∙ c.in-Good.is) c.first_named.ensures
+returns-in-Ok c = rw (sym c.d.view_is) (simp (c.d.invariant, le-leb _ _ c.if-name-gt32.false, sym c.text_ok.ensures ∙ c.in-Ok.is) (rw (sym c.d.view_is) at c.first_named.ensures))
 
-pub returns-in-Bad : goal.returns-in-Bad
+pub returns-in-Err : goal.returns-in-Err
 unfolding by_name_of
-returns-in-Bad c = simp (c.requires, le-leb _ _ c.if-name-gt32.false, sym c.text_ok.ensures ∙ c.in-Bad.is)
+returns-in-Err c = rw (sym c.d.view_is) (simp (c.d.invariant, le-leb _ _ c.if-name-gt32.false, sym c.text_ok.ensures ∙ c.in-Err.is))

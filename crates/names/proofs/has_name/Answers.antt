@@ -1,24 +1,30 @@
--- `names::has_name` meets its contract: a name of another length is another name. Assumes nothing.
-use mathlib.Core.Path.{sym, ◌∙◌}
-use Rattle.entry.specs.Table.{dict}
-use Rattle.names.proofs.NameLaws.{name_lies, name_apart}
+-- `names::has_name` meets its contract: the library's test of the name's bytes. Assumes nothing.
+use mathlib.Core.Path.{◌≡◌, sym, ◌∙◌}
+use Rattle.names.proofs.NameLaws.{name_lies, same_bytes}
+use Prim.Native.Nat.{◌+◌, ◌-◌}
+use borrow.Author.Rules.{rules}
+use native.Mathlib.Omega.{arith}
 use Rattle.names.proofs.has_name.Goals as goal
 
 pub name_at-start-requires : goal.name_at-start-requires
 name_at-start-requires c =
-    let l = name_lies (dict c.args.objects.now c.args.slots.now c.args.words.now c.args.bytes.now) c.requires.0 c.args.i c.requires.1 in
+    let l = name_lies _ c.d.invariant c.args.i (rw (sym c.d.view_is) at c.requires) in
     (l.small, l.row)
 
 pub name_len_at-requires : goal.name_len_at-requires
 name_len_at-requires c =
-    let l = name_lies (dict c.args.objects.now c.args.slots.now c.args.words.now c.args.bytes.now) c.requires.0 c.args.i c.requires.1 in
+    let l = name_lies _ c.d.invariant c.args.i (rw (sym c.d.view_is) at c.requires) in
     (l.small, l.row)
 
-pub same_part-requires : goal.same_part-requires
-same_part-requires c =
-    let l = name_lies (dict c.args.objects.now c.args.slots.now c.args.words.now c.args.bytes.now) c.requires.0 c.args.i c.requires.1 in
-    rw c.name_at-start.ensures (l.start, rw (sym c.if-name_len_at-name.true ∙ c.name_len_at.ensures) l.inside)
+pub overflow_add-end : goal.overflow_add-end
+overflow_add-end c =
+    let l = name_lies _ c.d.invariant c.args.i (rw (sym c.d.view_is) at c.requires) in
+    search (rules, l.start, l.inside)
 
-pub returns-else-name_len_at-name : goal.returns-else-name_len_at-name
-returns-else-name_len_at-name c =
-    sym (name_apart (dict c.args.objects.now c.args.slots.now c.args.words.now c.args.bytes.now) c.requires.0 c.args.i c.requires.1 c.args.name.now (λ q. c.if-name_len_at-name.false (c.name_len_at.ensures ∙ q)))
+pub slice_bounds-own-end : goal.slice_bounds-own-end
+slice_bounds-own-end c = omega (arith, (name_lies _ c.d.invariant c.args.i (rw (sym c.d.view_is) at c.requires)).inside)
+
+pub returns : goal.returns
+returns c =
+    let n : (c.name_at-start.result + c.name_len_at.result) - c.name_at-start.result ≡ c.name_len_at.result = omega arith in
+    c.eq.ensures ∙ rw (n, c.name_at-start.ensures, c.name_len_at.ensures, sym c.d.view_is) (same_bytes _ _)

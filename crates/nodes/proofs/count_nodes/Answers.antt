@@ -8,9 +8,9 @@ use Rattle.nodes.proofs.count_nodes.Goals.{then-is_configured, else-is_configure
 pub loop-k-preserved : goal.loop-k-preserved
 loop-k-preserved c =
     elim c.if-is_configured.branch [
-      | then-is_configured w ↦ walked_yes c.args.slots.now c.args.words.now c.args.count c.args.first c.loop-k.m c.loop-k.k c.if-is_configured.m c.loop-k.invariant c.loop-k-test.true (sym c.is_configured.ensures ∙ w.if-is_configured.true) w.m-is
-      | else-is_configured w ↦ walked_no c.args.slots.now c.args.words.now c.args.count c.args.first c.loop-k.m c.loop-k.k c.if-is_configured.m c.loop-k.invariant c.loop-k-test.true (sym c.is_configured.ensures ∙ w.if-is_configured.false) w.m-is
+      | then-is_configured w ↦ walked_yes c.args.slots.now c.args.words.now c.args.count c.args.first c.loop-k.m c.loop-k.k c.if-is_configured.m c.loop-k.invariant (omega arith) (sym c.is_configured.ensures ∙ w.if-is_configured.true) w.m-is
+      | else-is_configured w ↦ walked_no c.args.slots.now c.args.words.now c.args.count c.args.first c.loop-k.m c.loop-k.k c.if-is_configured.m c.loop-k.invariant (omega arith) (sym c.is_configured.ensures ∙ w.if-is_configured.false) w.m-is
     ]
 
 pub returns : goal.returns
-returns c = walked_end c.args.slots.now c.args.words.now c.args.count c.args.first _ _ c.loop-k.invariant (omega (arith, c.loop-k-test.false))
+returns c = walked_end c.args.slots.now c.args.words.now c.args.count c.args.first _ _ c.loop-k.invariant (omega arith)

@@ -1,43 +1,42 @@
 -- `nodes::elements` meets its contract: each branch is a case of `elements_at`. Assumes nothing.
+use Rattle.std.specs.Prelude.{Some}
 use mathlib.Core.Path.{◌≡◌, sym, ap, ◌∙◌}
 use borrow.Author.Tests.{eq-eqb, ne_eqb}
-use Rattle.entry.specs.Table.{dict}
 use Rattle.entry.specs.Find.{find_row}
-use Rattle.entry.specs.declared.Found.TheVariants.{At}
 use Rattle.entry.proofs.ValueLaws.{rows_of, found_lies}
 use Rattle.nodes.specs.Nodes.{elements_on, elements_at}
 use Rattle.nodes.proofs.elements.Goals as goal
 
 pub find-requires : goal.find-requires
-find-requires c = rows_of (dict c.args.objects.now c.args.slots.now c.args.words.now c.args.bytes.now) c.requires
+find-requires c = rows_of _ c.d.invariant
 
 pub returns-in_default : goal.returns-in_default
 unfolding elements_at
-returns-in_default c = ap (elements_on c.args.objects.now) (sym c.in_default.is ∙ c.find.ensures)
+returns-in_default c = rw (sym c.d.view_is) (ap (elements_on c.d.inside.objects.now) (sym c.in_default.is ∙ c.find.ensures))
 
 pub kind_at-requires : goal.kind_at-requires
 kind_at-requires c =
-    let l = found_lies (dict c.args.objects.now c.args.slots.now c.args.words.now c.args.bytes.now) c.requires 0x1F81 c.in-At.i (sym c.find.ensures ∙ c.in-At.is) in
+    let l = found_lies _ c.d.invariant 0x1F81 c.in-Some.i (sym c.find.ensures ∙ c.in-Some.is) in
     (l.small, l.inside)
 
 pub count_at-requires : goal.count_at-requires
 count_at-requires c =
-    let l = found_lies (dict c.args.objects.now c.args.slots.now c.args.words.now c.args.bytes.now) c.requires 0x1F81 c.in-At.i (sym c.find.ensures ∙ c.in-At.is) in
+    let l = found_lies _ c.d.invariant 0x1F81 c.in-Some.i (sym c.find.ensures ∙ c.in-Some.is) in
     (l.small, l.inside)
 
 pub first_at-requires : goal.first_at-requires
 first_at-requires c =
-    let l = found_lies (dict c.args.objects.now c.args.slots.now c.args.words.now c.args.bytes.now) c.requires 0x1F81 c.in-At.i (sym c.find.ensures ∙ c.in-At.is) in
+    let l = found_lies _ c.d.invariant 0x1F81 c.in-Some.i (sym c.find.ensures ∙ c.in-Some.is) in
     (l.small, l.inside)
 
 pub returns-then-kind_at-eq1 : goal.returns-then-kind_at-eq1
 unfolding elements_at
 returns-then-kind_at-eq1 c =
-    let row : find_row c.args.objects.now 0x1F81 ≡ At c.in-At.i = sym c.find.ensures ∙ c.in-At.is in
-    simp (row, eq-eqb _ _ (sym c.kind_at.ensures ∙ c.if-kind_at-eq1.true)) (cc)
+    let row : find_row c.d.inside.objects.now 0x1F81 ≡ Some c.in-Some.i = sym c.find.ensures ∙ c.in-Some.is in
+    rw (sym c.d.view_is) (simp (row, eq-eqb _ _ (sym c.kind_at.ensures ∙ c.if-kind_at-eq1.true)) (cc))
 
 pub returns : goal.returns
 unfolding elements_at
 returns c =
-    let row : find_row c.args.objects.now 0x1F81 ≡ At c.in-At.i = sym c.find.ensures ∙ c.in-At.is in
-    simp (row, ne_eqb _ _ (λ q. c.if-kind_at-eq1.false (c.kind_at.ensures ∙ q)))
+    let row : find_row c.d.inside.objects.now 0x1F81 ≡ Some c.in-Some.i = sym c.find.ensures ∙ c.in-Some.is in
+    rw (sym c.d.view_is) (simp (row, ne_eqb _ _ (λ q. c.if-kind_at-eq1.false (c.kind_at.ensures ∙ q))))

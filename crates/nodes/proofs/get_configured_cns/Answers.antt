@@ -1,8 +1,10 @@
 -- `nodes::get_configured_cns` meets its contract: the dictionary is judged, then its nodes are listed. Assumes nothing.
-use mathlib.Core.Path.{sym, ◌∙◌}
+use Rattle.std.proofs.lemmas.Result.{err_from_is_err_and}
 use Rattle.nodes.specs.Nodes.{cns_of}
 use Rattle.nodes.proofs.get_configured_cns.Goals as goal
 
-pub returns-then-not-well_formed : goal.returns-then-not-well_formed
+pub returns-in_err-d : goal.returns-in_err-d
 unfolding cns_of
-returns-then-not-well_formed c = simp (sym c.well_formed-2.ensures ∙ c.if-not-well_formed.true)
+returns-in_err-d c =
+    let p = err_from_is_err_and c.from_residual.result c.from_residual.ensures.1 in
+    rw (p.1, p.2) (simp (c.in_err-d.ensures.err.0, c.in_err-d.ensures.err.1))

@@ -9,34 +9,36 @@ use Rattle.pdo_validator.proofs.count_in.Goals as goal
 
 pub kind_at-requires : goal.kind_at-requires
 kind_at-requires c =
-    let r = row_lies (dict c.args.objects.now c.args.slots.now c.args.words.now c.args.bytes.now) c.requires.bytes_value c.args.i c.requires.i_bound in
+    let r = row_lies (dict c.d.inside.objects.now c.d.inside.slots.now c.d.inside.words.now c.d.inside.bytes.now) c.d.invariant c.args.i (rw (sym c.d.view_is) at c.requires) in
     (r.small, r.inside)
 
 pub count_at-requires : goal.count_at-requires
 count_at-requires c =
-    let r = row_lies (dict c.args.objects.now c.args.slots.now c.args.words.now c.args.bytes.now) c.requires.bytes_value c.args.i c.requires.i_bound in
+    let r = row_lies (dict c.d.inside.objects.now c.d.inside.slots.now c.d.inside.words.now c.d.inside.bytes.now) c.d.invariant c.args.i (rw (sym c.d.view_is) at c.requires) in
     (r.small, r.inside)
 
 pub first_at-first-requires : goal.first_at-first-requires
 first_at-first-requires c =
-    let r = row_lies (dict c.args.objects.now c.args.slots.now c.args.words.now c.args.bytes.now) c.requires.bytes_value c.args.i c.requires.i_bound in
+    let r = row_lies (dict c.d.inside.objects.now c.d.inside.slots.now c.d.inside.words.now c.d.inside.bytes.now) c.d.invariant c.args.i (rw (sym c.d.view_is) at c.requires) in
     (r.small, r.inside)
 
 pub returns-then-kind_at-ne1 : goal.returns-then-kind_at-ne1
 unfolding count_on
-returns-then-kind_at-ne1 c = simp (ne_eqb _ 1 (λ q. c.if-kind_at-ne1.true (c.kind_at.ensures ∙ q)))
+returns-then-kind_at-ne1 c = rw (sym c.d.view_is) (simp (ne_eqb _ 1 (λ q. c.if-kind_at-ne1.true (c.kind_at.ensures ∙ q))))
 
 pub returns-then-count_at-n : goal.returns-then-count_at-n
 unfolding count_on
 returns-then-count_at-n c =
-    simp (eq-eqb _ 1 (sym c.kind_at.ensures ∙ c.if-kind_at-ne1.false), lt-leb c.args.n (count_at c.args.objects.now c.args.i) (omega (arith, c.count_at.ensures, c.if-count_at-n.true)))
+    rw (sym c.d.view_is)
+    (simp (eq-eqb _ 1 (sym c.kind_at.ensures ∙ c.if-kind_at-ne1.false), lt-leb c.args.n (count_at c.d.inside.objects.now c.args.i) (omega (arith, c.count_at.ensures, c.if-count_at-n.true))))
 
 pub ends-found-requires : goal.ends-found-requires
 ends-found-requires c =
-    simp c.first_at-first.ensures (elements_lie (dict c.args.objects.now c.args.slots.now c.args.words.now c.args.bytes.now) c.requires.bytes_value c.args.i c.args.n c.requires.i_bound (omega (arith, c.count_at.ensures, c.if-count_at-n.false)))
+    simp c.first_at-first.ensures (elements_lie (dict c.d.inside.objects.now c.d.inside.slots.now c.d.inside.words.now c.d.inside.bytes.now) c.d.invariant c.args.i c.args.n (rw (sym c.d.view_is) at c.requires) (omega (arith, c.count_at.ensures, c.if-count_at-n.false)))
 
 pub returns : goal.returns
 unfolding count_on
 returns c =
-    simp (eq-eqb _ 1 (sym c.kind_at.ensures ∙ c.if-kind_at-ne1.false), le-leb c.args.n (count_at c.args.objects.now c.args.i) (omega (arith, c.count_at.ensures, c.if-count_at-n.false)))
-    (c.fits.ensures ∙ ap₂ within_limit c.limit.ensures (c.ends-found.ensures ∙ ap (λ p. ends_from c.args.slots.now c.args.words.now c.args.n p 0) c.first_at-first.ensures))
+    rw (sym c.d.view_is)
+    (simp (eq-eqb _ 1 (sym c.kind_at.ensures ∙ c.if-kind_at-ne1.false), le-leb c.args.n (count_at c.d.inside.objects.now c.args.i) (omega (arith, c.count_at.ensures, c.if-count_at-n.false)))
+    (c.fits.ensures ∙ ap₂ within_limit (rw (sym c.d.view_is) at c.limit.ensures) (c.ends-found.ensures ∙ ap (λ p. ends_from c.d.inside.slots.now c.d.inside.words.now c.args.n p 0) c.first_at-first.ensures)))

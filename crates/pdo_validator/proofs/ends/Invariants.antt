@@ -1,15 +1,8 @@
 -- `pdo_validator::ends` meets its contract: the invariant says that what is found from here is what is found on the whole. Assumes nothing.
 use mathlib.Core.Path.{◌≡◌}
-use Prim.Native.Nat.{◌-◌, ◌≤◌}
 use Rattle.pdo_validator.specs.Counting.{ends_from}
 use Rattle.pdo_validator.proofs.CountLaws.{rest}
 use Rattle.pdo_validator.proofs.ends.Given as goal
 
 abbrev pub invariant-loop-k : goal.invariant-loop-k
-invariant-loop-k l = record {
-  in_range : l.k ≤ l.n;
-  rest_is : rest l.slots l.words l.n l.first l.k l.end ≡ ends_from l.slots l.words l.n l.first 0;
-}
-
-abbrev pub decreases-loop-k : goal.decreases-loop-k
-decreases-loop-k l = l.n - l.k
+invariant-loop-k l = rest l.slots l.words l.n l.first l.k l.end ≡ ends_from l.slots l.words l.n l.first 0

@@ -11,7 +11,7 @@ use Rattle.pdo_validator.proofs.limit.Goals as goal
 use Rattle.pdo_validator.proofs.limit.Goals.{then-is_sent, else-is_sent}
 
 pub locate-requires : goal.locate-requires
-locate-requires c = rows_of (dict c.args.objects.now c.args.slots.now c.args.words.now c.args.bytes.now) c.requires
+locate-requires c = rows_of (dict c.d.inside.objects.now c.d.inside.slots.now c.d.inside.words.now c.d.inside.bytes.now) c.d.invariant
 
 pub returns-in_default : goal.returns-in_default
 unfolding limit_of
@@ -22,8 +22,8 @@ returns-in_default c =
       | else-is_sent w ↦ w.sub-is ∙ ap (λ b. cond b 1 2) (sym (sym c.is_sent.ensures ∙ w.if-is_sent.false))
     ]
     in
-    let d : Dict = dict c.args.objects.now c.args.slots.now c.args.words.now c.args.bytes.now in
-    not_value (u16_at d) refl refl (λ n. refl) c.locate.result c.in_default.not-Value ∙ ap (u16_at d) (c.locate.ensures ∙ ap (place_of c.args.objects.now 0x1F98) s)
+    let d : Dict = dict c.d.inside.objects.now c.d.inside.slots.now c.d.inside.words.now c.d.inside.bytes.now in
+    rw (sym c.d.view_is) (not_value (u16_at d) refl refl (λ n. refl) c.locate.result c.in_default.not-Value ∙ ap (u16_at d) (c.locate.ensures ∙ ap (place_of c.d.inside.objects.now 0x1F98) s))
 
 pub type_at-requires : goal.type_at-requires
 type_at-requires c =
@@ -33,20 +33,20 @@ type_at-requires c =
       | else-is_sent w ↦ w.sub-is ∙ ap (λ b. cond b 1 2) (sym (sym c.is_sent.ensures ∙ w.if-is_sent.false))
     ]
     in
-    let d : Dict = dict c.args.objects.now c.args.slots.now c.args.words.now c.args.bytes.now in
-    let f = element_facts d c.requires (element_of_lem d c.requires _ _ _ (sym (c.locate.ensures ∙ ap (place_of c.args.objects.now 0x1F98) s) ∙ c.in-Value.is)) in
+    let d : Dict = dict c.d.inside.objects.now c.d.inside.slots.now c.d.inside.words.now c.d.inside.bytes.now in
+    let f = element_facts d c.d.invariant (element_of_lem d c.d.invariant _ _ _ (sym (c.locate.ensures ∙ ap (place_of c.d.inside.objects.now 0x1F98) s) ∙ c.in-Value.is)) in
     (f.low, f.slot)
 
-pub bounds-words-p : goal.bounds-words-p
-bounds-words-p c =
+pub bounds-d-inside-p : goal.bounds-d-inside-p
+bounds-d-inside-p c =
     let s : c.if-is_sent.sub ≡ cond (sends c.args.index) 1 2 =
     elim c.if-is_sent.branch [
       | then-is_sent w ↦ w.sub-is ∙ ap (λ b. cond b 1 2) (sym (sym c.is_sent.ensures ∙ w.if-is_sent.true))
       | else-is_sent w ↦ w.sub-is ∙ ap (λ b. cond b 1 2) (sym (sym c.is_sent.ensures ∙ w.if-is_sent.false))
     ]
     in
-    let d : Dict = dict c.args.objects.now c.args.slots.now c.args.words.now c.args.bytes.now in
-    (element_facts d c.requires (element_of_lem d c.requires _ _ _ (sym (c.locate.ensures ∙ ap (place_of c.args.objects.now 0x1F98) s) ∙ c.in-Value.is))).word
+    let d : Dict = dict c.d.inside.objects.now c.d.inside.slots.now c.d.inside.words.now c.d.inside.bytes.now in
+    (element_facts d c.d.invariant (element_of_lem d c.d.invariant _ _ _ (sym (c.locate.ensures ∙ ap (place_of c.d.inside.objects.now 0x1F98) s) ∙ c.in-Value.is))).word
 
 pub returns-then-type_at-eq6 : goal.returns-then-type_at-eq6
 unfolding limit_of
@@ -57,8 +57,8 @@ returns-then-type_at-eq6 c =
       | else-is_sent w ↦ w.sub-is ∙ ap (λ b. cond b 1 2) (sym (sym c.is_sent.ensures ∙ w.if-is_sent.false))
     ]
     in
-    let d : Dict = dict c.args.objects.now c.args.slots.now c.args.words.now c.args.bytes.now in
-    simp (sym (c.locate.ensures ∙ ap (place_of c.args.objects.now 0x1F98) s) ∙ c.in-Value.is, eq-eqb _ _ (sym c.type_at.ensures ∙ c.if-type_at-eq6.true))
+    let d : Dict = dict c.d.inside.objects.now c.d.inside.slots.now c.d.inside.words.now c.d.inside.bytes.now in
+    rw (sym c.d.view_is) (simp (sym (c.locate.ensures ∙ ap (place_of c.d.inside.objects.now 0x1F98) s) ∙ c.in-Value.is, eq-eqb _ _ (sym c.type_at.ensures ∙ c.if-type_at-eq6.true)))
 
 pub returns : goal.returns
 unfolding limit_of
@@ -69,5 +69,5 @@ returns c =
       | else-is_sent w ↦ w.sub-is ∙ ap (λ b. cond b 1 2) (sym (sym c.is_sent.ensures ∙ w.if-is_sent.false))
     ]
     in
-    let d : Dict = dict c.args.objects.now c.args.slots.now c.args.words.now c.args.bytes.now in
-    simp (sym (c.locate.ensures ∙ ap (place_of c.args.objects.now 0x1F98) s) ∙ c.in-Value.is, ne_eqb _ _ (λ q. c.if-type_at-eq6.false (c.type_at.ensures ∙ q)))
+    let d : Dict = dict c.d.inside.objects.now c.d.inside.slots.now c.d.inside.words.now c.d.inside.bytes.now in
+    rw (sym c.d.view_is) (simp (sym (c.locate.ensures ∙ ap (place_of c.d.inside.objects.now 0x1F98) s) ∙ c.in-Value.is, ne_eqb _ _ (λ q. c.if-type_at-eq6.false (c.type_at.ensures ∙ q))))

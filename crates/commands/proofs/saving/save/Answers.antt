@@ -1,6 +1,5 @@
 -- `commands::saving::save` meets its contract: all is measured first, so that a store that is too short stays as it was. Assumes nothing.
 use mathlib.Core.Path.{ap}
-use Rattle.entry.specs.Table.{dict}
 use Rattle.commands.specs.declared.offering.Size.{Size}
 use Rattle.commands.proofs.SaveLaws.{laid}
 use native.Mathlib.Omega.{arith}
@@ -9,12 +8,12 @@ use Rattle.commands.proofs.saving.save.Goals as goal
 pub put_number-requires : goal.put_number-requires
 put_number-requires c = omega arith
 
-pub lay_heads-requires-clause-last_in_bounds : goal.lay_heads-requires-clause-last_in_bounds
-lay_heads-requires-clause-last_in_bounds c = omega (arith, ap (λ (z : Size). z.records) c.measure-size.ensures)
+pub lay-requires-clause-records : goal.lay-requires-clause-records
+lay-requires-clause-records c = omega (arith, ap (λ (z : Size). z.records) c.measure-size.ensures)
 
-pub lay_bodies-requires-clause-last_in_bounds : goal.lay_bodies-requires-clause-last_in_bounds
-lay_bodies-requires-clause-last_in_bounds c = omega (arith, ap (λ (z : Size). z.bytes) c.measure-size.ensures)
+pub lay-requires-clause-room : goal.lay-requires-clause-room
+lay-requires-clause-room c = omega (arith, ap (λ (z : Size). z.bytes) c.measure-size.ensures)
 
 pub returns : goal.returns
 returns c =
-    laid (dict c.args.objects.now c.args.slots.now c.args.words.now c.args.bytes.now) c.args.store.now c.args.list _ c.range_of-range.ensures _ c.measure-size.ensures (omega arith) (omega arith) (omega arith) _ _ _ c.put_number.ensures c.lay_heads.ensures c.lay_bodies.ensures
+    laid c.args.d.now c.args.store.now c.args.list _ c.range_of-range.ensures _ c.measure-size.ensures (omega arith) (omega arith) (omega arith) _ _ c.put_number.ensures c.lay.ensures

@@ -1,9 +1,9 @@
 -- `fitting::rooms::rows_fit` meets its contract: whether all rows fit is whether those from here on do. Assumes nothing.
-use mathlib.Core.Path.{◌≡◌, sym, ap, ◌∙◌}
+use mathlib.Core.Path.{◌≡◌, sym, ap, subst, ◌∙◌}
 use mathlib.Core.Bool.{Bool, true, false, not, ◌&&◌, ◌||◌}
 use mathlib.Core.List.{List}
 use Prim.Native.Nat.{ℕ, ◌+◌, ◌-◌, ◌≤◌, ◌<◌}
-use Rattle.entry.specs.Table.{Dict, dict, number_of, index_at, count_at}
+use Rattle.entry.specs.Table.{Dict, number_of, index_at, count_at}
 use Rattle.entry.proofs.ValueLaws.{rows_of, row_lies}
 use Rattle.fitting.specs.Fit.{values_fit, restorable, rows_fit}
 use Rattle.fitting.proofs.WalkLaws.{rows_fit_step, rows_fit_from, rows_fit_end, in_range_lem}
@@ -34,39 +34,42 @@ passes b v f e h g = rw (e, sym h ∙ g)
 skips : (b v : Bool) → b ≡ false → (not b || v) ≡ true
 skips b v e = rw e
 
+seen : {d e : Dict} → d ≡ e → {first last : ℕ} {r : Span} → Spans d.objects first last r → Spans e.objects first last r
+seen q {first} {last} {r} = subst (λ (m : Dict). Spans m.objects first last r) q
+
 pub rows_in-rows-requires : goal.rows_in-rows-requires
-rows_in-rows-requires c = rows_of (dict c.args.objects.now c.args.slots.now c.args.words.now c.args.bytes.now) c.requires.bytes_value
+rows_in-rows-requires c = rows_of _ c.d.invariant
 
 pub loop-i-init : goal.loop-i-init
 loop-i-init c =
-    let d = dict c.args.objects.now c.args.slots.now c.args.words.now c.args.bytes.now in
-    (omega arith, c.rows_in-rows.ensures.low.within, omega arith, sym (rows_fit_from d c.args.store.now c.args.first c.args.last c.rows_in-rows.ensures))
+    let r = seen c.d.view_is c.rows_in-rows.ensures in
+    (r.low.within, omega arith, sym (rows_fit_from c.args.d.now c.args.store.now c.args.first c.args.last r))
 
 pub index_at-requires : goal.index_at-requires
 index_at-requires c =
-    let d = dict c.args.objects.now c.args.slots.now c.args.words.now c.args.bytes.now in
-    let r = row_lies d c.requires.bytes_value c.loop-i.i (omega (arith, c.loop-i-test.true, c.rows_in-rows.ensures.high.within)) in
+    let r = row_lies _ c.d.invariant c.loop-i.i (omega (arith, c.loop-i-test.true, c.rows_in-rows.ensures.high.within)) in
     (r.small, r.inside)
 
 pub returns-then-not-f : goal.returns-then-not-f
 returns-then-not-f c =
-    let d = dict c.args.objects.now c.args.slots.now c.args.words.now c.args.bytes.now in
-    fails d c.args.store.now c.args.first c.args.last _ c.rows_in-rows.ensures c.loop-i.i c.loop-i.invariant.0 c.loop-i-test.true c.loop-i.invariant.3 _ c.index_at.ensures _ c.restorable.ensures c.if-restorable.true _ c.values_fit-f.ensures.fits (not-true _ c.if-not-f.true)
+    let x = c.index_at.ensures ∙ ap (λ (m : Dict). index_at m.objects c.loop-i.i) c.d.view_is in
+    fails c.args.d.now c.args.store.now c.args.first c.args.last _ (seen c.d.view_is c.rows_in-rows.ensures) c.loop-i.i c.loop-i.auto.i c.loop-i-test.true c.loop-i.invariant.2 _ x _ c.restorable.ensures c.if-restorable.true _ c.values_fit-f.ensures.fits (not-true _ c.if-not-f.true)
 
 pub loop-i-preserved : goal.loop-i-preserved
 loop-i-preserved c =
-    let d = dict c.args.objects.now c.args.slots.now c.args.words.now c.args.bytes.now in
+    let d = c.args.d.now in
+    let r = seen c.d.view_is c.rows_in-rows.ensures in
+    let x = c.index_at.ensures ∙ ap (λ (m : Dict). index_at m.objects c.loop-i.i) c.d.view_is in
     let near : c.if-restorable.at ≤ c.args.n = elim c.if-restorable.branch [
       | then-restorable+else-not-f w ↦ omega (arith, w.at-is, w.values_fit-f.ensures.near)
-      | else-restorable w ↦ omega (arith, w.at-is, c.loop-i.invariant.2)
+      | else-restorable w ↦ omega (arith, w.at-is, c.loop-i.invariant.1)
     ] in
     let fine : (not c.restorable.result || values_fit d c.args.store.now c.loop-i.i (count_at d.objects c.loop-i.i) 0) ≡ true = elim c.if-restorable.branch [
       | then-restorable+else-not-f w ↦ passes c.restorable.result _ _ w.if-restorable.true w.values_fit-f.ensures.fits (not-false _ w.if-not-f.false)
       | else-restorable w ↦ skips c.restorable.result _ w.if-restorable.false
     ] in
-    (omega arith, omega (arith, c.loop-i-test.true, c.rows_in-rows.ensures.high.within), near, goes-on d c.args.store.now c.args.first c.args.last _ c.rows_in-rows.ensures c.loop-i.i c.loop-i.invariant.0 c.loop-i-test.true c.loop-i.invariant.3 _ c.index_at.ensures _ c.restorable.ensures fine)
+    (omega (arith, c.loop-i-test.true, r.high.within), near, goes-on d c.args.store.now c.args.first c.args.last _ r c.loop-i.i c.loop-i.auto.i c.loop-i-test.true c.loop-i.invariant.2 _ x _ c.restorable.ensures fine)
 
 pub returns : goal.returns
 returns c =
-    let d = dict c.args.objects.now c.args.slots.now c.args.words.now c.args.bytes.now in
-    sym (rows_fit_end d c.args.store.now c.args.first c.args.last c.rows_in-rows.ensures c.loop-i.i c.loop-i-test.false c.loop-i.invariant.1) ∙ c.loop-i.invariant.3
+    sym (rows_fit_end c.args.d.now c.args.store.now c.args.first c.args.last (seen c.d.view_is c.rows_in-rows.ensures) c.loop-i.i (omega arith) c.loop-i.invariant.0) ∙ c.loop-i.invariant.2

@@ -3,13 +3,16 @@ use mathlib.Core.Path.{◌≡◌, sym, ap, ◌∙◌}
 use mathlib.Core.Bool.{Bool, true, false, ◌&&◌}
 use mathlib.Core.List.{List}
 use Prim.Native.Nat.{ℕ, ◌+◌, ◌-◌, ◌<◌}
-use Rattle.entry.specs.Table.{Dict, dict}
+use Rattle.entry.specs.Table.{Dict, count_at}
 use Rattle.entry.proofs.ValueLaws.{row_lies}
 use Rattle.fitting.specs.Fit.{slot_in, chosen_at, fits_room, values_fit}
 use Rattle.fitting.proofs.WalkLaws.{fit_step, fit_end}
 use borrow.Author.Tests.{not-true, not-false}
 use native.Mathlib.Omega.{arith}
 use Rattle.fitting.proofs.rooms.values_fit.Goals as goal
+
+counted : (d e : Dict) (s : List ℕ) (i n : ℕ) → d ≡ e → n ≡ count_at d.objects i → values_fit e s i n 0 ≡ values_fit e s i (count_at e.objects i) 0
+counted d e s i n q h = ap (λ m. values_fit e s i m 0) (h ∙ ap (λ (m : Dict). count_at m.objects i) q)
 
 -- the whole, as this value and those behind it
 module _ (d : Dict) (s : List ℕ) (i n k : ℕ) (h : k < n) (e : values_fit d s i (n - k) k ≡ values_fit d s i n 0) (b : Bool) (q : b ≡ fits_room d s (slot_in d.objects i k) (chosen_at d s i k)) where
@@ -24,24 +27,21 @@ module _ (d : Dict) (s : List ℕ) (i n k : ℕ) (h : k < n) (e : values_fit d s
 
 pub count_at-count-requires : goal.count_at-count-requires
 count_at-count-requires c =
-    let d = dict c.args.objects.now c.args.slots.now c.args.words.now c.args.bytes.now in
-    let r = row_lies d c.requires.bytes_value c.args.i c.requires.i_bound in
+    let r = row_lies _ c.d.invariant c.args.i (rw (sym c.d.view_is) at c.requires.i_bound) in
     (r.small, r.inside)
 
 pub returns-then-not-f-clause-fits : goal.returns-then-not-f-clause-fits
 returns-then-not-f-clause-fits c =
-    let d = dict c.args.objects.now c.args.slots.now c.args.words.now c.args.bytes.now in
-    fails d c.args.store.now c.args.i c.count_at-count.result c.loop-k.k c.loop-k-test.true c.loop-k.invariant.2 _ c.value_fits-f.ensures.fits (not-true _ c.if-not-f.true)
-    ∙ ap (λ m. values_fit d c.args.store.now c.args.i m 0) c.count_at-count.ensures
+    not-true _ c.if-not-f.true
+    ∙ fails c.args.d.now c.args.store.now c.args.i c.count_at-count.result c.loop-k.k c.loop-k-test.true c.loop-k.invariant.1 _ c.value_fits-f.ensures.fits (not-true _ c.if-not-f.true)
+    ∙ counted _ _ c.args.store.now c.args.i _ c.d.view_is c.count_at-count.ensures
 
 pub loop-k-preserved : goal.loop-k-preserved
 loop-k-preserved c =
-    let d = dict c.args.objects.now c.args.slots.now c.args.words.now c.args.bytes.now in
-    (omega arith, c.value_fits-f.ensures.near, goes-on d c.args.store.now c.args.i c.count_at-count.result c.loop-k.k c.loop-k-test.true c.loop-k.invariant.2 _ c.value_fits-f.ensures.fits (not-false _ c.if-not-f.false))
+    (c.value_fits-f.ensures.near, goes-on c.args.d.now c.args.store.now c.args.i c.count_at-count.result c.loop-k.k c.loop-k-test.true c.loop-k.invariant.1 _ c.value_fits-f.ensures.fits (not-false _ c.if-not-f.false))
 
 pub returns-clause-fits : goal.returns-clause-fits
 returns-clause-fits c =
-    let d = dict c.args.objects.now c.args.slots.now c.args.words.now c.args.bytes.now in
-    sym (fit_end d c.args.store.now c.args.i c.count_at-count.result c.loop-k.k c.loop-k-test.false)
-    ∙ c.loop-k.invariant.2
-    ∙ ap (λ m. values_fit d c.args.store.now c.args.i m 0) c.count_at-count.ensures
+    sym (fit_end c.args.d.now c.args.store.now c.args.i c.count_at-count.result c.loop-k.k (omega arith))
+    ∙ c.loop-k.invariant.1
+    ∙ counted _ _ c.args.store.now c.args.i _ c.d.view_is c.count_at-count.ensures

@@ -1,10 +1,10 @@
 -- `od::empty::new` meets its contract. Assumes nothing.
+use Rattle.std.specs.Prelude.{Ok}
 use mathlib.Core.Path.{◌≡◌, refl, sym, ap, ◌∙◌}
 use mathlib.Core.Bool.{Bool, true, false, not, ◌&&◌, ◌||◌}
 use Prim.Native.Nat.{ℕ}
 use borrow.Author.Tests.{lt-ltb, le-ltb, not-true, not-false}
 use lib.Dec.{eqb}
-use Rattle.answers.specs.declared.Answer.TheVariants.{Done}
 use Rattle.entry.specs.Rules.{is_edition}
 use Rattle.od.specs.New.{made}
 use Rattle.od.proofs.empty.new.Goals as goal
@@ -28,4 +28,4 @@ pub returns-then-objects-header : goal.returns-then-objects-header
 returns-then-objects-header c = simp (an-edition c.args.edition c.if-edition.false, lt-ltb _ _ (rw c.row-header.ensures at c.if-objects-header.true))
 
 pub returns : goal.returns
-returns c = simp (an-edition c.args.edition c.if-edition.false, le-ltb _ _ (rw c.row-header.ensures at c.if-objects-header.false)) (ap (made Done) c.lay_header.ensures)
+returns c = simp (an-edition c.args.edition c.if-edition.false, le-ltb _ _ (rw c.row-header.ensures at c.if-objects-header.false)) (ap (made (Ok tt)) c.lay_header.ensures)

@@ -45,7 +45,7 @@ loop-i-init c =
       all = omega (arith, r.low.within);
       fits = sym (rows_fit_from d c.args.store.now c.args.first c.args.last r) ∙ c.requires.objects_value;
     } in
-    (omega arith, r.low.within, omega arith, on, sym (rows_put_from d c.args.store.now c.args.first c.args.last r))
+    (r.low.within, omega arith, on, sym (rows_put_from d c.args.store.now c.args.first c.args.last r))
 
 pub index_at-requires : goal.index_at-requires
 index_at-requires c =
@@ -54,39 +54,38 @@ index_at-requires c =
     (r.small, r.inside)
 
 pub restore_values-at-requires-clause-bytes_value : goal.restore_values-at-requires-clause-bytes_value
-restore_values-at-requires-clause-bytes_value c = c.loop-i.invariant.3.well
+restore_values-at-requires-clause-bytes_value c = c.loop-i.invariant.2.well
 
 pub restore_values-at-requires-clause-n_value : goal.restore_values-at-requires-clause-n_value
-restore_values-at-requires-clause-n_value c = (c.requires.n_value, c.loop-i.invariant.2)
+restore_values-at-requires-clause-n_value c = (c.requires.n_value, c.loop-i.invariant.1)
 
 pub restore_values-at-requires-clause-i_value : goal.restore_values-at-requires-clause-i_value
 restore_values-at-requires-clause-i_value c =
-    let q = listed c.rows_in-rows.ensures c.loop-i.i c.loop-i.invariant.0 c.loop-i-test.true _ _ c.index_at.ensures c.restorable.ensures in
-    (row_of _ c.args.store.now c.args.first c.args.last (number_of c.args.objects.now) c.loop-i.i (omega (arith, c.loop-i-test.true, c.rows_in-rows.ensures.high.within)) c.loop-i.invariant.3 (sym q ∙ c.if-restorable.true)).fits
+    let q = listed c.rows_in-rows.ensures c.loop-i.i c.loop-i.auto.i c.loop-i-test.true _ _ c.index_at.ensures c.restorable.ensures in
+    (row_of _ c.args.store.now c.args.first c.args.last (number_of c.args.objects.now) c.loop-i.i (omega (arith, c.loop-i-test.true, c.rows_in-rows.ensures.high.within)) c.loop-i.invariant.2 (sym q ∙ c.if-restorable.true)).fits
 
 pub loop-i-preserved : goal.loop-i-preserved
 loop-i-preserved c =
     let a = c.args in
     let d = dict a.objects.now c.loop-i.slots c.loop-i.words c.loop-i.bytes in
-    let q = listed c.rows_in-rows.ensures c.loop-i.i c.loop-i.invariant.0 c.loop-i-test.true _ _ c.index_at.ensures c.restorable.ensures in
+    let q = listed c.rows_in-rows.ensures c.loop-i.i c.loop-i.auto.i c.loop-i-test.true _ _ c.index_at.ensures c.restorable.ensures in
     let b : Bytes a.store.now = λ j. omega (arith, c.type_inv.store j) in
     let h : c.loop-i.i < number_of a.objects.now = omega (arith, c.loop-i-test.true, c.rows_in-rows.ensures.high.within) in
     let near : c.if-restorable.at ≤ a.n = elim c.if-restorable.branch [
       | then-restorable w ↦ omega (arith, w.at-is, w.restore_values-at.ensures.near)
-      | else-restorable w ↦ omega (arith, w.at-is, c.loop-i.invariant.2)
+      | else-restorable w ↦ omega (arith, w.at-is, c.loop-i.invariant.1)
     ] in
     let restored : dict a.objects.now c.if-restorable.slots c.if-restorable.words c.if-restorable.bytes ≡ row_restored d a.store.now a.first a.last c.loop-i.i = elim c.if-restorable.branch [
       | then-restorable w ↦ same a.objects.now _ _ _ _ _ _ w.slots-is w.words-is w.bytes-is ∙ put d a.store.now a.first a.last c.loop-i.i _ q w.if-restorable.true _ w.restore_values-at.ensures.held
       | else-restorable w ↦ same a.objects.now _ _ _ _ _ _ w.slots-is w.words-is w.bytes-is ∙ stays d a.store.now a.first a.last c.loop-i.i _ q w.if-restorable.false
     ] in (
-      omega arith,
       omega (arith, h),
       near,
-      row_on _ _ a.store.now a.first a.last (number_of a.objects.now) c.loop-i.i b h c.loop-i.invariant.3 restored,
-      row_put _ _ a.store.now a.first a.last (number_of a.objects.now) c.loop-i.i h restored ∙ c.loop-i.invariant.4,
+      row_on _ _ a.store.now a.first a.last (number_of a.objects.now) c.loop-i.i b h c.loop-i.invariant.2 restored,
+      row_put _ _ a.store.now a.first a.last (number_of a.objects.now) c.loop-i.i h restored ∙ c.loop-i.invariant.3,
     )
 
 pub returns : goal.returns
 returns c =
     let a = c.args in
-    sym (rows_put_end (dict a.objects.now c.loop-i.slots c.loop-i.words c.loop-i.bytes) a.store.now a.first a.last c.rows_in-rows.ensures c.loop-i.i c.loop-i-test.false c.loop-i.invariant.1) ∙ c.loop-i.invariant.4
+    sym (rows_put_end (dict a.objects.now c.loop-i.slots c.loop-i.words c.loop-i.bytes) a.store.now a.first a.last c.rows_in-rows.ensures c.loop-i.i (omega arith) c.loop-i.invariant.0) ∙ c.loop-i.invariant.3

@@ -9,11 +9,7 @@ use Rattle.restoring.proofs.acting.restore_rows.Given as goal
 abbrev pub invariant-loop-i : goal.invariant-loop-i
 invariant-loop-i l =
     let d = dict l.objects l.slots l.words l.bytes in
-    (l.initial.i ≤ l.i)
-    × (l.i ≤ number_of l.objects)
+    (l.i ≤ number_of l.objects)
     × (l.at ≤ l.n)
     × OnRows d l.store l.first l.last (number_of l.objects - l.i) l.i
     × (rows_restored d l.store l.first l.last (number_of l.objects - l.i) l.i ≡ rows_restored (dict l.objects l.fn.slots l.fn.words l.fn.bytes) l.store l.first l.last (number_of l.objects) 0)
-
-abbrev pub decreases-loop-i : goal.decreases-loop-i
-decreases-loop-i l = l.end - l.i

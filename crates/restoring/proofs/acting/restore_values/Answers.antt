@@ -29,26 +29,25 @@ loop-k-init c =
       all = omega (arith, c.count_at-count.ensures);
       fits = ap (λ m. values_fit d c.args.store.now c.args.i m 0) c.count_at-count.ensures ∙ c.requires.i_value;
     } in
-    (omega arith, c.requires.n_value.1, rw z on, rw z)
+    (c.requires.n_value.1, rw z on, rw z)
 
 pub restore_value-at-requires-clause-bytes_value : goal.restore_value-at-requires-clause-bytes_value
-restore_value-at-requires-clause-bytes_value c = c.loop-k.invariant.2.well
+restore_value-at-requires-clause-bytes_value c = c.loop-k.invariant.1.well
 
 pub restore_value-at-requires-clause-k_value : goal.restore_value-at-requires-clause-k_value
-restore_value-at-requires-clause-k_value c = first_of _ c.args.store.now c.args.i c.count_at-count.result c.loop-k.k c.loop-k-test.true c.loop-k.invariant.2
+restore_value-at-requires-clause-k_value c = first_of _ c.args.store.now c.args.i c.count_at-count.result c.loop-k.k c.loop-k-test.true c.loop-k.invariant.1
 
 pub loop-k-preserved : goal.loop-k-preserved
 loop-k-preserved c =
     let b : Bytes c.args.store.now = λ j. omega (arith, c.type_inv.store j) in (
-      omega (arith, c.loop-k-test.true),
       c.restore_value-at.ensures.near,
-      turn_on _ _ c.args.store.now c.args.i c.count_at-count.result c.loop-k.k b c.loop-k-test.true c.loop-k.invariant.2 c.restore_value-at.ensures.held,
-      turn_put _ _ c.args.store.now c.args.i c.count_at-count.result c.loop-k.k c.loop-k-test.true c.restore_value-at.ensures.held ∙ c.loop-k.invariant.3,
+      turn_on _ _ c.args.store.now c.args.i c.count_at-count.result c.loop-k.k b c.loop-k-test.true c.loop-k.invariant.1 c.restore_value-at.ensures.held,
+      turn_put _ _ c.args.store.now c.args.i c.count_at-count.result c.loop-k.k c.loop-k-test.true c.restore_value-at.ensures.held ∙ c.loop-k.invariant.2,
     )
 
 pub returns-clause-held : goal.returns-clause-held
 returns-clause-held c =
     let d = dict c.args.objects.now c.args.slots.now c.args.words.now c.args.bytes.now in
-    sym (put_end _ c.args.store.now c.args.i c.count_at-count.result c.loop-k.k c.loop-k-test.false)
-    ∙ c.loop-k.invariant.3
+    sym (put_end _ c.args.store.now c.args.i c.count_at-count.result c.loop-k.k (omega arith))
+    ∙ c.loop-k.invariant.2
     ∙ ap (λ m. values_restored d c.args.store.now c.args.i m 0) c.count_at-count.ensures

@@ -9,10 +9,6 @@ use Rattle.restoring.proofs.acting.restore_values.Given as goal
 abbrev pub invariant-loop-k : goal.invariant-loop-k
 invariant-loop-k l =
     let d = dict l.objects l.slots l.words l.bytes in
-    (l.k ≤ l.count)
-    × (l.at ≤ l.n)
+    (l.at ≤ l.n)
     × On d l.store l.i (l.count - l.k) l.k
     × (values_restored d l.store l.i (l.count - l.k) l.k ≡ values_restored (dict l.objects l.fn.slots l.fn.words l.fn.bytes) l.store l.i l.count 0)
-
-abbrev pub decreases-loop-k : goal.decreases-loop-k
-decreases-loop-k l = l.count - l.k

@@ -1,7 +1,7 @@
 -- `restoring::restore::restore_judged` meets its contract: each way out is a case of the definition. Assumes nothing.
+use Rattle.std.specs.Prelude.{Ok}
 use mathlib.Core.Path.{sym, ap, ◌∙◌}
 use Rattle.restoring.specs.Restore.{after_restore, restore_of}
-use Rattle.restoring.specs.declared.Restored.TheVariants.{Done}
 use Rattle.restoring.proofs.restore.restore_judged.Goals as goal
 
 pub returns-then-not-rows_fit : goal.returns-then-not-rows_fit
@@ -13,4 +13,4 @@ restore_rows-requires-clause-objects_value c = sym c.rows_fit.ensures ∙ c.if-n
 
 pub returns : goal.returns
 unfolding restore_of
-returns c = ap (after_restore Done) c.restore_rows.ensures ∙ sym (simp (c.requires, sym c.rows_fit.ensures ∙ c.if-not-rows_fit.false))
+returns c = ap (after_restore (Ok tt)) c.restore_rows.ensures ∙ sym (simp (c.requires, sym c.rows_fit.ensures ∙ c.if-not-rows_fit.false))

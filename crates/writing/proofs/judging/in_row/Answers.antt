@@ -10,28 +10,28 @@ use Rattle.writing.proofs.judging.in_row.Goals as goal
 
 pub access_at-access-requires : goal.access_at-access-requires
 access_at-access-requires c =
-    let l = found_lies (dict c.args.objects.now c.args.slots.now c.args.words.now c.args.bytes.now) c.requires.bytes_value c.args.index c.args.i c.requires.index_value in
+    let l = found_lies (dict c.d.inside.objects.now c.d.inside.slots.now c.d.inside.words.now c.d.inside.bytes.now) c.d.invariant c.args.index c.args.i (rw (sym c.d.view_is) at c.requires.index_value) in
     (l.small, l.inside)
 
 pub sub_at-requires-clause-rows : goal.sub_at-requires-clause-rows
-sub_at-requires-clause-rows c = rows_of (dict c.args.objects.now c.args.slots.now c.args.words.now c.args.bytes.now) c.requires.bytes_value
+sub_at-requires-clause-rows c = rows_of (dict c.d.inside.objects.now c.d.inside.slots.now c.d.inside.words.now c.d.inside.bytes.now) c.d.invariant
 
 pub sub_at-requires-clause-i_bound : goal.sub_at-requires-clause-i_bound
 sub_at-requires-clause-i_bound c =
-    (found_lies (dict c.args.objects.now c.args.slots.now c.args.words.now c.args.bytes.now) c.requires.bytes_value c.args.index c.args.i c.requires.index_value).below
+    (found_lies (dict c.d.inside.objects.now c.d.inside.slots.now c.d.inside.words.now c.d.inside.bytes.now) c.d.invariant c.args.index c.args.i (rw (sym c.d.view_is) at c.requires.index_value)).below
 
 pub extra_at-requires : goal.extra_at-requires
 extra_at-requires c =
-    let l = found_lies (dict c.args.objects.now c.args.slots.now c.args.words.now c.args.bytes.now) c.requires.bytes_value c.args.index c.args.i c.requires.index_value in
+    let l = found_lies (dict c.d.inside.objects.now c.d.inside.slots.now c.d.inside.words.now c.d.inside.bytes.now) c.d.invariant c.args.index c.args.i (rw (sym c.d.view_is) at c.requires.index_value) in
     (l.small, l.inside)
 
 pub at_value-requires-clause-p_bound : goal.at_value-requires-clause-p_bound
 at_value-requires-clause-p_bound c =
-    let f = value_lies (dict c.args.objects.now c.args.slots.now c.args.words.now c.args.bytes.now) c.requires.bytes_value c.args.index c.args.sub _ _ c.requires.index_value (sym c.sub_at.ensures ∙ c.in-Value.is) in
+    let f = value_lies (dict c.d.inside.objects.now c.d.inside.slots.now c.d.inside.words.now c.d.inside.bytes.now) c.d.invariant c.args.index c.args.sub _ _ (rw (sym c.d.view_is) at c.requires.index_value) (sym c.sub_at.ensures ∙ c.in-Value.is) in
     (f.low, f.slot)
 
 pub at_value-requires-clause-high_value : goal.at_value-requires-clause-high_value
 at_value-requires-clause-high_value c =
-    let d = dict c.args.objects.now c.args.slots.now c.args.words.now c.args.bytes.now in
-    let l = found_lies d c.requires.bytes_value c.args.index c.args.i c.requires.index_value in
-    (subst (λ (x : Extra). range_ok x.ranged x.low x.high ≡ true) (sym c.extra_at.ensures) (range_right d c.requires.bytes_value c.args.i l.below), c.requires.data_value)
+    let d = dict c.d.inside.objects.now c.d.inside.slots.now c.d.inside.words.now c.d.inside.bytes.now in
+    let l = found_lies d c.d.invariant c.args.index c.args.i (rw (sym c.d.view_is) at c.requires.index_value) in
+    (subst (λ (x : Extra). range_ok x.ranged x.low x.high ≡ true) (sym c.extra_at.ensures) (range_right d c.d.invariant c.args.i l.below), c.requires.data_value)
