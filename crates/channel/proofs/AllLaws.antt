@@ -1,4 +1,5 @@
 -- One channel's turn in the check of all. Assumes nothing.
+use Rattle.std.specs.Prelude.{Option}
 use mathlib.Core.Path.{◌≡◌, refl, sym, ap, ◌∙◌}
 use mathlib.Core.List.{List, [], ◌∷◌}
 use Prim.Native.Nat.{ℕ, suc, ◌+◌, ◌-◌, ◌<◌, ◌≤◌}
@@ -8,7 +9,6 @@ use Rattle.lists.specs.Lists.{over}
 use Rattle.lists.proofs.ListLaws.{over_none, over-over}
 use Rattle.entry.specs.Table.{Dict}
 use Rattle.entry.specs.Find.{find_row}
-use Rattle.entry.specs.declared.Found.{Found}
 use Rattle.pdo_channel.specs.Channel.{comm_index}
 use Rattle.channel.specs.All.{on_comm, lines_from, laid_lines, laid_on}
 
@@ -32,6 +32,6 @@ module _ (out : List ℕ) (n : ℕ) where
 
 -- what is found of channel i decides
 pub turned : (d : Dict) (lent : List ℕ) (m i : ℕ) (out : List ℕ) (n : ℕ) → i < 256 → laid_on (lines_from d (256 - i) i) out n ≡ laid_on (lines_from d 256 0) lent m
-    → (g : Found) → g ≡ find_row d.objects (comm_index i) → laid_on (on_comm d i (lines_from d (256 - (i + 1)) (i + 1)) g) out n ≡ laid_on (lines_from d 256 0) lent m
+    → (g : Option ℕ) → g ≡ find_row d.objects (comm_index i) → laid_on (on_comm d i (lines_from d (256 - (i + 1)) (i + 1)) g) out n ≡ laid_on (lines_from d 256 0) lent m
 turned d lent m i out n h e g q =
     ap (λ x. laid_on (on_comm d i (lines_from d (256 - (i + 1)) (i + 1)) x) out n) q ∙ ap (λ x. laid_on x out n) (sym (lines_step d 256 i h)) ∙ e

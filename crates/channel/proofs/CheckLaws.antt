@@ -1,4 +1,5 @@
 -- One element's turn, and the sender of a channel. Assumes nothing.
+use Rattle.std.specs.Prelude.{Some, None}
 use mathlib.Core.Path.{◌≡◌, refl, sym, ap, ◌∙◌}
 use mathlib.Core.Bool.{Bool, true, false, cond}
 use mathlib.Core.List.{List}
@@ -7,13 +8,12 @@ use native.Mathlib.Numerals.{add-one}
 use native.Mathlib.Omega.{arith}
 use borrow.Author.Tests.{eqb-true, ltb-true}
 use lib.Dec.{eqb}
-use lib.ListN.{length, take, drop, get_or, drop_of_length-le, length-drop}
-use lib.Seq.{drop-cons, length-take-le, get_or-take, get_or-drop}
+use lib.ListN.{length, drop, get_or, drop_of_length-le}
+use lib.Seq.{drop-cons}
 use Rattle.value.specs.Codec.{is_text, size_of, fits_type}
 use Rattle.entry.specs.Table.{Dict, type_at, number_of, first_at, list_count}
 use Rattle.entry.specs.Find.{place_of, Elements}
 use Rattle.entry.specs.Judge.{well_formed}
-use Rattle.entry.specs.declared.Found.TheVariants.{At, Nothing}
 use Rattle.entry.specs.declared.Place.{Place}
 use Rattle.entry.specs.declared.Place.TheVariants.{NoObject, NoSub, Count, Value}
 use Rattle.entry.proofs.ValueLaws.{element_of_lem, element_facts, elements_lie, list_count_le}
@@ -32,19 +32,6 @@ module _ (objects slots : List ℕ) (p : ℕ) (list : List ℕ) (j : ℕ) (last 
   unfolding fault_from
   fault_step h = rw (drop-cons list j 0 h, add-one)
 
--- ---- the n elements from slot `first` on
-pub as_long : (words : List ℕ) (first n : ℕ) → first + n ≤ length words → length (take n (drop first words)) ≡ n
-as_long words first n h = length-take-le n _ (rw length-drop (omega arith))
-
--- the verdict on element j decides
-pub decided : (objects slots words : List ℕ) (first n j : ℕ) (last : Checked) → j < n → first + n ≤ length words
-    → on_verdict (j + 1) (fault_from objects slots first (drop (j + 1) (take n (drop first words))) (j + 1) last) (verdict_of objects slots (type_at slots (first + j)) (get_or words (first + j) 0)) ≡ fault_from objects slots first (drop j (take n (drop first words))) j last
-decided objects slots words first n j last l h =
-    let list = take n (drop first words) in
-    let word : get_or list j 0 ≡ get_or words (first + j) 0 = get_or-take n (drop first words) j 0 l ∙ get_or-drop first words j 0 in
-    ap (λ w. on_verdict (j + 1) (fault_from objects slots first (drop (j + 1) list) (j + 1) last) (verdict_of objects slots (type_at slots (first + j)) w)) (sym word)
-    ∙ sym (fault_step objects slots first list j last (omega (arith, as_long words first n h)))
-
 -- where the elements of a list that counts lie
 pub list_lies : (d : Dict) → well_formed d ≡ true → (r : ℕ) → r < number_of d.objects → (n p : ℕ) → n ≡ list_count d.objects r → p ≡ first_at d.objects r → Elements d.slots d.words n p
 list_lies d w r h n p a b =
@@ -56,10 +43,10 @@ byte : (w : ℕ) → fits_type 5 w ≡ true → w < 256
 unfolding size_of
 byte w h = ltb-true w 256 h
 
-pub u8_small : (d : Dict) → well_formed d ≡ true → (x sub v : ℕ) → u8_at d x sub ≡ At v → v < 256
+pub u8_small : (d : Dict) → well_formed d ≡ true → (x sub v : ℕ) → u8_at d x sub ≡ Some v → v < 256
 u8_small d e x sub v q = go (place_of d.objects x sub) refl q
   where
-    value : (p : ℕ) → place_of d.objects x sub ≡ Value p → (b : Bool) → eqb (type_at d.slots p) 5 ≡ b → cond b (At (get_or d.words p 0)) Nothing ≡ At v → v < 256
+    value : (p : ℕ) → place_of d.objects x sub ≡ Value p → (b : Bool) → eqb (type_at d.slots p) 5 ≡ b → cond b (Some (get_or d.words p 0)) None ≡ Some v → v < 256
     value p f true t r =
         let s : type_at d.slots p ≡ 5 = eqb-true _ _ t in
         let w : get_or d.words p 0 ≡ v = cc in
@@ -68,7 +55,7 @@ u8_small d e x sub v q = go (place_of d.objects x sub) refl q
         omega (arith, w, byte (get_or d.words p 0) h)
     value p f false t r = let z : ◌≡◌ {A = ℕ} 0 1 = cc in absurd (omega arith)
 
-    go : (f : Place) → place_of d.objects x sub ≡ f → u8_in d f ≡ At v → v < 256
+    go : (f : Place) → place_of d.objects x sub ≡ f → u8_in d f ≡ Some v → v < 256
     go NoObject f r = let z : ◌≡◌ {A = ℕ} 0 1 = cc in absurd (omega arith)
     go NoSub f r = let z : ◌≡◌ {A = ℕ} 0 1 = cc in absurd (omega arith)
     go (Count n) f r = let z : ◌≡◌ {A = ℕ} 0 1 = cc in absurd (omega arith)

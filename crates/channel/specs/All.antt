@@ -1,15 +1,12 @@
 -- The check of all channels: RULES.md R12.13. Assumes nothing.
-use Rattle.std.specs.Prelude.{ℕ, zero, suc, ◌+◌, cond, List, [], ◌∷◌, ltb, length}
+use Rattle.answers.specs.declared.Refusal.{Refusal}
+use Rattle.std.specs.Prelude.{ℕ, zero, suc, ◌+◌, cond, List, [], ◌∷◌, ltb, length, Option, Some, None, Result, Ok, Err}
 use Rattle.lists.specs.Lists.{over}
 use Rattle.answers.specs.declared.Refusal.TheVariants.{Malformed, BufferTooShort}
 use Rattle.entry.specs.Table.{Dict}
 use Rattle.entry.specs.Find.{find_row}
 use Rattle.entry.specs.Judge.{well_formed}
-use Rattle.entry.specs.declared.Found.{Found}
-use Rattle.entry.specs.declared.Found.TheVariants.{At, Nothing}
 use Rattle.pdo_channel.specs.Channel.{comm_index}
-use Rattle.channel.specs.declared.CheckedAll.{CheckedAll}
-use Rattle.channel.specs.declared.CheckedAll.TheVariants.{Done, Refused}
 use Rattle.channel.specs.Check.{check_of}
 use Rattle.channel.specs.Numbers.{answer_number, element_of}
 
@@ -18,9 +15,9 @@ abbrev pub line_of : Dict → ℕ → List ℕ → List ℕ
 line_of d i rest = i ∷ answer_number (check_of d i) ∷ element_of (check_of d i) ∷ rest
 
 -- "each channel that has an object 1400h+i"
-abbrev pub on_comm : Dict → ℕ → List ℕ → Found → List ℕ
-on_comm d i rest (At r) = line_of d i rest
-on_comm d i rest Nothing = rest
+abbrev pub on_comm : Dict → ℕ → List ℕ → Option ℕ → List ℕ
+on_comm d i rest (Some r) = line_of d i rest
+on_comm d i rest None = rest
 
 -- n channels from channel i on
 unfoldable pub lines_from : Dict → ℕ → ℕ → List ℕ
@@ -40,18 +37,18 @@ laid_on ns out n = laid_lines (over out n ns) (n + length ns)
 
 -- an answer, and the lent numbers after it
 pub record AfterCheckAll : Type 0 where
-  pub answer : CheckedAll
+  pub answer : Result ℕ Refusal
   pub out : List ℕ
 
-abbrev pub after_check_all : CheckedAll → List ℕ → AfterCheckAll
+abbrev pub after_check_all : Result ℕ Refusal → List ℕ → AfterCheckAll
 after_check_all a out = record { answer = a; out = out }
 
 abbrev pub check_all_done : Laid → AfterCheckAll
-check_all_done l = after_check_all (Done l.count) l.out
+check_all_done l = after_check_all (Ok l.count) l.out
 
 -- R12.13: "Malformed (1); under 768 numbers: BufferTooShort (12)"
 unfoldable pub check_all_of : Dict → List ℕ → AfterCheckAll
 check_all_of d out =
     cond (well_formed d)
-    (cond (ltb (length out) 768) (after_check_all (Refused BufferTooShort) out) (check_all_done (laid_on (lines_from d 256 0) out 0)))
-    (after_check_all (Refused Malformed) out)
+    (cond (ltb (length out) 768) (after_check_all (Err BufferTooShort) out) (check_all_done (laid_on (lines_from d 256 0) out 0)))
+    (after_check_all (Err Malformed) out)

@@ -1,84 +1,74 @@
 // The check of a channel: its sender, its list, its elements, and how far they reach.
-ghost use Rattle.std.specs.Prelude.{◌≡◌, true, ◌<◌, take, drop};
-ghost use Rattle.entry.specs.Table.{dict, number_of};
-ghost use Rattle.entry.specs.Find.{find_row, Elements};
-ghost use Rattle.entry.specs.Judge.{well_formed};
+ghost use Rattle.std.specs.Prelude.{◌≡◌, ◌+◌, ◌<◌, ◌≤◌, length};
+ghost use Rattle.entry.specs.Table.{dict, number_of, slot_place};
+ghost use Rattle.entry.specs.Find.{find_row};
 ghost use Rattle.pdo_channel.specs.Channel.{u8_at, comm_index};
 ghost use Rattle.pdo_step.specs.Outcomes.{Shape};
 ghost use Rattle.channel.specs.Check.{fault_from, is_far, on_elements, on_list, sender_for, has_sender, check_of};
 
 use crate::Checked;
 use answers::Refusal;
-use element::{Fault, Verdict, word_verdict};
-use entry::Found;
-use pdo_validator::Mapped;
+use element::{Fault, word_verdict};
+use judge::Dictionary;
 
-// The first fault of n elements from slot `first` on, or what comes last.
-fn first_fault(
-    objects: &[u64],
-    slots: &[u64],
-    words: &[u64],
-    first: usize,
-    n: usize,
-    last: Checked,
-) -> Checked
+// The first fault of a list's elements, of which the first is slot `first`, or what comes last.
+fn first_fault(objects: &[u64], slots: &[u64], first: usize, list: &[u64], last: Checked) -> Checked
     requires shape { Shape objects.now slots.now }
-    requires elements { Elements slots.now words.now n first }
-    ensures { result ≡ fault_from objects.now slots.now first (take n (drop first words.now)) 0 last }
+    requires elements { (first + length list.now ≤ 6144) × (slot_place (first + length list.now) ≤ length slots.now) }
+    ensures { result ≡ fault_from objects.now slots.now first list.now 0 last }
 {
-    let mut j = 0;
-    while j < n {
+    for (j, &word) in list.iter().enumerate() {
         if entry::type_at(slots, first + j) != 8 {
             return Checked::Element {
                 element: j + 1,
                 fault: Fault::NotMapping,
             };
         }
-        if let Verdict::Faulty(fault) = word_verdict(objects, slots, words[first + j]) {
+        if let Err(fault) = word_verdict(objects, slots, word) {
             return Checked::Element {
                 element: j + 1,
                 fault,
             };
         }
-        j += 1;
     }
     last
 }
 
-fn is_far(ends: Mapped) -> bool
+fn is_far(ends: Option<usize>) -> bool
     ensures { result ≡ is_far ends }
 {
     match ends {
-        Mapped::Upto(e) => 1490 < e,
-        Mapped::Missing => false,
+        Some(e) => 1490 < e,
+        None => false,
     }
 }
 
 // The elements of the list in row r.
-fn check_elements(objects: &[u64], slots: &[u64], words: &[u64], bytes: &[u8], r: usize) -> Checked
-    requires bytes_value { well_formed (dict objects.now slots.now words.now bytes.now) ≡ true }
-    requires r_bound { r < number_of objects.now }
-    ensures { result ≡ on_elements (dict objects.now slots.now words.now bytes.now) r }
+fn check_elements(d: &Dictionary, r: usize) -> Checked
+    requires { r < number_of d.now.objects }
+    ensures { result ≡ on_elements d.now r }
 {
-    let first = entry::first_at(objects, r) as usize;
-    let n = entry::list_count(objects, r) as usize;
-    if is_far(pdo_validator::ends(slots, words, n, first)) {
-        return first_fault(objects, slots, words, first, n, Checked::TooFar);
-    }
-    first_fault(objects, slots, words, first, n, Checked::Pass)
+    let first = entry::first_at(d.objects, r) as usize;
+    let n = entry::list_count(d.objects, r) as usize;
+    let list = &d.words[first..first + n];
+    let last = if is_far(pdo_validator::ends(d.slots, d.words, n, first)) {
+        Checked::TooFar
+    } else {
+        Checked::Pass
+    };
+    first_fault(d.objects, d.slots, first, list, last)
 }
 
-fn check_list(objects: &[u64], slots: &[u64], words: &[u64], bytes: &[u8], index: u16) -> Checked
-    requires { well_formed (dict objects.now slots.now words.now bytes.now) ≡ true }
-    ensures { result ≡ on_list (dict objects.now slots.now words.now bytes.now) (find_row objects.now index) }
+fn check_list(d: &Dictionary, index: u16) -> Checked
+    ensures { result ≡ on_list d.now (find_row d.now.objects index) }
 {
-    let Found::At(r) = entry::find(objects, index) else {
+    let Some(r) = entry::find(d.objects, index) else {
         return Checked::NoList;
     };
-    if (entry::kind_at(objects, r) == 0) | (entry::list_count(objects, r) == 0) {
+    if (entry::kind_at(d.objects, r) == 0) | (entry::list_count(d.objects, r) == 0) {
         return Checked::NoList;
     }
-    check_elements(objects, slots, words, bytes, r)
+    check_elements(d, r)
 }
 
 // The sender that a channel's number names: 0 is the managing node.
@@ -93,47 +83,41 @@ fn sender_for(v: usize) -> u8
 }
 
 // Is channel i the first match of a sender?
-fn has_sender(objects: &[u64], slots: &[u64], words: &[u64], bytes: &[u8], i: u8) -> bool
-    requires { well_formed (dict objects.now slots.now words.now bytes.now) ≡ true }
-    ensures { result ≡ has_sender (dict objects.now slots.now words.now bytes.now) i (u8_at (dict objects.now slots.now words.now bytes.now) (comm_index i) 1) }
+fn has_sender(d: &Dictionary, i: u8) -> bool
+    ensures { result ≡ has_sender d.now i (u8_at d.now (comm_index i) 1) }
 {
     let index = 0x1400 + i as u16;
-    let Found::At(row) = entry::find(objects, index) else {
+    let Some(row) = entry::find(d.objects, index) else {
         return false;
     };
-    let Found::At(v) = pdo_channel::u8_in(objects, slots, words, bytes, row, index, 1) else {
+    let Some(v) = pdo_channel::u8_in(d, row, index, 1) else {
         return false;
     };
     let sender = sender_for(v);
-    let Found::At(j) = pdo_channel::first_match(objects, slots, words, bytes, sender) else {
+    let Some(j) = pdo_channel::first_match(d, sender) else {
         return false;
     };
     j == i as usize
 }
 
 // A channel of a dictionary that was judged.
-pub fn check_judged(
-    objects: &[u64],
-    slots: &[u64],
-    words: &[u64],
-    bytes: &[u8],
-    channel: u8,
-) -> Checked
-    requires { well_formed (dict objects.now slots.now words.now bytes.now) ≡ true }
-    ensures { result ≡ check_of (dict objects.now slots.now words.now bytes.now) channel }
+pub fn check_judged(d: &Dictionary, channel: u8) -> Checked
+    ensures { result ≡ check_of d.now channel }
 {
-    if !has_sender(objects, slots, words, bytes, channel) {
+    // Opens d for the proof: an answer before any row is read needs that d is well-formed too.
+    let _ = &d.objects;
+    if !has_sender(d, channel) {
         return Checked::NoSender;
     }
-    check_list(objects, slots, words, bytes, 0x1600 + channel as u16)
+    check_list(d, 0x1600 + channel as u16)
 }
 
 // Checks a channel: would every payload that it admits be written whole? Nothing is changed.
 pub fn check(objects: &[u64], slots: &[u64], words: &[u64], bytes: &[u8], channel: u8) -> Checked
     ensures { result ≡ check_of (dict objects.now slots.now words.now bytes.now) channel }
 {
-    if !judge::well_formed(objects, slots, words, bytes) {
+    let Ok(d) = Dictionary::judged(objects, slots, words, bytes) else {
         return Checked::Refused(Refusal::Malformed);
-    }
-    check_judged(objects, slots, words, bytes, channel)
+    };
+    check_judged(&d, channel)
 }

@@ -21,10 +21,3 @@ pub enum Checked {
     TooFar,
     Refused(Refusal),
 }
-
-// How many numbers were laid, or why none.
-#[derive(Clone, Copy)]
-pub enum CheckedAll {
-    Done(usize),
-    Refused(Refusal),
-}

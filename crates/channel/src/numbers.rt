@@ -12,7 +12,7 @@ pub fn number(a: Checked) -> u64
         Checked::Pass => 0,
         Checked::NoSender => 31,
         Checked::NoList => 32,
-        Checked::Element { element: _, fault } => fault_number(fault),
+        Checked::Element { fault, .. } => fault_number(fault),
         Checked::TooFar => 39,
         Checked::Refused(r) => answers::number(r),
     }
@@ -23,11 +23,7 @@ pub fn named(a: Checked) -> u64
     ensures { result ≡ element_of a }
 {
     match a {
-        Checked::Pass => 0,
-        Checked::NoSender => 0,
-        Checked::NoList => 0,
-        Checked::Element { element, fault: _ } => element as u64,
-        Checked::TooFar => 0,
-        Checked::Refused(_) => 0,
+        Checked::Element { element, .. } => element as u64,
+        _ => 0,
     }
 }

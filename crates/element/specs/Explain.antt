@@ -1,15 +1,12 @@
 -- What an element of a channel's list maps, and onto what: RULES.md R12.14. Assumes nothing.
-use Rattle.std.specs.Prelude.{ℕ, ◌+◌, cond, List, eqb, get_or}
+use Rattle.mapping.specs.declared.Field.{Field}
+use Rattle.std.specs.Prelude.{ℕ, ◌+◌, cond, List, eqb, get_or, Option, Some, None}
 use Rattle.answers.specs.declared.Refusal.TheVariants.{Malformed, ObjectNotFound, SubObjectNotFound}
 use Rattle.value.specs.Codec.{is_text, size_of}
 use Rattle.mapping.specs.declared.PdoMappingEntry.{PdoMappingEntry}
-use Rattle.mapping.specs.declared.Field.{Field}
-use Rattle.mapping.specs.declared.Field.TheVariants as field
 use Rattle.entry.specs.Table.{Dict, kind_at, type_at, room_at}
 use Rattle.entry.specs.Find.{find_row, sub_at}
 use Rattle.entry.specs.Judge.{well_formed}
-use Rattle.entry.specs.declared.Found.{Found}
-use Rattle.entry.specs.declared.Found.TheVariants.{At, Nothing}
 use Rattle.entry.specs.declared.Place.{Place}
 use Rattle.entry.specs.declared.Place.TheVariants as place
 use Rattle.aim.specs.Aims.{aim_of}
@@ -30,9 +27,9 @@ target_of slots (place.Count n) = target.Count
 target_of slots (place.Value p) = target.Value (type_at slots p) (holds (type_at slots p) (room_at slots p))
 
 -- "offset and length in bytes, or in bits where one of them is not whole bytes"
-abbrev pub of_field : List ℕ → PdoMappingEntry → Place → Field → Explained
-of_field slots e q field.Misaligned = explained.Misaligned e.index e.sub_index e.offset_bits e.length_bits (target_of slots q)
-of_field slots e q (field.Whole start n) = explained.Field e.index e.sub_index start n (target_of slots q)
+abbrev pub of_field : List ℕ → PdoMappingEntry → Place → Option Field → Explained
+of_field slots e q None = explained.Misaligned e.index e.sub_index e.offset_bits e.length_bits (target_of slots q)
+of_field slots e q (Some v) = explained.Field e.index e.sub_index v.start v.length (target_of slots q)
 
 abbrev pub of_word : List ℕ → List ℕ → ℕ → Explained
 of_word objects slots w = let a = aim_of objects w in of_field slots a.entry a.place a.field
@@ -49,9 +46,9 @@ of_place d (place.Count n) = explained.Refused SubObjectNotFound
 of_place d (place.Value p) = of_element d.objects d.slots (type_at d.slots p) (get_or d.words p 0)
 
 -- "1600h+i is no list: ObjectNotFound"
-abbrev pub of_list : Dict → ℕ → Found → Explained
-of_list d k Nothing = explained.Refused ObjectNotFound
-of_list d k (At r) = cond (eqb (kind_at d.objects r) 0) (explained.Refused ObjectNotFound) (of_place d (sub_at d.objects r k))
+abbrev pub of_list : Dict → ℕ → Option ℕ → Explained
+of_list d k None = explained.Refused ObjectNotFound
+of_list d k (Some r) = cond (eqb (kind_at d.objects r) 0) (explained.Refused ObjectNotFound) (of_place d (sub_at d.objects r k))
 
 unfoldable pub explain_of : Dict → ℕ → ℕ → Explained
 explain_of d i k = cond (well_formed d) (of_list d k (find_row d.objects (0x1600 + i))) (explained.Refused Malformed)

@@ -1,9 +1,7 @@
 -- The numbers of a fault and of an explanation: RULES.md R12.12 and R12.15. Assumes nothing.
-use Rattle.std.specs.Prelude.{ℕ, ◌*◌, List, [], ◌∷◌}
+use Rattle.std.specs.Prelude.{ℕ, ◌*◌, List, [], ◌∷◌, Result, Ok, Err}
 use Rattle.element.specs.declared.Fault.{Fault}
 use Rattle.element.specs.declared.Fault.TheVariants as fault
-use Rattle.element.specs.declared.Verdict.{Verdict}
-use Rattle.element.specs.declared.Verdict.TheVariants.{Clean, Faulty}
 use Rattle.element.specs.declared.Target.{Target}
 use Rattle.element.specs.declared.Target.TheVariants as target
 use Rattle.element.specs.declared.Explained.{Explained}
@@ -21,9 +19,9 @@ fault_number fault.WrongLength = 38
 
 -- ---- an explanation, in eleven numbers
 -- "what the check says of the element by itself"
-abbrev pub verdict_number : Verdict → ℕ
-verdict_number Clean = 0
-verdict_number (Faulty f) = fault_number f
+abbrev pub verdict_number : Result (Unit {0}) Fault → ℕ
+verdict_number (Ok _) = 0
+verdict_number (Err f) = fault_number f
 
 -- "what is there", its type, and how many bytes it holds; a count is a U8
 abbrev pub there_number : Target → ℕ

@@ -4,7 +4,7 @@ ghost use Rattle.pdo_step.specs.Outcomes.{Shape};
 ghost use Rattle.element.specs.Elements.{fits_in, onto_target, said_of, word_verdict};
 
 use crate::explaining::of_word;
-use crate::{Explained, Fault, Target, Verdict};
+use crate::{Explained, Fault, Target};
 
 // Is a field of n bytes a value of the type that takes, or has room for, so many?
 fn fits_in(t: u64, most: u64, n: u16) -> bool
@@ -16,52 +16,44 @@ fn fits_in(t: u64, most: u64, n: u16) -> bool
     n as u64 == most
 }
 
-fn onto_target(n: u16, target: Target) -> Verdict
+fn onto_target(n: u16, target: Target) -> Result<(), Fault>
     ensures { result ≡ onto_target n target }
 {
     match target {
-        Target::NoObject => Verdict::Faulty(Fault::NoTarget),
-        Target::NoSub => Verdict::Faulty(Fault::NoTarget),
-        Target::Count => Verdict::Faulty(Fault::CountTarget),
+        Target::NoObject | Target::NoSub => Err(Fault::NoTarget),
+        Target::Count => Err(Fault::CountTarget),
         Target::Value { value_type, holds } => {
             if fits_in(value_type, holds, n) {
-                Verdict::Clean
+                Ok(())
             } else {
-                Verdict::Faulty(Fault::WrongLength)
+                Err(Fault::WrongLength)
             }
         }
     }
 }
 
 // What the check says of an element by itself, from its explanation alone; a refusal explains none.
-pub fn said(e: Explained) -> Verdict
+pub fn said(e: Explained) -> Result<(), Fault>
     ensures { result ≡ said_of e }
 {
     match e {
-        Explained::Other(_) => Verdict::Faulty(Fault::NotMapping),
-        Explained::Misaligned {
-            index: _,
-            sub_index: _,
-            offset_bits: _,
-            length_bits: _,
-            target: _,
-        } => Verdict::Faulty(Fault::Misaligned),
+        Explained::Other(_) => Err(Fault::NotMapping),
+        Explained::Misaligned { .. } => Err(Fault::Misaligned),
         Explained::Field {
             index,
-            sub_index: _,
-            start: _,
             length,
             target,
+            ..
         } => match index {
-            0x1200..=0x12FF => Verdict::Faulty(Fault::HandOff),
+            0x1200..=0x12FF => Err(Fault::HandOff),
             _ => onto_target(length, target),
         },
-        Explained::Refused(_) => Verdict::Clean,
+        Explained::Refused(_) => Ok(()),
     }
 }
 
 // Of a mapping word.
-pub fn word_verdict(objects: &[u64], slots: &[u64], word: u64) -> Verdict
+pub fn word_verdict(objects: &[u64], slots: &[u64], word: u64) -> Result<(), Fault>
     requires { Shape objects.now slots.now }
     ensures { result ≡ word_verdict objects.now slots.now word }
 {

@@ -1,15 +1,15 @@
 // What an element of a channel's list maps, and onto what.
-ghost use Rattle.std.specs.Prelude.{◌≡◌, true, ℕ, ◌<◌, ◌≤◌, length};
+ghost use Rattle.std.specs.Prelude.{◌≡◌, ℕ, ◌<◌, ◌≤◌, length};
 ghost use Rattle.entry.specs.Table.{dict, slot_end};
-ghost use Rattle.entry.specs.Judge.{well_formed};
 ghost use Rattle.entry.specs.declared.Place.TheVariants.{Value};
 ghost use Rattle.pdo_step.specs.Outcomes.{Shape};
 ghost use Rattle.element.specs.Explain.{holds, target_of, of_word, explain_of};
 
 use crate::{Explained, Target};
 use answers::Refusal;
-use entry::{Found, Place};
-use mapping::Field;
+use entry::Place;
+use judge::Dictionary;
+use mapping::PdoMappingEntry;
 
 // How many bytes a value takes: its type's size, or its room.
 fn holds(t: u64, room: u64) -> u64
@@ -50,15 +50,14 @@ pub fn of_word(objects: &[u64], slots: &[u64], word: u64) -> Explained
     ensures { result ≡ of_word objects.now slots.now word }
 {
     let a = aim::aim_of(objects, word);
-    let place = a.place;
-    let target = target_at(slots, place);
-    let e = a.entry;
-    let index = e.index;
-    let sub_index = e.sub_index;
-    let offset_bits = e.offset_bits;
-    let length_bits = e.length_bits;
-    let field = a.field;
-    let Field::Whole { start, length } = field else {
+    let target = target_at(slots, a.place);
+    let PdoMappingEntry {
+        index,
+        sub_index,
+        offset_bits,
+        length_bits,
+    } = a.entry;
+    let Some(field) = a.field else {
         return Explained::Misaligned {
             index,
             sub_index,
@@ -70,38 +69,30 @@ pub fn of_word(objects: &[u64], slots: &[u64], word: u64) -> Explained
     Explained::Field {
         index,
         sub_index,
-        start: start as u16,
-        length: length as u16,
+        start: field.start as u16,
+        length: field.length as u16,
         target,
     }
 }
 
 // Explains an element of a dictionary that was judged.
-pub fn explain_judged(
-    objects: &[u64],
-    slots: &[u64],
-    words: &[u64],
-    bytes: &[u8],
-    channel: u8,
-    element: u8,
-) -> Explained
-    requires { well_formed (dict objects.now slots.now words.now bytes.now) ≡ true }
-    ensures { result ≡ explain_of (dict objects.now slots.now words.now bytes.now) channel element }
+pub fn explain_judged(d: &Dictionary, channel: u8, element: u8) -> Explained
+    ensures { result ≡ explain_of d.now channel element }
 {
-    let Found::At(r) = entry::find(objects, 0x1600 + channel as u16) else {
+    let Some(r) = entry::find(d.objects, 0x1600 + channel as u16) else {
         return Explained::Refused(Refusal::ObjectNotFound);
     };
-    if entry::kind_at(objects, r) == 0 {
+    if entry::kind_at(d.objects, r) == 0 {
         return Explained::Refused(Refusal::ObjectNotFound);
     }
-    let Place::Value(p) = entry::sub_at(objects, r, element) else {
+    let Place::Value(p) = entry::sub_at(d.objects, r, element) else {
         return Explained::Refused(Refusal::SubObjectNotFound);
     };
-    let t = entry::type_at(slots, p);
+    let t = entry::type_at(d.slots, p);
     if t != 8 {
         return Explained::Other(t);
     }
-    of_word(objects, slots, words[p])
+    of_word(d.objects, d.slots, d.words[p])
 }
 
 // Explains an element, from 1, of the list 1600h + channel.
@@ -115,8 +106,8 @@ pub fn explain(
 ) -> Explained
     ensures { result ≡ explain_of (dict objects.now slots.now words.now bytes.now) channel element }
 {
-    if !judge::well_formed(objects, slots, words, bytes) {
+    let Ok(d) = Dictionary::judged(objects, slots, words, bytes) else {
         return Explained::Refused(Refusal::Malformed);
-    }
-    explain_judged(objects, slots, words, bytes, channel, element)
+    };
+    explain_judged(&d, channel, element)
 }

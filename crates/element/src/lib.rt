@@ -21,12 +21,6 @@ pub enum Fault {
     WrongLength,
 }
 
-#[derive(Clone, Copy)]
-pub enum Verdict {
-    Clean,
-    Faulty(Fault),
-}
-
 // What there is at an index and a sub-index; a value holds so many bytes: its type's size, or its room.
 #[derive(Clone, Copy)]
 pub enum Target {

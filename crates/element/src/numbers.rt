@@ -3,7 +3,7 @@ ghost use Rattle.std.specs.Prelude.{◌≡◌};
 ghost use Rattle.element.specs.Numbers.{fault_number, verdict_number, there_number, there_type, there_holds, explained_numbers};
 
 use crate::elements::said;
-use crate::{Explained, Fault, Target, Verdict};
+use crate::{Explained, Fault, Target};
 
 pub fn fault_number(f: Fault) -> u64
     ensures { result ≡ fault_number f }
@@ -18,12 +18,12 @@ pub fn fault_number(f: Fault) -> u64
     }
 }
 
-fn verdict_number(v: Verdict) -> u64
+fn verdict_number(v: Result<(), Fault>) -> u64
     ensures { result ≡ verdict_number v }
 {
     match v {
-        Verdict::Clean => 0,
-        Verdict::Faulty(f) => fault_number(f),
+        Ok(()) => 0,
+        Err(f) => fault_number(f),
     }
 }
 
@@ -34,10 +34,7 @@ fn there(t: Target) -> u64
         Target::NoObject => 0,
         Target::NoSub => 1,
         Target::Count => 2,
-        Target::Value {
-            value_type: _,
-            holds: _,
-        } => 3,
+        Target::Value { .. } => 3,
     }
 }
 
@@ -45,13 +42,9 @@ fn there_type(t: Target) -> u64
     ensures { result ≡ there_type t }
 {
     match t {
-        Target::NoObject => 0,
-        Target::NoSub => 0,
+        Target::NoObject | Target::NoSub => 0,
         Target::Count => 5,
-        Target::Value {
-            value_type,
-            holds: _,
-        } => value_type,
+        Target::Value { value_type, .. } => value_type,
     }
 }
 
@@ -59,13 +52,9 @@ fn there_holds(t: Target) -> u64
     ensures { result ≡ there_holds t }
 {
     match t {
-        Target::NoObject => 0,
-        Target::NoSub => 0,
+        Target::NoObject | Target::NoSub => 0,
         Target::Count => 1,
-        Target::Value {
-            value_type: _,
-            holds,
-        } => holds,
+        Target::Value { holds, .. } => holds,
     }
 }
 
@@ -113,6 +102,6 @@ pub fn explained_numbers(e: Explained) -> [u64; 11]
             there_type(target),
             there_holds(target),
         ],
-        Explained::Refused(_) => [0, 0, 0, 0, 0, 0, 0, 0, 0, 0, 0],
+        Explained::Refused(_) => [0; 11],
     }
 }

@@ -1,8 +1,9 @@
 -- Each event of a payload has room in its number. Assumes nothing.
+use Rattle.std.specs.Prelude.{Option, Some, None, Result, Ok, Err}
+use Rattle.mapping.specs.declared.Field.{Field}
 use mathlib.Core.Path.{◌≡◌, refl}
 use mathlib.Core.Bool.{Bool, true, false, cond, ◌&&◌}
 use mathlib.Core.List.{List, [], ◌∷◌}
-use mathlib.Core.Option.{Option, none, some}
 use Prim.Native.Nat.{ℕ, ◌+◌, ◌<◌, ◌≤◌}
 use native.Mathlib.Omega.{arith}
 use lib.Dec.{eqb, ltb}
@@ -11,8 +12,6 @@ use Rattle.value.specs.Codec.{is_text, word_at}
 use Rattle.value.specs.Fault.{first_told, second_told}
 use Rattle.value.specs.declared.CodecFault.{CodecFault}
 use Rattle.value.specs.declared.CodecFault.TheVariants as fault
-use Rattle.value.specs.declared.Word.{Word}
-use Rattle.value.specs.declared.Word.TheVariants.{Takes, Fails}
 use Rattle.event.specs.declared.Cause.TheVariants.{Frame as Short}
 use Rattle.event.specs.declared.Unwritten.TheVariants.{CountNotWritable, TooLong}
 use Rattle.event.specs.declared.Event.{Event}
@@ -20,16 +19,12 @@ use Rattle.event.specs.declared.Event.TheVariants.{PayloadShort, Server, Client,
 use Rattle.event.specs.declared.EventRecord.{EventRecord}
 use Rattle.event.specs.Record.{detail_of}
 use Rattle.mapping.specs.Word.{entry_of, field_of}
-use Rattle.mapping.specs.declared.Field.{Field}
-use Rattle.mapping.specs.declared.Field.TheVariants as field
 use Rattle.mapping.specs.declared.PdoMappingEntry.{PdoMappingEntry}
 use Rattle.mapping.proofs.WordLaws.{entry_in_range}
 use Rattle.entry.specs.Table.{kind_at, list_count, first_at, type_at, room_at, is_mapping}
 use Rattle.entry.specs.Find.{find_row, place_of}
 use Rattle.entry.specs.Judge.{well_formed}
 use Rattle.entry.specs.Put.{Contents}
-use Rattle.entry.specs.declared.Found.{Found}
-use Rattle.entry.specs.declared.Found.TheVariants.{At, Nothing}
 use Rattle.entry.specs.declared.Place.{Place}
 use Rattle.entry.specs.declared.Place.TheVariants.{NoObject, NoSub, Count, Value}
 use Rattle.entry.proofs.ValueLaws.{found_lies, list_count_le}
@@ -60,9 +55,9 @@ target (outcome.Stored p start n) = 0
 
 module _ (objects slots payload : List ℕ) where
   -- nothing at a place is handed off
-  value_kept : (p start n : ℕ) (v : Word) → target (on_value slots p start n v) ≡ 0
-  value_kept p start n (Fails f) = refl
-  value_kept p start n (Takes v) = go (is_text (type_at slots p) && ltb (room_at slots p) n)
+  value_kept : (p start n : ℕ) (v : Result ℕ CodecFault) → target (on_value slots p start n v) ≡ 0
+  value_kept p start n (Err f) = refl
+  value_kept p start n (Ok v) = go (is_text (type_at slots p) && ltb (room_at slots p) n)
     where
       go : (b : Bool) → target (cond b outcome.TooLong (outcome.Stored p start n)) ≡ 0
       go true = refl
@@ -97,12 +92,12 @@ module _ (objects slots payload : List ℕ) where
       go start n false false true = small
       go start n false false false = omega (arith, place_kept e.index start n (place_of objects e.index e.sub_index))
 
-      fielded : (f : Field) → target (on_field objects slots payload (entry_of w) f) < 65536
-      fielded field.Misaligned = omega arith
-      fielded (field.Whole start n) = go start n (ltb (length payload) (start + n)) (between 0x1200 0x127F e.index) (between 0x1280 0x12FF e.index)
+      fielded : (f : Option Field) → target (on_field objects slots payload (entry_of w) f) < 65536
+      fielded None = omega arith
+      fielded (Some v) = go v.start v.length (ltb (length payload) (v.start + v.length)) (between 0x1200 0x127F e.index) (between 0x1280 0x12FF e.index)
 
 -- ---- what an outcome's event has room in a number
-event_room : (o : Outcome) (v : Event) → (effect_of o).event ≡ some v → ((detail_of v).index ≤ target o) × ((detail_of v).start + (detail_of v).len ≤ reach o)
+event_room : (o : Outcome) (v : Event) → (effect_of o).event ≡ Some v → ((detail_of v).index ≤ target o) × ((detail_of v).start + (detail_of v).len ≤ reach o)
 event_room outcome.Misaligned v e = let z : ◌≡◌ {A = ℕ} 0 1 = cc in absurd (omega arith)
 event_room outcome.Short v e = let z : PayloadShort Short ≡ v = cc in rw (← z) (omega arith, omega arith)
 event_room (outcome.Server x start n) v e = let z : Server x start n ≡ v = cc in rw (← z) (omega arith, omega arith)
@@ -121,8 +116,8 @@ event_room (outcome.Stored p start n) v e = let z : ◌≡◌ {A = ℕ} 0 1 = cc
 
 -- element k of payload number i, in a payload that is not too long
 word_small : (f : Frame) (k w : ℕ) → k < 256 → length f.payload ≤ 1490 → (v : Option Event) → (effect_of (decided f w)).event ≡ v → AllSmall (recorded f.number k v)
-word_small f k w h l none e = tt
-word_small f k w h l (some v) e =
+word_small f k w h l None e = tt
+word_small f k w h l (Some v) e =
     let r = event_room (decided f w) v e in
     let t = target_small f.objects f.slots f.payload w in
     let u = reach_within f.objects f.slots f.payload w in
@@ -152,9 +147,9 @@ unfolding consumed_by
 received_small f c w l version false = tt
 received_small f c w l version true = channel (first_match (held f c) f.sender)
   where
-    row : (x : ℕ) (g : Found) → find_row f.objects x ≡ g → AllSmall (run_on f c g).events
-    row x Nothing q = tt
-    row x (At r) q = kind (eqb (kind_at f.objects r) 0)
+    row : (x : ℕ) (g : Option ℕ) → find_row f.objects x ≡ g → AllSmall (run_on f c g).events
+    row x None q = tt
+    row x (Some r) q = kind (eqb (kind_at f.objects r) 0)
       where
         list : List ℕ
         list = list_in f.objects c.words r
@@ -170,6 +165,6 @@ received_small f c w l version true = channel (first_match (held f c) f.sender)
     version_of_lem i true = row (0x1600 + i) (find_row f.objects (0x1600 + i)) refl
     version_of_lem i false = (record { element = omega arith; index = omega arith; start = omega arith; len = omega arith }, tt)
 
-    channel : (g : Found) → AllSmall (on_channel f c version g).events
-    channel Nothing = tt
-    channel (At i) = version_of_lem i (right_version (expected_of (held f c) i) version)
+    channel : (g : Option ℕ) → AllSmall (on_channel f c version g).events
+    channel None = tt
+    channel (Some i) = version_of_lem i (right_version (expected_of (held f c) i) version)

@@ -1,4 +1,5 @@
 -- How many events a payload gives, at most what the list has room for; and that the log's numbers say its events. Assumes nothing.
+use Rattle.std.specs.Prelude.{Ok, Err}
 use mathlib.Core.Path.{◌≡◌, refl, ap, ◌∙◌}
 use mathlib.Core.Bool.{Bool, true, false, cond}
 use mathlib.Core.List.{List, ◌++◌, map}
@@ -11,7 +12,6 @@ use Rattle.answers.specs.declared.Refusal.TheVariants.{Malformed, NoEventRoom, P
 use Rattle.entry.specs.Table.{Dict}
 use Rattle.entry.specs.Judge.{well_formed}
 use Rattle.entry.specs.Put.{Contents, contents}
-use Rattle.pdo_handler.specs.declared.Consumed.TheVariants.{Done, Refused}
 use Rattle.pdo_run.specs.Run.{Frame, frame, Ran, finished}
 use Rattle.pdo_handler.specs.Consume.{received_by, AfterConsume, after_consume, consume_done, consume_of}
 use Rattle.pdo_handler.proofs.EventLaws.{received_few}
@@ -37,7 +37,7 @@ count_few d payload sender version ready room log = go (well_formed d) refl (ltb
     Few n = (n ≤ 254) × (n ≤ room)
 
     go : (x : Bool) → well_formed d ≡ x → (y : Bool) → ltb room 254 ≡ y → (z : Bool)
-        → Few (event_count (cond x (cond y (after_consume (Refused NoEventRoom) c log) (cond z (after_consume (Refused PayloadTooLong) c log) (consume_done (finished (received_by f c version ready) log 0)))) (after_consume (Refused Malformed) c log)).answer)
+        → Few (event_count (cond x (cond y (after_consume (Err NoEventRoom) c log) (cond z (after_consume (Err PayloadTooLong) c log) (consume_done (finished (received_by f c version ready) log 0)))) (after_consume (Err Malformed) c log)).answer)
     go true w true r z = (omega arith, omega arith)
     go true w false r true = (omega arith, omega arith)
     go true w false r false = (omega (arith, received_few f c w version ready), omega (arith, received_few f c w version ready, ltb-false room 254 r))
@@ -71,12 +71,12 @@ listed-received d payload sender version ready es = go (well_formed d) refl (ltb
     r = received_by f c version ready
 
     after : Bool → Bool → Bool → AfterConsume
-    after x y z = cond x (cond y (after_consume (Refused NoEventRoom) c log) (cond z (after_consume (Refused PayloadTooLong) c log) (consume_done (finished r log 0)))) (after_consume (Refused Malformed) c log)
+    after x y z = cond x (cond y (after_consume (Err NoEventRoom) c log) (cond z (after_consume (Err PayloadTooLong) c log) (consume_done (finished r log 0)))) (after_consume (Err Malformed) c log)
 
     go : (x : Bool) → well_formed d ≡ x → (y z : Bool) → ltb 1490 (length payload) ≡ z → listed_by (after x y z) es ≡ listed (after x y z) r.events es
     go true w true z l = refl
     go true w false true l = refl
     go true w false false l =
-        ap (λ (vs : List EventRecord). received (Done (0 + length r.events)) r.contents (vs ++ drop (0 + length r.events) es))
+        ap (λ (vs : List EventRecord). received (Ok (0 + length r.events)) r.contents (vs ++ drop (0 + length r.events) es))
         (told_back r.events log (received_small f c w (ltb-false 1490 (length payload) l) version ready))
     go false w y z l = refl

@@ -1,8 +1,9 @@
 -- R11.15: each event of a payload that is short says what is wrong with its field. Assumes nothing.
+use Rattle.std.specs.Prelude.{Option, Some, None, Result, Ok, Err}
+use Rattle.mapping.specs.declared.Field.{Field}
 use mathlib.Core.Path.{◌≡◌, refl, sym, ap, subst, ◌∙◌}
 use mathlib.Core.Bool.{Bool, true, false, cond, ◌&&◌}
 use mathlib.Core.List.{List, [], ◌∷◌, ◌++◌}
-use mathlib.Core.Option.{Option, none, some}
 use Prim.Native.Nat.{ℕ, ◌+◌, ◌-◌, ◌<◌, ◌≤◌}
 use native.Mathlib.Omega.{arith}
 use native.Mathlib.Decide.{dec_lt}
@@ -15,8 +16,6 @@ use Rattle.lists.proofs.NumberLaws.{part_length}
 use Rattle.value.specs.Codec.{size_of, is_text, word_at}
 use Rattle.value.specs.declared.CodecFault.{CodecFault}
 use Rattle.value.specs.declared.CodecFault.TheVariants as fault
-use Rattle.value.specs.declared.Word.{Word}
-use Rattle.value.specs.declared.Word.TheVariants.{Takes, Fails}
 use Rattle.value.specs.Fault.{Tells}
 use Rattle.value.proofs.FaultLaws.{word_tells}
 use Rattle.event.specs.declared.Cause.{Cause}
@@ -24,13 +23,10 @@ use Rattle.event.specs.declared.Cause.TheVariants as cause
 use Rattle.event.specs.declared.Event.{Event}
 use Rattle.event.specs.declared.Event.TheVariants.{MapVersion, PayloadShort}
 use Rattle.event.specs.declared.EventRecord.{EventRecord}
-use Rattle.mapping.specs.Word.{entry_of, field_of}
-use Rattle.mapping.specs.declared.Field.{Field}
-use Rattle.mapping.specs.declared.Field.TheVariants as field
+use Rattle.mapping.specs.Word.{entry_of, field_of, field_at}
 use Rattle.entry.specs.Table.{kind_at, first_at, type_at, room_at, is_mapping}
 use Rattle.entry.specs.Find.{find_row, place_of}
 use Rattle.entry.specs.Put.{Contents}
-use Rattle.entry.specs.declared.Found.TheVariants.{At}
 use Rattle.entry.specs.declared.Place.{Place}
 use Rattle.entry.specs.declared.Place.TheVariants.{NoObject, NoSub, Count, Value}
 use Rattle.aim.specs.Aims.{between}
@@ -53,14 +49,14 @@ module _ (f : Frame) (w : ℕ) (g : CodecFault) where
   sub = (entry_of w).sub_index
 
   record Lies (b m : ℕ) : Type 0 where
-    field : field_of (entry_of w) ≡ field.Whole b m
+    field : field_of (entry_of w) ≡ field_at b m
     within : b + m ≤ length f.payload
 
-  at_value_lem : (q b m : ℕ) → place_of f.objects x sub ≡ Value q → Lies b m → (v : Word) → word_at (type_at f.slots q) (part f.payload b m) ≡ v → on_value f.slots q b m v ≡ outcome.Undecodable g → Undecoded f w g
-  at_value_lem q b m l h (Fails k) e d =
+  at_value_lem : (q b m : ℕ) → place_of f.objects x sub ≡ Value q → Lies b m → (v : Result ℕ CodecFault) → word_at (type_at f.slots q) (part f.payload b m) ≡ v → on_value f.slots q b m v ≡ outcome.Undecodable g → Undecoded f w g
+  at_value_lem q b m l h (Err k) e d =
       let z : k ≡ g = cc in
-      record { start = b; len = m; type = type_at f.slots q; field = h.field; within = h.within; target = value q l refl; tells = word_tells (type_at f.slots q) (part f.payload b m) g (e ∙ ap Fails z) }
-  at_value_lem q b m l h (Takes v) e d = room (is_text (type_at f.slots q) && ltb (room_at f.slots q) m) d
+      record { start = b; len = m; type = type_at f.slots q; field = h.field; within = h.within; target = value q l refl; tells = word_tells (type_at f.slots q) (part f.payload b m) g (e ∙ ap Err z) }
+  at_value_lem q b m l h (Ok v) e d = room (is_text (type_at f.slots q) && ltb (room_at f.slots q) m) d
     where
       room : (c : Bool) → cond c outcome.TooLong (outcome.Stored q b m) ≡ outcome.Undecodable g → Undecoded f w g
       room true d = let z : ◌≡◌ {A = ℕ} 0 1 = cc in absurd (omega arith)
@@ -68,15 +64,15 @@ module _ (f : Frame) (w : ℕ) (g : CodecFault) where
 
   at_count : (n b m : ℕ) → place_of f.objects x sub ≡ Count n → Lies b m → on_count x m ≡ outcome.Undecodable g → Undecoded f w g
   unfolding on_count size_of
-  at_count n b m l h d = none (eqb m 0) refl (is_mapping x) d
+  at_count n b m l h d = None (eqb m 0) refl (is_mapping x) d
     where
-      none : (c : Bool) → eqb m 0 ≡ c → (e : Bool) → cond c (outcome.Undecodable (fault.Value 1 0)) (cond e outcome.Count outcome.CountRefused) ≡ outcome.Undecodable g → Undecoded f w g
-      none true c e d =
+      None : (c : Bool) → eqb m 0 ≡ c → (e : Bool) → cond c (outcome.Undecodable (fault.Value 1 0)) (cond e outcome.Count outcome.CountRefused) ≡ outcome.Undecodable g → Undecoded f w g
+      None true c e d =
           let z : fault.Value 1 0 ≡ g = cc in
           let empty : 0 ≡ length (part f.payload b m) = omega (arith, eqb-true m 0 c, part_length f.payload b m h.within) in
           record { start = b; len = m; type = 5; field = h.field; within = h.within; target = count n l refl; tells = subst (Tells 5 (part f.payload b m)) z (record { fixed = refl; needed-is = refl; had-is = empty; fewer = omega arith }) }
-      none false c true d = let z : ◌≡◌ {A = ℕ} 0 1 = cc in absurd (omega arith)
-      none false c false d = let z : ◌≡◌ {A = ℕ} 0 1 = cc in absurd (omega arith)
+      None false c true d = let z : ◌≡◌ {A = ℕ} 0 1 = cc in absurd (omega arith)
+      None false c false d = let z : ◌≡◌ {A = ℕ} 0 1 = cc in absurd (omega arith)
 
   at_place : (b m : ℕ) → Lies b m → (q : Place) → place_of f.objects x sub ≡ q → on_place f.slots f.payload x b m q ≡ outcome.Undecodable g → Undecoded f w g
   at_place b m h NoObject l d = let z : ◌≡◌ {A = ℕ} 0 1 = cc in absurd (omega arith)
@@ -88,19 +84,19 @@ module _ (f : Frame) (w : ℕ) (g : CodecFault) where
   unfolding on_index
   undecoded d = fielded (field_of (entry_of w)) refl (sym (outcome_form f.objects f.slots f.payload w) ∙ d)
     where
-      go : (b m : ℕ) → field_of (entry_of w) ≡ field.Whole b m → (s : Bool) → ltb (length f.payload) (b + m) ≡ s → (server client : Bool)
+      go : (b m : ℕ) → field_of (entry_of w) ≡ field_at b m → (s : Bool) → ltb (length f.payload) (b + m) ≡ s → (server client : Bool)
           → cond s outcome.Short (cond server (outcome.Server x b m) (cond client (outcome.Client x b m) (on_place f.slots f.payload x b m (place_of f.objects x sub)))) ≡ outcome.Undecodable g → Undecoded f w g
       go b m q true l server client d = let z : ◌≡◌ {A = ℕ} 0 1 = cc in absurd (omega arith)
       go b m q false l true client d = let z : ◌≡◌ {A = ℕ} 0 1 = cc in absurd (omega arith)
       go b m q false l false true d = let z : ◌≡◌ {A = ℕ} 0 1 = cc in absurd (omega arith)
       go b m q false l false false d = at_place b m (record { field = q; within = ltb-false (length f.payload) (b + m) l }) (place_of f.objects x sub) refl d
 
-      fielded : (h : Field) → field_of (entry_of w) ≡ h → on_field f.objects f.slots f.payload (entry_of w) h ≡ outcome.Undecodable g → Undecoded f w g
-      fielded field.Misaligned q d = let z : ◌≡◌ {A = ℕ} 0 1 = cc in absurd (omega arith)
-      fielded (field.Whole b m) q d = go b m q (ltb (length f.payload) (b + m)) refl (between 0x1200 0x127F x) (between 0x1280 0x12FF x) d
+      fielded : (h : Option Field) → field_of (entry_of w) ≡ h → on_field f.objects f.slots f.payload (entry_of w) h ≡ outcome.Undecodable g → Undecoded f w g
+      fielded None q d = let z : ◌≡◌ {A = ℕ} 0 1 = cc in absurd (omega arith)
+      fielded (Some v) q d = go v.start v.length q (ltb (length f.payload) (v.start + v.length)) refl (between 0x1200 0x127F x) (between 0x1280 0x12FF x) d
 
 -- ---- the event of a word
-word_tells_event : (f : Frame) (w : ℕ) (c : Cause) (o : Outcome) → decided f w ≡ o → (effect_of o).event ≡ some (PayloadShort c) → FieldFault f w c
+word_tells_event : (f : Frame) (w : ℕ) (c : Cause) (o : Outcome) → decided f w ≡ o → (effect_of o).event ≡ Some (PayloadShort c) → FieldFault f w c
 word_tells_event f w c outcome.Misaligned d e = let z : ◌≡◌ {A = ℕ} 0 1 = cc in absurd (omega arith)
 word_tells_event f w c outcome.Short d e = let z : cause.Frame ≡ c = cc in subst (FieldFault f w) z d
 word_tells_event f w c (outcome.Server x start n) d e = let z : ◌≡◌ {A = ℕ} 0 1 = cc in absurd (omega arith)
@@ -119,10 +115,10 @@ word_tells_event f w c (outcome.Stored p start n) d e = let z : ◌≡◌ {A = �
 
 module _ (f : Frame) (all : List ℕ) where
   one_tells : (j w : ℕ) → get_or all j 0 ≡ w → (v : Option Event) → (effect_of (decided f w)).event ≡ v → AllTell f all (recorded f.number (j + 1) v)
-  one_tells j w q none e = tt
-  one_tells j w q (some v) e =
+  one_tells j w q None e = tt
+  one_tells j w q (Some v) e =
       let z : j + 1 - 1 ≡ j = omega arith in
-      ((λ c h. subst (λ (k : ℕ). FieldFault f k c) (sym (ap (λ k. get_or all k 0) z ∙ q)) (word_tells_event f w c (decided f w) refl (e ∙ ap some h))), tt)
+      ((λ c h. subst (λ (k : ℕ). FieldFault f k c) (sym (ap (λ k. get_or all k 0) z ∙ q)) (word_tells_event f w c (decided f w) refl (e ∙ ap Some h))), tt)
 
   tell_append : (rs ss : List EventRecord) → AllTell f all rs → AllTell f all ss → AllTell f all (rs ++ ss)
   tell_append [] ss a b = b
@@ -163,7 +159,7 @@ module _ (f : Frame) (all : List ℕ) where
       go false y a b = a
 
 -- ---- the theorem: of a payload, whose channel's list is in row r
-pub received_tells : (f : Frame) (c : Contents) (version : ℕ) (ready : Bool) (i r : ℕ) → first_match (held f c) f.sender ≡ At i → find_row f.objects (0x1600 + i) ≡ At r
+pub received_tells : (f : Frame) (c : Contents) (version : ℕ) (ready : Bool) (i r : ℕ) → first_match (held f c) f.sender ≡ Some i → find_row f.objects (0x1600 + i) ≡ Some r
     → AllTell f (list_in f.objects c.words r) (received_by f c version ready).events
 unfolding consumed_by
 received_tells f c version false i r m q = tt

@@ -7,8 +7,7 @@ use Rattle.event.specs.declared.Cause.{Cause}
 use Rattle.event.specs.declared.Cause.TheVariants as cause
 use Rattle.event.specs.declared.Event.TheVariants.{PayloadShort}
 use Rattle.event.specs.declared.EventRecord.{EventRecord}
-use Rattle.mapping.specs.Word.{entry_of, field_of}
-use Rattle.mapping.specs.declared.Field.TheVariants.{Whole}
+use Rattle.mapping.specs.Word.{entry_of, field_of, field_at}
 use Rattle.entry.specs.Table.{type_at}
 use Rattle.entry.specs.Find.{place_of}
 use Rattle.entry.specs.declared.Place.TheVariants.{Count, Value}
@@ -26,7 +25,7 @@ pub record Undecoded (f : Frame) (w : ℕ) (g : CodecFault) : Type 0 where
   pub start : ℕ
   pub len : ℕ
   pub type : ℕ
-  pub field : field_of (entry_of w) ≡ Whole start len
+  pub field : field_of (entry_of w) ≡ field_at start len
   pub within : start + len ≤ length f.payload
   pub target : TargetType f.objects f.slots (entry_of w).index (entry_of w).sub_index type
   pub tells : Tells type (part f.payload start len) g

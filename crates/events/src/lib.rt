@@ -4,13 +4,13 @@
 mod receiving;
 mod records;
 
+use answers::Refusal;
 use event::EventRecord;
-use pdo_handler::Consumed;
 pub use receiving::{consume_by_value, consume_pdo_payload};
 
 // An answer, and the event list after it.
 #[derive(Clone, Copy)]
 pub struct Heard {
-    pub answer: Consumed,
+    pub answer: Result<usize, Refusal>,
     pub events: [EventRecord; 254],
 }

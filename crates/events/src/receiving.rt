@@ -6,16 +6,16 @@ ghost use Rattle.events.specs.Receive.{event_count, received, received_of};
 
 use crate::Heard;
 use crate::records::fill;
+use answers::Refusal;
 use event::EventRecord;
-use pdo_handler::Consumed;
 
 // How many events there are.
-fn count(answer: Consumed) -> usize
+fn count(answer: Result<usize, Refusal>) -> usize
     ensures { result ≡ event_count answer }
 {
     match answer {
-        Consumed::Done(n) => n,
-        Consumed::Refused(_) => 0,
+        Ok(n) => n,
+        Err(_) => 0,
     }
 }
 
@@ -30,7 +30,7 @@ pub fn consume_pdo_payload(
     version: u8,
     ready: bool,
     events: &mut [EventRecord],
-) -> Consumed
+) -> Result<usize, Refusal>
     ensures { received result (contents words.new bytes.new) events.new ≡ received_of (dict objects.now slots.now words.old bytes.old) payload.now sender version ready events.old }
 {
     let mut log = [0u64; 254];

@@ -1,4 +1,5 @@
 -- Rows that rise, looked at near their place; and the scan over the channels. Assumes nothing.
+use Rattle.std.specs.Prelude.{Some, None}
 use mathlib.Core.Path.{◌≡◌}
 use mathlib.Core.Bool.{Bool, true, false, cond}
 use mathlib.Core.List.{List}
@@ -8,7 +9,6 @@ use native.Mathlib.Decide.{dec_lt}
 use lib.ListN.{length}
 use Rattle.entry.specs.Table.{Dict, number_of, index_at}
 use Rattle.entry.specs.Find.{Rows, find_row}
-use Rattle.entry.specs.declared.Found.TheVariants.{At, Nothing}
 use Rattle.entry.proofs.FindLaws.{find_at, find_none, found_row}
 use Rattle.pdo_channel.specs.Channel.{u8_at, matches_in, comm_index, channel_from}
 
@@ -22,10 +22,10 @@ lies objects s i h = record { small = omega (arith, s.few); inside = omega (arit
 
 -- ---- a row that has the index, or none
 module _ (objects : List ℕ) (s : Rows objects) (x r : ℕ) where
-  pub row_is : r < number_of objects → index_at objects r ≡ x → find_row objects x ≡ At r
+  pub row_is : r < number_of objects → index_at objects r ≡ x → find_row objects x ≡ Some r
   row_is h e = find_at objects x r (number_of objects) 0 (omega arith) (omega arith) e (λ j l q. absurd (omega (arith, s.rises j r l h, e, q)))
 
-  pub no_row : r ≤ number_of objects → (0 < r → index_at objects (r - 1) < x) → (r < number_of objects → x < index_at objects r) → find_row objects x ≡ Nothing
+  pub no_row : r ≤ number_of objects → (0 < r → index_at objects (r - 1) < x) → (r < number_of objects → x < index_at objects r) → find_row objects x ≡ None
   no_row h a b = find_none objects x (number_of objects) 0 (λ j l k q. absurd (other j (omega (arith, k)) q (dec_lt j r)))
     where
       same_or : (i j : ℕ) → i ≤ j → j < number_of objects → index_at objects i ≤ index_at objects j
@@ -39,12 +39,12 @@ module _ (objects : List ℕ) (s : Rows objects) (x r : ℕ) where
       other j k q (yes l) = absurd (omega (arith, q, a (omega (arith, l)), same_or j (r - 1) (omega (arith, l)) (omega (arith, h, l))))
       other j k q (no l) = absurd (omega (arith, q, b (omega (arith, l, k)), same_or r j (omega (arith, l)) k))
 
-pub row_below : (objects : List ℕ) (x i : ℕ) → find_row objects x ≡ At i → i < number_of objects
+pub row_below : (objects : List ℕ) (x i : ℕ) → find_row objects x ≡ Some i → i < number_of objects
 row_below objects x i q = omega (arith, (found_row objects x (number_of objects) 0 i q).below)
 
 -- ---- the scan, one channel at a time
 module _ (d : Dict) (sender : ℕ) where
-  pub channel_here : (n i : ℕ) → i < n → matches_in sender (u8_at d (comm_index i) 1) ≡ true → channel_from d sender (n - i) i ≡ At i
+  pub channel_here : (n i : ℕ) → i < n → matches_in sender (u8_at d (comm_index i) 1) ≡ true → channel_from d sender (n - i) i ≡ Some i
   unfolding channel_from
   channel_here n i h e = let q : n - i ≡ suc (n - (i + 1)) = omega arith in rw (q, e)
 
@@ -55,15 +55,15 @@ module _ (d : Dict) (sender : ℕ) where
       let p : i + 1 ≡ suc i = omega arith in
       rw (q, e, p)
 
-  pub channel_end : (n i : ℕ) → n ≤ i → channel_from d sender (n - i) i ≡ Nothing
+  pub channel_end : (n i : ℕ) → n ≤ i → channel_from d sender (n - i) i ≡ None
   unfolding channel_from
   channel_end n i h = let q : n - i ≡ 0 = omega arith in rw q
 
-  pub channel_below : (n i j : ℕ) → channel_from d sender n i ≡ At j → j < i + n
+  pub channel_below : (n i j : ℕ) → channel_from d sender n i ≡ Some j → j < i + n
   unfolding channel_from
   channel_below zero i j e = let z : ◌≡◌ {A = ℕ} 0 1 = cc in absurd (omega arith)
   channel_below (suc n) i j e = go (matches_in sender (u8_at d (comm_index i) 1)) e (channel_below n (suc i) j)
     where
-      go : (b : Bool) → cond b (At i) (channel_from d sender n (suc i)) ≡ At j → (channel_from d sender n (suc i) ≡ At j → j < suc i + n) → j < i + suc n
+      go : (b : Bool) → cond b (Some i) (channel_from d sender n (suc i)) ≡ Some j → (channel_from d sender n (suc i) ≡ Some j → j < suc i + n) → j < i + suc n
       go true q ih = let z : i ≡ j = cc in omega arith
       go false q ih = omega (arith, ih q)

@@ -1,4 +1,5 @@
 -- A cycle keeps the dictionary well-formed, and each payload's turn is a call of its own. Assumes nothing.
+use Rattle.std.specs.Prelude.{Err}
 use mathlib.Core.Path.{◌≡◌}
 use mathlib.Core.Bool.{Bool, true, false, cond, ◌&&◌}
 use mathlib.Core.List.{List, []}
@@ -14,7 +15,6 @@ use Rattle.entry.specs.Put.{Contents, contents, filled}
 use Rattle.pdo_run.specs.Run.{frame, Ran, finished}
 use Rattle.pdo_handler.specs.Consume.{received_by, consume_done, consume_of}
 use Rattle.pdo_handler.proofs.EventLaws.{relabelled, received-numbered}
-use Rattle.pdo_cycle.specs.declared.Cycle.TheVariants.{Refused}
 use Rattle.pdo_cycle.specs.Payloads.{sender_of, version_of, ready_of, payload_of, payloads_in, are_shaped, are_placed, are_short}
 use Rattle.pdo_cycle.specs.Cycle.{Delivery, delivery, received_at, cycled, further, cycle_from, ended, after_cycle, cycle_done, cycle_of}
 use Rattle.pdo_cycle.proofs.CycleLaws.{turn_sane}
@@ -64,7 +64,7 @@ cycle_keeps d delivered ps log e b bd = rw e (go (are_shaped ps && are_placed (l
     c : Contents
     c = contents d.words d.bytes
 
-    go : (x y : Bool) → well_formed (filled d (cond x (cond y (cycle_done (ended (cycle_from v (payloads_in ps) 0 c (length log)) log 0 0)) (after_cycle (Refused PayloadTooLong) c log)) (after_cycle (Refused BadValue) c log)).contents) ≡ true
+    go : (x y : Bool) → well_formed (filled d (cond x (cond y (cycle_done (ended (cycle_from v (payloads_in ps) 0 c (length log)) log 0 0)) (after_cycle (Err PayloadTooLong) c log)) (after_cycle (Err BadValue) c log)).contents) ≡ true
     go true true = (cycle_sane v bd (payloads_in ps) 0 c (length log) (record { well = e; bytes = b })).well
     go true false = e
     go false y = e

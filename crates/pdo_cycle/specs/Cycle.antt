@@ -1,5 +1,7 @@
 -- Consuming the payloads of a cycle: RULES.md R11.12 and R11.13. Assumes nothing.
-use Rattle.std.specs.Prelude.{ℕ, zero, suc, ◌+◌, ◌-◌, cond, ◌&&◌, List, [], ◌++◌, map, ltb, length}
+use Rattle.pdo_cycle.specs.declared.Cycle.{Cycle}
+use Rattle.answers.specs.declared.Refusal.{Refusal}
+use Rattle.std.specs.Prelude.{ℕ, zero, suc, ◌+◌, ◌-◌, cond, ◌&&◌, List, [], ◌++◌, map, ltb, length, Result, Err, Ok}
 use Rattle.lists.specs.Lists.{over}
 use Rattle.answers.specs.declared.Refusal.TheVariants.{Malformed, BadValue, PayloadTooLong}
 use Rattle.event.specs.declared.EventRecord.{EventRecord}
@@ -9,8 +11,6 @@ use Rattle.entry.specs.Judge.{well_formed}
 use Rattle.entry.specs.Put.{Contents, contents}
 use Rattle.pdo_run.specs.Run.{frame, Ran}
 use Rattle.pdo_handler.specs.Consume.{received_by}
-use Rattle.pdo_cycle.specs.declared.Cycle.{Cycle}
-use Rattle.pdo_cycle.specs.declared.Cycle.TheVariants.{Done, Refused}
 use Rattle.pdo_cycle.specs.Payloads.{sender_of, version_of, ready_of, payload_of, payloads_in, are_shaped, are_placed, are_short}
 
 -- what the payloads are held against: the dictionary's shape, the delivered bytes, and the payloads' numbers
@@ -64,15 +64,19 @@ ended x l n i = state_of x.contents (over l n (map event_number x.events)) (n + 
 
 -- an answer, and what was lent after it
 pub record AfterCycle : Type 0 where
-  pub answer : Cycle
+  pub answer : Result Cycle Refusal
   pub contents : Contents
   pub log : List ℕ
 
-abbrev pub after_cycle : Cycle → Contents → List ℕ → AfterCycle
+-- so many payloads were consumed, and told so many events
+abbrev pub tallied : ℕ → ℕ → Result Cycle Refusal
+tallied consumed events = Ok (record { consumed = consumed; events = events })
+
+abbrev pub after_cycle : Result Cycle Refusal → Contents → List ℕ → AfterCycle
 after_cycle a c l = record { answer = a; contents = c; log = l }
 
 abbrev pub cycle_done : Ended → AfterCycle
-cycle_done e = after_cycle (Done e.consumed e.count) e.contents e.log
+cycle_done e = after_cycle (tallied e.consumed e.count) e.contents e.log
 
 -- R11.12: "Malformed (1); .. BadValue (2); .. PayloadTooLong (14). All are judged before the first is consumed."
 unfoldable pub cycle_of : Dict → List ℕ → List ℕ → List ℕ → AfterCycle
@@ -82,6 +86,6 @@ cycle_of d delivered ps log =
     (cond (are_shaped ps && are_placed (length delivered) ps)
     (cond (are_short ps)
     (cycle_done (ended (cycle_from (delivery d.objects d.slots delivered ps) (payloads_in ps) 0 c (length log)) log 0 0))
-    (after_cycle (Refused PayloadTooLong) c log))
-    (after_cycle (Refused BadValue) c log))
-    (after_cycle (Refused Malformed) c log)
+    (after_cycle (Err PayloadTooLong) c log))
+    (after_cycle (Err BadValue) c log))
+    (after_cycle (Err Malformed) c log)

@@ -53,24 +53,26 @@ fn receive_all(
     delivered: &[u8],
     payloads: &[u64],
     log: &mut [u64],
-) -> Cycle
+) -> Result<Cycle, Refusal>
     requires bytes_value { well_formed (dict objects.now slots.now words.old bytes.old) ≡ true }
     requires payloads_value { (are_shaped payloads.now ≡ true) × (are_placed (length delivered.now) payloads.now ≡ true) × (are_short payloads.now ≡ true) }
     ensures { after_cycle result (contents words.new bytes.new) log.new ≡ cycle_done (ended (cycle_from (delivery objects.now slots.now delivered.now payloads.now) (payloads_in payloads.now) 0 (contents words.old bytes.old) (length log.old)) log.old 0 0) }
 {
+    let count = payloads.len() / 5;
     let mut n = 0;
-    let mut i = 0;
-    while i < payloads.len() / 5 {
+    for i in 0..count {
         if log.len() - n < 254 {
-            break;
+            return Ok(Cycle {
+                consumed: i,
+                events: n,
+            });
         }
         n = receive_at(objects, slots, words, bytes, delivered, payloads, i, log, n);
-        i += 1;
     }
-    Cycle::Done {
-        consumed: i,
+    Ok(Cycle {
+        consumed: count,
         events: n,
-    }
+    })
 }
 
 // Consumes the payloads of a cycle into a dictionary that was judged.
@@ -82,16 +84,16 @@ pub fn consume_cycle_judged(
     delivered: &[u8],
     payloads: &[u64],
     log: &mut [u64],
-) -> Cycle
+) -> Result<Cycle, Refusal>
     requires { well_formed (dict objects.now slots.now words.old bytes.old) ≡ true }
     ensures { after_cycle result (contents words.new bytes.new) log.new ≡ cycle_of (dict objects.now slots.now words.old bytes.old) delivered.now payloads.now log.old }
 {
     let judged = judge(delivered.len() as u64, payloads);
     if !(shaped(payloads) & judged.placed) {
-        return Cycle::Refused(Refusal::BadValue);
+        return Err(Refusal::BadValue);
     }
     if !judged.short {
-        return Cycle::Refused(Refusal::PayloadTooLong);
+        return Err(Refusal::PayloadTooLong);
     }
     receive_all(objects, slots, words, bytes, delivered, payloads, log)
 }
@@ -105,11 +107,11 @@ pub fn consume_cycle(
     delivered: &[u8],
     payloads: &[u64],
     log: &mut [u64],
-) -> Cycle
+) -> Result<Cycle, Refusal>
     ensures { after_cycle result (contents words.new bytes.new) log.new ≡ cycle_of (dict objects.now slots.now words.old bytes.old) delivered.now payloads.now log.old }
 {
     if !judge::well_formed(objects, slots, words, bytes) {
-        return Cycle::Refused(Refusal::Malformed);
+        return Err(Refusal::Malformed);
     }
     consume_cycle_judged(objects, slots, words, bytes, delivered, payloads, log)
 }

@@ -4,12 +4,11 @@
 mod cycling;
 mod payloads;
 
-use answers::Refusal;
 pub use cycling::{consume_cycle, consume_cycle_judged};
 
-// How many payloads were consumed and how many events there are, or why nothing was consumed.
+// How many payloads were consumed, and how many events there are.
 #[derive(Clone, Copy)]
-pub enum Cycle {
-    Done { consumed: usize, events: usize },
-    Refused(Refusal),
+pub struct Cycle {
+    pub consumed: usize,
+    pub events: usize,
 }

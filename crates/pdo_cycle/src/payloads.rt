@@ -41,14 +41,11 @@ pub struct Judged {
 pub fn judge(size: u64, payloads: &[u64]) -> Judged
     ensures { (result.placed ≡ are_placed size payloads.now) × (result.short ≡ are_short payloads.now) }
 {
-    let n = payloads.len() / 5;
     let mut all_placed = true;
     let mut all_short = true;
-    let mut i = 0;
-    while i < n {
+    for i in 0..payloads.len() / 5 {
         all_placed = placed(size, payloads, i) & all_placed;
         all_short = short(payloads, i) & all_short;
-        i += 1;
     }
     Judged {
         placed: all_placed,

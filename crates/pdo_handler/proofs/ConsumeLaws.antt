@@ -1,4 +1,5 @@
 -- Consuming keeps the dictionary well-formed, whatever the payload and whatever is answered. Assumes nothing.
+use Rattle.std.specs.Prelude.{Option, Some, None, Err}
 use mathlib.Core.Path.{◌≡◌}
 use mathlib.Core.Bool.{Bool, true, false, cond}
 use mathlib.Core.List.{List, [], ◌∷◌}
@@ -11,13 +12,10 @@ use Rattle.entry.specs.Table.{Dict, edition_of, kind_at, first_at, type_at}
 use Rattle.entry.specs.Find.{find_row}
 use Rattle.entry.specs.Judge.{well_formed}
 use Rattle.entry.specs.Put.{Contents, contents, filled}
-use Rattle.entry.specs.declared.Found.{Found}
-use Rattle.entry.specs.declared.Found.TheVariants.{At, Nothing}
 use Rattle.pdo_step.specs.Effects.{effect_of, sets_bit}
 use Rattle.pdo_step.specs.Steps.{applied}
 use Rattle.pdo_step.proofs.OutcomeLaws.{step_keeps, step_bytes}
 use Rattle.pdo_step.proofs.MarkLaws.{mark_keeps, mark_bytes}
-use Rattle.pdo_handler.specs.declared.Consumed.TheVariants.{Refused}
 use Rattle.pdo_channel.specs.Channel.{first_match, expected_of, right_version}
 use Rattle.pdo_run.specs.Run.{Frame, frame, held, marked, decided, recorded, act_of, ran, behind, run_from, list_in, run_on, finished}
 use Rattle.pdo_handler.specs.Consume.{map_version, on_channel, consumed_by, received_by, after_consume, consume_done, consume_of}
@@ -50,9 +48,9 @@ module _ (f : Frame) (b : Bytes f.payload) where
       go true false u v = v
       go false y u v = u
 
-  list_sane : (c : Contents) → Sane f c → (g : Found) → Sane f (run_on f c g).contents
-  list_sane c s Nothing = s
-  list_sane c s (At r) = go (eqb (kind_at f.objects r) 0)
+  list_sane : (c : Contents) → Sane f c → (g : Option ℕ) → Sane f (run_on f c g).contents
+  list_sane c s None = s
+  list_sane c s (Some r) = go (eqb (kind_at f.objects r) 0)
     where
       go : (x : Bool) → Sane f (cond x (ran c []) (run_from f (first_at f.objects r) (list_in f.objects c.words r) 0 c)).contents
       go true = s
@@ -66,9 +64,9 @@ module _ (f : Frame) (b : Bytes f.payload) where
       go i true = list_sane c s (find_row f.objects (0x1600 + i))
       go i false = marked_sane f c 0x1C80 s
 
-      channel : (g : Found) → Sane f (on_channel f c version g).contents
-      channel Nothing = s
-      channel (At i) = go i (right_version (expected_of (held f c) i) version)
+      channel : (g : Option ℕ) → Sane f (on_channel f c version g).contents
+      channel None = s
+      channel (Some i) = go i (right_version (expected_of (held f c) i) version)
 
   pub received_sane : (c : Contents) (version : ℕ) (ready : Bool) → Sane f c → Sane f (received_by f c version ready).contents
   received_sane c version true s = consumed_sane c version s
@@ -85,7 +83,7 @@ consume_keeps d payload sender version ready room log e b bp = rw e (go (ltb roo
     c : Contents
     c = contents d.words d.bytes
 
-    go : (x y : Bool) → well_formed (filled d (cond x (after_consume (Refused NoEventRoom) c log) (cond y (after_consume (Refused PayloadTooLong) c log) (consume_done (finished (received_by f c version ready) log 0)))).contents) ≡ true
+    go : (x y : Bool) → well_formed (filled d (cond x (after_consume (Err NoEventRoom) c log) (cond y (after_consume (Err PayloadTooLong) c log) (consume_done (finished (received_by f c version ready) log 0)))).contents) ≡ true
     go true y = e
     go false true = e
     go false false = (received_sane f bp c version ready (record { well = e; bytes = b })).well

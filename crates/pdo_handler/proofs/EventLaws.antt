@@ -1,8 +1,8 @@
 -- How many events a payload has, and where its number is. Assumes nothing.
+use Rattle.std.specs.Prelude.{Option, Some, None}
 use mathlib.Core.Path.{◌≡◌, refl, sym, ap, ap₂, ◌∙◌}
 use mathlib.Core.Bool.{Bool, true, false, cond}
 use mathlib.Core.List.{List, [], ◌∷◌, ◌++◌, map}
-use mathlib.Core.Option.{Option, none, some}
 use Prim.Native.Nat.{ℕ, suc, ◌+◌, ◌≤◌}
 use native.Mathlib.Omega.{arith}
 use lib.Dec.{eqb}
@@ -14,8 +14,6 @@ use Rattle.entry.specs.Table.{kind_at, list_count, first_at, type_at}
 use Rattle.entry.specs.Find.{find_row}
 use Rattle.entry.specs.Judge.{well_formed}
 use Rattle.entry.specs.Put.{Contents}
-use Rattle.entry.specs.declared.Found.{Found}
-use Rattle.entry.specs.declared.Found.TheVariants.{At, Nothing}
 use Rattle.entry.proofs.ValueLaws.{found_lies, list_count_le}
 use Rattle.pdo_step.specs.declared.Outcome.{Outcome}
 use Rattle.pdo_step.specs.Effects.{effect_of}
@@ -24,8 +22,8 @@ use Rattle.pdo_run.specs.Run.{Frame, frame, held, marked, decided, recorded, act
 use Rattle.pdo_handler.specs.Consume.{map_version, on_channel, consumed_by, received_by}
 
 recorded_few : (i k : ℕ) (v : Option Event) → length (recorded i k v) ≤ 1
-recorded_few i k none = omega arith
-recorded_few i k (some v) = omega arith
+recorded_few i k None = omega arith
+recorded_few i k (Some v) = omega arith
 
 run_few : (f : Frame) (p : ℕ) (ws : List ℕ) (j : ℕ) (c : Contents) → length (run_from f p ws j c).events ≤ length ws
 unfolding run_from
@@ -50,9 +48,9 @@ unfolding consumed_by
 received_few f c w version false = omega arith
 received_few f c w version true = channel (first_match (held f c) f.sender)
   where
-    row : (x : ℕ) (g : Found) → find_row f.objects x ≡ g → length (run_on f c g).events ≤ 254
-    row x Nothing q = omega arith
-    row x (At r) q = kind (eqb (kind_at f.objects r) 0)
+    row : (x : ℕ) (g : Option ℕ) → find_row f.objects x ≡ g → length (run_on f c g).events ≤ 254
+    row x None q = omega arith
+    row x (Some r) q = kind (eqb (kind_at f.objects r) 0)
       where
         list : List ℕ
         list = list_in f.objects c.words r
@@ -68,9 +66,9 @@ received_few f c w version true = channel (first_match (held f c) f.sender)
     version_of_lem i true = row (0x1600 + i) (find_row f.objects (0x1600 + i)) refl
     version_of_lem i false = omega arith
 
-    channel : (g : Found) → length (on_channel f c version g).events ≤ 254
-    channel Nothing = omega arith
-    channel (At i) = version_of_lem i (right_version (expected_of (held f c) i) version)
+    channel : (g : Option ℕ) → length (on_channel f c version g).events ≤ 254
+    channel None = omega arith
+    channel (Some i) = version_of_lem i (right_version (expected_of (held f c) i) version)
 
 -- ---- R11.13: "as by a call of its own", and the events "carry their payload's number"
 abbrev pub numbered : ℕ → EventRecord → EventRecord
@@ -85,8 +83,8 @@ map-append {A} {B} f (x ∷ xs) ys = ap (λ (zs : List B). f x ∷ zs) (map-appe
 
 -- an event of a payload
 one_numbered : (i k : ℕ) (v : Option Event) → recorded i k v ≡ map (numbered i) (recorded 0 k v)
-one_numbered i k none = refl
-one_numbered i k (some v) = refl
+one_numbered i k None = refl
+one_numbered i k (Some v) = refl
 
 module _ (objects slots payload : List ℕ) (sender i : ℕ) where
   abbrev f : ℕ → Frame
@@ -118,9 +116,9 @@ module _ (objects slots payload : List ℕ) (sender i : ℕ) where
   received-numbered c version false = refl
   received-numbered c version true = channel (first_match (held (f 0) c) sender)
     where
-      row : (g : Found) → run_on (f i) c g ≡ relabelled i (run_on (f 0) c g)
-      row Nothing = refl
-      row (At r) = kind (eqb (kind_at objects r) 0)
+      row : (g : Option ℕ) → run_on (f i) c g ≡ relabelled i (run_on (f 0) c g)
+      row None = refl
+      row (Some r) = kind (eqb (kind_at objects r) 0)
         where
           kind : (b : Bool) → cond b (ran c []) (run_from (f i) (first_at objects r) (list_in objects c.words r) 0 c) ≡ relabelled i (cond b (ran c []) (run_from (f 0) (first_at objects r) (list_in objects c.words r) 0 c))
           kind true = refl
@@ -130,6 +128,6 @@ module _ (objects slots payload : List ℕ) (sender i : ℕ) where
       version_of_lem k true = row (find_row objects (0x1600 + k))
       version_of_lem k false = refl
 
-      channel : (g : Found) → on_channel (f i) c version g ≡ relabelled i (on_channel (f 0) c version g)
-      channel Nothing = refl
-      channel (At k) = version_of_lem k (right_version (expected_of (held (f 0) c) k) version)
+      channel : (g : Option ℕ) → on_channel (f i) c version g ≡ relabelled i (on_channel (f 0) c version g)
+      channel None = refl
+      channel (Some k) = version_of_lem k (right_version (expected_of (held (f 0) c) k) version)

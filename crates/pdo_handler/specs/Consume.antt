@@ -1,5 +1,6 @@
 -- Consuming a payload: RULES.md 11. Assumes nothing.
-use Rattle.std.specs.Prelude.{ℕ, ◌+◌, Bool, cond, List, [], ◌∷◌, ltb, length}
+use Rattle.answers.specs.declared.Refusal.{Refusal}
+use Rattle.std.specs.Prelude.{ℕ, ◌+◌, Bool, cond, List, [], ◌∷◌, ltb, length, Option, Some, None, Result, Ok, Err}
 use Rattle.answers.specs.declared.Refusal.TheVariants.{Malformed, NoEventRoom, PayloadTooLong}
 use Rattle.event.specs.declared.Event.TheVariants.{MapVersion}
 use Rattle.event.specs.declared.EventRecord.{EventRecord}
@@ -8,10 +9,6 @@ use Rattle.entry.specs.Table.{Dict}
 use Rattle.entry.specs.Find.{find_row}
 use Rattle.entry.specs.Judge.{well_formed}
 use Rattle.entry.specs.Put.{Contents, contents}
-use Rattle.entry.specs.declared.Found.{Found}
-use Rattle.entry.specs.declared.Found.TheVariants.{At, Nothing}
-use Rattle.pdo_handler.specs.declared.Consumed.{Consumed}
-use Rattle.pdo_handler.specs.declared.Consumed.TheVariants.{Done, Refused}
 use Rattle.pdo_channel.specs.Channel.{first_match, expected_of, right_version}
 use Rattle.pdo_run.specs.Run.{Frame, frame, held, marked, Ran, ran, run_on, Logged, finished}
 
@@ -20,9 +17,9 @@ abbrev pub map_version : ℕ → EventRecord
 map_version i = record_at i 0 MapVersion
 
 -- R11.3: "Wrong: event MapVersion, the sender's bit in 1C80h, end."
-abbrev pub on_channel : Frame → Contents → ℕ → Found → Ran
-on_channel f c version Nothing = ran c []
-on_channel f c version (At i) =
+abbrev pub on_channel : Frame → Contents → ℕ → Option ℕ → Ran
+on_channel f c version None = ran c []
+on_channel f c version (Some i) =
     cond (right_version (expected_of (held f c) i) version)
     (run_on f c (find_row f.objects (0x1600 + i)))
     (ran (marked f c 0x1C80) (map_version f.number ∷ []))
@@ -37,15 +34,15 @@ received_by f c version ready = cond ready (consumed_by f c version) (ran c [])
 
 -- an answer, and what was lent after it
 pub record AfterConsume : Type 0 where
-  pub answer : Consumed
+  pub answer : Result ℕ Refusal
   pub contents : Contents
   pub log : List ℕ
 
-abbrev pub after_consume : Consumed → Contents → List ℕ → AfterConsume
+abbrev pub after_consume : Result ℕ Refusal → Contents → List ℕ → AfterConsume
 after_consume a c l = record { answer = a; contents = c; log = l }
 
 abbrev pub consume_done : Logged → AfterConsume
-consume_done l = after_consume (Done l.count) l.contents l.log
+consume_done l = after_consume (Ok l.count) l.contents l.log
 
 -- R11.1: "Malformed (1); an event list under 254 records: NoEventRoom (15); payload over 1,490 bytes: PayloadTooLong (14)." `room` is
 -- how many records the event list has, and the events go into `log`, from its first number on.
@@ -54,8 +51,8 @@ consume_of d payload sender version ready room log =
     let c = contents d.words d.bytes in
     cond (well_formed d)
     (cond (ltb room 254)
-    (after_consume (Refused NoEventRoom) c log)
+    (after_consume (Err NoEventRoom) c log)
     (cond (ltb 1490 (length payload))
-    (after_consume (Refused PayloadTooLong) c log)
+    (after_consume (Err PayloadTooLong) c log)
     (consume_done (finished (received_by (frame d.objects d.slots payload sender 0) c version ready) log 0))))
-    (after_consume (Refused Malformed) c log)
+    (after_consume (Err Malformed) c log)

@@ -1,16 +1,14 @@
 // Consuming a payload: its channel, its version, its words.
-ghost use Rattle.std.specs.Prelude.{◌≡◌, true, ℕ, ◌+◌, ◌<◌, ◌≤◌, length};
+ghost use Rattle.std.specs.Prelude.{◌≡◌, true, ℕ, ◌+◌, ◌<◌, ◌≤◌, length, Some};
 ghost use Rattle.entry.specs.Table.{dict};
 ghost use Rattle.entry.specs.Judge.{well_formed};
 ghost use Rattle.entry.specs.Put.{contents};
-ghost use Rattle.entry.specs.declared.Found.TheVariants.{At};
 ghost use Rattle.pdo_run.specs.Run.{frame, logged, finished};
 ghost use Rattle.pdo_handler.specs.Consume.{on_channel, consumed_by, received_by, after_consume, consume_of};
 
-use crate::Consumed;
 use answers::Refusal;
-use entry::Found;
 use event::packed;
+use judge::Dictionary;
 use pdo_channel::{first_match, right_version, version_of};
 use pdo_run::{note, run_list};
 
@@ -25,19 +23,25 @@ pub fn consume_on_channel(
     sender: u8,
     version: u8,
     number: u64,
-    channel: Found,
+    channel: Option<usize>,
     log: &mut [u64],
     begun: usize,
 ) -> usize
     requires bytes_value { well_formed (dict objects.now slots.now words.old bytes.old) ≡ true }
     requires payload_len_bound { (length payload.now ≤ 1490) × (number < 1024) × (begun + 254 ≤ length log.old) }
-    requires by_index { (i : ℕ) → channel ≡ At i → i < 256 }
+    requires by_index { (i : ℕ) → channel ≡ Some i → i < 256 }
     ensures { logged (contents words.new bytes.new) log.new result ≡ finished (on_channel (frame objects.now slots.now payload.now sender number) (contents words.old bytes.old) version channel) log.old begun }
 {
-    let Found::At(i) = channel else {
+    let Some(i) = channel else {
         return begun;
     };
-    let expected = version_of(objects, slots, words, bytes, i);
+    let d = Dictionary {
+        objects,
+        slots,
+        words: &*words,
+        bytes: &*bytes,
+    };
+    let expected = version_of(&d, i);
     if right_version(expected, version) {
         return run_list(
             objects,
@@ -73,7 +77,13 @@ fn consume_ready(
     requires payload_len_bound { (length payload.now ≤ 1490) × (number < 1024) × (begun + 254 ≤ length log.old) }
     ensures { logged (contents words.new bytes.new) log.new result ≡ finished (consumed_by (frame objects.now slots.now payload.now sender number) (contents words.old bytes.old) version) log.old begun }
 {
-    let channel = first_match(objects, slots, words, bytes, sender);
+    let d = Dictionary {
+        objects,
+        slots,
+        words: &*words,
+        bytes: &*bytes,
+    };
+    let channel = first_match(&d, sender);
     consume_on_channel(
         objects, slots, words, bytes, payload, sender, version, number, channel, log, begun,
     )
@@ -117,18 +127,18 @@ pub fn consume_logged_judged(
     ready: bool,
     room: usize,
     log: &mut [u64],
-) -> Consumed
+) -> Result<usize, Refusal>
     requires bytes_value { well_formed (dict objects.now slots.now words.old bytes.old) ≡ true }
     requires in_bounds { 254 ≤ room → 254 ≤ length log.old }
     ensures { after_consume result (contents words.new bytes.new) log.new ≡ consume_of (dict objects.now slots.now words.old bytes.old) payload.now sender version ready room log.old }
 {
     if room < 254 {
-        return Consumed::Refused(Refusal::NoEventRoom);
+        return Err(Refusal::NoEventRoom);
     }
     if 1490 < payload.len() {
-        return Consumed::Refused(Refusal::PayloadTooLong);
+        return Err(Refusal::PayloadTooLong);
     }
-    Consumed::Done(receive(
+    Ok(receive(
         objects, slots, words, bytes, payload, sender, version, ready, 0, log, 0,
     ))
 }
@@ -145,12 +155,12 @@ pub fn consume_logged(
     ready: bool,
     room: usize,
     log: &mut [u64],
-) -> Consumed
+) -> Result<usize, Refusal>
     requires { 254 ≤ room → 254 ≤ length log.old }
     ensures { after_consume result (contents words.new bytes.new) log.new ≡ consume_of (dict objects.now slots.now words.old bytes.old) payload.now sender version ready room log.old }
 {
     if !judge::well_formed(objects, slots, words, bytes) {
-        return Consumed::Refused(Refusal::Malformed);
+        return Err(Refusal::Malformed);
     }
     consume_logged_judged(
         objects, slots, words, bytes, payload, sender, version, ready, room, log,

@@ -4,7 +4,7 @@ ghost use Rattle.entry.specs.Table.{dict};
 ghost use Rattle.entry.specs.Judge.{well_formed};
 ghost use Rattle.pdo_handler.specs.Errors.{after_update, update_of};
 
-use answers::{Answer, Refusal};
+use answers::Refusal;
 
 // Sets the bit in a dictionary that was judged.
 pub fn update_pdo_error_object_judged(
@@ -14,12 +14,12 @@ pub fn update_pdo_error_object_judged(
     bytes: &mut [u8],
     index: u16,
     node: u8,
-) -> Answer
+) -> Result<(), Refusal>
     requires { well_formed (dict objects.now slots.now words.now bytes.old) ≡ true }
     ensures { after_update result bytes.new ≡ update_of (dict objects.now slots.now words.now bytes.old) index node }
 {
     pdo_step::set_bit(objects, slots, words, bytes, index, node);
-    Answer::Done
+    Ok(())
 }
 
 // Sets the bit of a node in the error object at an index; where that has none, nothing happens.
@@ -30,11 +30,11 @@ pub fn update_pdo_error_object(
     bytes: &mut [u8],
     index: u16,
     node: u8,
-) -> Answer
+) -> Result<(), Refusal>
     ensures { after_update result bytes.new ≡ update_of (dict objects.now slots.now words.now bytes.old) index node }
 {
     if !judge::well_formed(objects, slots, words, bytes) {
-        return Answer::Refused(Refusal::Malformed);
+        return Err(Refusal::Malformed);
     }
     update_pdo_error_object_judged(objects, slots, words, bytes, index, node)
 }

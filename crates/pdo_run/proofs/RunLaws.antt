@@ -1,16 +1,16 @@
 -- One word's turn. Assumes nothing.
+use Rattle.std.specs.Prelude.{Option, Some, None}
 use mathlib.Core.Path.{◌≡◌, refl, sym, subst}
 use mathlib.Core.Bool.{Bool, true, false, cond}
 use mathlib.Core.List.{List, [], map}
 use mathlib.Core.Logic.{◌≢◌}
-use mathlib.Core.Option.{Option, none, some}
 use Prim.Native.Nat.{ℕ, suc, ◌+◌, ◌<◌, ◌≤◌}
 use native.Mathlib.Omega.{arith}
 use native.Mathlib.Numerals.{add-one}
 use borrow.Author.Tests.{eq-eqb, ne_eqb}
 use lib.Dec.{eqb}
-use lib.ListN.{length, take, drop, get_or, set, length-drop, drop_of_length-le}
-use lib.Seq.{drop-cons, take-suc, take-suc-set, get_or-drop}
+use lib.ListN.{length, drop, get_or, set, drop_of_length-le}
+use lib.Seq.{drop-cons}
 use Rattle.lists.specs.Numbers.{Bytes}
 use Rattle.lists.proofs.ListLaws.{over_none, over_first}
 use Rattle.event.specs.declared.Event.{Event}
@@ -106,12 +106,12 @@ module _ (l : List ℕ) (n : ℕ) where
     noted v = ne_eqb (event_number (record_at i k v)) 0 (λ e. omega (arith, e, number_some (record_at i k v)))
 
     pub finished_one : (v : Option Event) (c : Contents) → finished (ran c (recorded i k v)) l n ≡ logged c (noted_log l n (code_of i k v)) (noted_count n (code_of i k v))
-    finished_one none c = finished_none c
-    finished_one (some v) c = let e = event_number (record_at i k v) in rw (noted v, over_first l n e [] h, over_none (set l n e) (suc n))
+    finished_one None c = finished_none c
+    finished_one (Some v) c = let e = event_number (record_at i k v) in rw (noted v, over_first l n e [] h, over_none (set l n e) (suc n))
 
     pub finished-behind : (v : Option Event) (r : Ran) → finished (behind (recorded i k v) r) l n ≡ finished r (noted_log l n (code_of i k v)) (noted_count n (code_of i k v))
-    finished-behind none r = refl
-    finished-behind (some v) r =
+    finished-behind None r = refl
+    finished-behind (Some v) r =
         let e = event_number (record_at i k v) in
         let z : n + suc (length r.events) ≡ n + 1 + length r.events = omega arith in
         let y : suc n ≡ n + 1 = omega arith in
@@ -123,9 +123,3 @@ noted_few n e = go (eqb e 0)
     go : (b : Bool) → cond b n (n + 1) ≤ n + 1
     go true = omega arith
     go false = omega arith
-
--- ---- gathering, one word more
-pub gathered_more : (list words : List ℕ) (first j v : ℕ) → j < length list → first + j < length words → v ≡ get_or words (first + j) 0 → take j list ≡ take j (drop first words) → take (j + 1) (set list j v) ≡ take (j + 1) (drop first words)
-gathered_more list words first j v h k e q =
-    let m : j < length (drop first words) = simp length-drop (omega arith) in
-    rw (add-one, take-suc-set list j v h, take-suc (drop first words) j 0 m, get_or-drop first words j 0, q, e)

@@ -1,13 +1,10 @@
 -- The mapped words of a channel, in turn: RULES.md 11. Assumes nothing.
-use Rattle.std.specs.Prelude.{ℕ, ◌+◌, Bool, cond, List, [], ◌∷◌, ◌++◌, map, eqb, length, take, drop, set}
-use Rattle.std.proofs.Math.Option.{Option, none, some}
+use Rattle.std.specs.Prelude.{ℕ, ◌+◌, Bool, cond, List, [], ◌∷◌, ◌++◌, map, eqb, length, take, drop, set, Option, Some, None}
 use Rattle.lists.specs.Lists.{over}
 use Rattle.event.specs.declared.Event.{Event}
 use Rattle.event.specs.declared.EventRecord.{EventRecord}
 use Rattle.event.specs.Record.{event_number, record_at}
 use Rattle.entry.specs.Table.{Dict, dict, edition_of, kind_at, list_count, first_at, type_at}
-use Rattle.entry.specs.declared.Found.{Found}
-use Rattle.entry.specs.declared.Found.TheVariants.{At, Nothing}
 use Rattle.entry.specs.Put.{Contents, contents}
 use Rattle.pdo_step.specs.declared.Outcome.{Outcome}
 use Rattle.pdo_step.specs.Outcomes.{outcome_of}
@@ -18,12 +15,12 @@ use Rattle.pdo_run.specs.declared.Turn.{Turn}
 
 -- ---- R11.9 and R11.13: the record of element k of payload i, where there is an event; and its number, 0 where there is none
 abbrev pub recorded : ℕ → ℕ → Option Event → List EventRecord
-recorded i k none = []
-recorded i k (some v) = record_at i k v ∷ []
+recorded i k None = []
+recorded i k (Some v) = record_at i k v ∷ []
 
 abbrev pub code_of : ℕ → ℕ → Option Event → ℕ
-code_of i k none = 0
-code_of i k (some v) = event_number (record_at i k v)
+code_of i k None = 0
+code_of i k (Some v) = event_number (record_at i k v)
 
 -- what an outcome leaves to do beside what it puts
 abbrev pub turn : ℕ → Bool → Bool → Turn
@@ -87,9 +84,9 @@ abbrev pub run_in : Frame → Contents → ℕ → Ran
 run_in f c r = run_from f (first_at f.objects r) (list_in f.objects c.words r) 0 c
 
 -- "Where 1600h+i is no list there are none."
-abbrev pub run_on : Frame → Contents → Found → Ran
-run_on f c Nothing = ran c []
-run_on f c (At r) = cond (eqb (kind_at f.objects r) 0) (ran c []) (run_in f c r)
+abbrev pub run_on : Frame → Contents → Option ℕ → Ran
+run_on f c None = ran c []
+run_on f c (Some r) = cond (eqb (kind_at f.objects r) 0) (ran c []) (run_in f c r)
 
 -- ---- R11.14: the log, of which the first numbers are the events'
 pub record Logged : Type 0 where

@@ -1,8 +1,7 @@
 // The gathered words of a channel, in turn.
 #![tactic(auto)]
 
-ghost use Rattle.std.specs.Prelude.{◌≡◌, true, false, ℕ, ◌+◌, ◌<◌, ◌≤◌, length, take, drop};
-ghost use Rattle.std.proofs.Math.Option.{some};
+ghost use Rattle.std.specs.Prelude.{◌≡◌, true, false, ◌+◌, ◌<◌, ◌≤◌, length, take, drop, Some};
 ghost use Rattle.entry.specs.Table.{dict, edition_of, number_of, values_of};
 ghost use Rattle.entry.specs.Find.{find_row};
 ghost use Rattle.entry.specs.Judge.{well_formed};
@@ -13,12 +12,12 @@ ghost use Rattle.pdo_step.specs.Effects.{caused_by, is_short};
 ghost use Rattle.value.specs.Fault.{first_told, second_told};
 ghost use Rattle.event.specs.declared.Event.TheVariants.{PayloadShort};
 
-use entry::Found;
 use event::packed;
 use pdo_step::Outcome;
 use value::CodecFault;
 
 // What an outcome leaves to do: its event's number, or 0; the sender's bit in 1C81h; to stop the run.
+// No Option for the number: the definitions `code_of` and `noted_count`, which `note`'s clauses cite, say no event by 0.
 #[derive(Clone, Copy)]
 pub struct Turn {
     pub event: u64,
@@ -49,7 +48,7 @@ fn ends(event: u64, bit: bool) -> Turn
 // The event of a field that does not decode.
 fn fault_event(number: u64, k: u64, f: CodecFault) -> u64
     requires { (number < 1024) × (k < 256) × (first_told f + second_told f < 8192) }
-    ensures { result ≡ code_of number k (some (PayloadShort (caused_by f))) }
+    ensures { result ≡ code_of number k (Some (PayloadShort (caused_by f))) }
 {
     match f {
         CodecFault::Value { needed, had } => packed(number, 3, k, 0, needed, had),
@@ -63,9 +62,8 @@ fn is_short(edition: u64, f: CodecFault) -> bool
     ensures { result ≡ is_short edition f }
 {
     match f {
-        CodecFault::Value { needed: _, had: _ } => edition == 2,
-        CodecFault::Text { at: _ } => false,
-        CodecFault::Odd => false,
+        CodecFault::Value { .. } => edition == 2,
+        CodecFault::Text { .. } | CodecFault::Odd => false,
     }
 }
 
@@ -75,20 +73,15 @@ fn turn_of(edition: u64, number: u64, k: u64, o: Outcome) -> Turn
     ensures { result ≡ turn_of edition number k o }
 {
     match o {
-        Outcome::Misaligned => goes_on(0),
+        Outcome::Misaligned | Outcome::NoTarget | Outcome::Count | Outcome::Stored { .. } => {
+            goes_on(0)
+        }
         Outcome::Short => ends(packed(number, 2, k, 0, 0, 0), true),
         Outcome::Server { index, start, len } => goes_on(packed(number, 6, k, index, start, len)),
         Outcome::Client { index, start, len } => goes_on(packed(number, 7, k, index, start, len)),
-        Outcome::NoTarget => goes_on(0),
-        Outcome::Count => goes_on(0),
         Outcome::CountRefused => goes_on(packed(number, 8, k, 0, 0, 0)),
         Outcome::Undecodable(f) => ends(fault_event(number, k, f), is_short(edition, f)),
         Outcome::TooLong => goes_on(packed(number, 9, k, 0, 0, 0)),
-        Outcome::Stored {
-            p: _,
-            start: _,
-            len: _,
-        } => goes_on(0),
     }
 }
 
@@ -148,10 +141,8 @@ fn run(
     ensures { logged (contents words.new bytes.new) log.new result ≡ finished (run_from (frame objects.now slots.now payload.now sender number) first list.now 0 (contents words.old bytes.old)) log.old begun }
 {
     let mut n = begun;
-    let mut j = 0;
-    while j < list.len() {
+    for (j, &word) in list.iter().enumerate() {
         if entry::type_at(slots, first + j) != 8 {
-            j += 1;
             continue;
         }
         let t = act_on(
@@ -163,43 +154,24 @@ fn run(
             sender,
             number,
             j as u64 + 1,
-            list[j],
+            word,
         );
         n = note(log, n, t.event);
         if t.stops {
             return n;
         }
-        j += 1;
     }
     n
 }
 
-// The n words from the first on.
-fn gather(words: &[u64], first: usize, n: usize) -> [u64; 254]
-    requires { (n ≤ 254) × (first + n ≤ length words.now) }
-    ensures { (length result ≡ 254) × (take n result ≡ take n (drop first words.now)) }
+// The n words from the first on, with zeros behind them.
+fn gather<const N: usize>(words: &[u64], first: usize, n: usize) -> [u64; N]
+    requires { (n ≤ N) × (first + n ≤ length words.now) }
+    ensures { (length result ≡ N) × (take n result ≡ take n (drop first words.now)) }
 {
-    let mut list = [0u64; 254];
-    let mut j = 0;
-    while j < n {
-        list[j] = words[first + j];
-        j += 1;
-    }
+    let mut list = [0u64; N];
+    list[..n].copy_from_slice(&words[first..first + n]);
     list
-}
-
-// The same of a short list: an array is made and handed back as a whole, and 2 KB of zeros cost more than such a list.
-fn gather_few(words: &[u64], first: usize, n: usize) -> [u64; 16]
-    requires { (n ≤ 16) × (first + n ≤ length words.now) }
-    ensures { (length result ≡ 16) × (take n result ≡ take n (drop first words.now)) }
-{
-    let mut few = [0u64; 16];
-    let mut j = 0;
-    while j < n {
-        few[j] = words[first + j];
-        j += 1;
-    }
-    few
 }
 
 // The words of the list in row r: all are gathered before the first is acted on.
@@ -221,8 +193,9 @@ fn run_row(
 {
     let first = entry::first_at(objects, r) as usize;
     let n = entry::list_count(objects, r) as usize;
+    // An array is made and handed back as a whole, and 2 KB of zeros cost more than a short list.
     if n <= 16 {
-        let few = gather_few(words, first, n);
+        let few = gather::<16>(words, first, n);
         return run(
             objects,
             slots,
@@ -237,7 +210,7 @@ fn run_row(
             begun,
         );
     }
-    let list = gather(words, first, n);
+    let list = gather::<254>(words, first, n);
     run(
         objects,
         slots,
@@ -270,7 +243,7 @@ pub fn run_list(
     requires payload_len_bound { (length payload.now ≤ 1490) × (number < 1024) × (begun + 254 ≤ length log.old) }
     ensures { logged (contents words.new bytes.new) log.new result ≡ finished (run_on (frame objects.now slots.now payload.now sender number) (contents words.old bytes.old) (find_row objects.now index)) log.old begun }
 {
-    let Found::At(r) = entry::find(objects, index) else {
+    let Some(r) = entry::find(objects, index) else {
         return begun;
     };
     if entry::kind_at(objects, r) == 0 {

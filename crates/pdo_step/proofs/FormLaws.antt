@@ -1,4 +1,6 @@
 -- An outcome by the word's field, its index and its place in turn, as proofs take it apart. Assumes nothing.
+use Rattle.std.specs.Prelude.{Option, Some, None}
+use Rattle.mapping.specs.declared.Field.{Field}
 use mathlib.Core.Path.{◌≡◌, refl}
 use mathlib.Core.Bool.{Bool, true, false, cond}
 use mathlib.Core.List.{List}
@@ -8,8 +10,6 @@ use lib.ListN.{length}
 use Rattle.value.specs.Codec.{word_at}
 use Rattle.mapping.specs.Word.{entry_of, field_of}
 use Rattle.mapping.specs.declared.PdoMappingEntry.{PdoMappingEntry}
-use Rattle.mapping.specs.declared.Field.{Field}
-use Rattle.mapping.specs.declared.Field.TheVariants as field
 use Rattle.entry.specs.Table.{type_at}
 use Rattle.entry.specs.Find.{place_of}
 use Rattle.entry.specs.declared.Place.{Place}
@@ -34,9 +34,9 @@ on_index objects slots payload e start n =
     (outcome.Client e.index start n)
     (on_place slots payload e.index start n (place_of objects e.index e.sub_index)))
 
-abbrev pub on_field : List ℕ → List ℕ → List ℕ → PdoMappingEntry → Field → Outcome
-on_field objects slots payload e field.Misaligned = outcome.Misaligned
-on_field objects slots payload e (field.Whole start n) = cond (ltb (length payload) (start + n)) outcome.Short (on_index objects slots payload e start n)
+abbrev pub on_field : List ℕ → List ℕ → List ℕ → PdoMappingEntry → Option Field → Outcome
+on_field objects slots payload e None = outcome.Misaligned
+on_field objects slots payload e (Some v) = cond (ltb (length payload) (v.start + v.length)) outcome.Short (on_index objects slots payload e v.start v.length)
 
 pub outcome_form : (objects slots payload : List ℕ) (w : ℕ) → outcome_of objects slots payload w ≡ on_field objects slots payload (entry_of w) (field_of (entry_of w))
 unfolding outcome_of class_of on_index
@@ -61,6 +61,6 @@ outcome_form objects slots payload w = fielded (field_of (entry_of w))
     ranged start n false true = refl
     ranged start n false false = placed start n (place_of objects x sub)
 
-    fielded : (f : Field) → inside payload f (on_class slots payload x (class_in x (place_of objects x sub) f)) ≡ on_field objects slots payload (entry_of w) f
-    fielded field.Misaligned = refl
-    fielded (field.Whole start n) = rw (ranged start n (between 0x1200 0x127F x) (between 0x1280 0x12FF x))
+    fielded : (f : Option Field) → inside payload f (on_class slots payload x (class_in x (place_of objects x sub) f)) ≡ on_field objects slots payload (entry_of w) f
+    fielded None = refl
+    fielded (Some v) = rw (ranged v.start v.length (between 0x1200 0x127F x) (between 0x1280 0x12FF x))

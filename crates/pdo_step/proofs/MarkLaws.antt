@@ -1,4 +1,5 @@
 -- Setting an error bit keeps the dictionary well-formed: it is a put of the same string with that bit. Assumes nothing.
+use Rattle.std.specs.Prelude.{Option, Some, None, Ok}
 use mathlib.Core.Path.{◌≡◌, refl, ap, ◌∙◌}
 use mathlib.Core.Bool.{Bool, true, false, cond, ◌&&◌, ◌||◌}
 use mathlib.Core.List.{List}
@@ -14,13 +15,10 @@ use Rattle.lists.specs.Numbers.{Bytes}
 use Rattle.lists.proofs.NumberLaws.{bytes_take, bytes_drop, bytes_set}
 use Rattle.lists.proofs.SpliceLaws.{set-part}
 use Rattle.value.specs.Codec.{is_text, word_at, text_word}
-use Rattle.value.specs.declared.Word.TheVariants.{Takes}
 use Rattle.entry.specs.Table.{Dict, count_at, kind_at, first_at, type_at, start_at}
 use Rattle.entry.specs.Find.{find_row}
 use Rattle.entry.specs.Judge.{well_formed}
 use Rattle.entry.specs.Put.{contents, filled, put_at}
-use Rattle.entry.specs.declared.Found.{Found}
-use Rattle.entry.specs.declared.Found.TheVariants.{At, Nothing}
 use Rattle.entry.proofs.JudgeLaws.{and_true, head_ok_lem}
 use Rattle.entry.proofs.FactLaws.{row_facts}
 use Rattle.entry.proofs.PutLaws.{put_text}
@@ -33,7 +31,7 @@ mask_small : (n : ℕ) → mask_of n < 256
 mask_small n = let h : (n - 1) % 8 ≤ 7 = omega arith in let p : 2 ^ ((n - 1) % 8) ≤ 2 ^ 7 = pow_mono h in omega (arith, p)
 
 -- ---- the theorem
-module _ (d : Dict) (e : well_formed d ≡ true) (b : Bytes d.bytes) (x n i : ℕ) (f : find_row d.objects x ≡ At i) (k : kind_at d.objects i ≡ 0) (t : type_at d.slots (first_at d.objects i) ≡ 12) (l : byte_of n < get_or d.words (first_at d.objects i) 0) where
+module _ (d : Dict) (e : well_formed d ≡ true) (b : Bytes d.bytes) (x n i : ℕ) (f : find_row d.objects x ≡ Some i) (k : kind_at d.objects i ≡ 0) (t : type_at d.slots (first_at d.objects i) ≡ 12) (l : byte_of n < get_or d.words (first_at d.objects i) 0) where
   abbrev p : ℕ
   p = first_at d.objects i
 
@@ -69,7 +67,7 @@ module _ (d : Dict) (e : well_formed d ≡ true) (b : Bytes d.bytes) (x n i : �
       ap (filled d) (put_text d.slots (contents d.words d.bytes) p (set old (byte_of n) v) text)
       ∙ rw (long_set, set-get_or d.words p 0, set-part d.bytes a w (byte_of n) v inside l)
 
-  taken : word_at (type_at d.slots p) (set old (byte_of n) v) ≡ Takes (length (set old (byte_of n) v))
+  taken : word_at (type_at d.slots p) (set old (byte_of n) v) ≡ Ok (length (set old (byte_of n) v))
   unfolding word_at text_word
   taken = rw t
 
@@ -87,19 +85,19 @@ pub mark_keeps : (d : Dict) → well_formed d ≡ true → Bytes d.bytes → (x 
 unfolding marked_in bit_at
 mark_keeps d e b x n = node (eqb n 0 || ltb 239 n)
   where
-    bit : (i : ℕ) → find_row d.objects x ≡ At i → (c : Bool) → (eqb (kind_at d.objects i) 0 && (eqb (type_at d.slots (first_at d.objects i)) 12 && ltb (byte_of n) (get_or d.words (first_at d.objects i) 0))) ≡ c
-        → well_formed (filled d (contents d.words (marked_at d.bytes n (cond c (At (start_at d.slots (first_at d.objects i) + byte_of n)) Nothing)))) ≡ true
+    bit : (i : ℕ) → find_row d.objects x ≡ Some i → (c : Bool) → (eqb (kind_at d.objects i) 0 && (eqb (type_at d.slots (first_at d.objects i)) 12 && ltb (byte_of n) (get_or d.words (first_at d.objects i) 0))) ≡ c
+        → well_formed (filled d (contents d.words (marked_at d.bytes n (cond c (Some (start_at d.slots (first_at d.objects i) + byte_of n)) None)))) ≡ true
     bit i f true h =
         let u = and_true (eqb (kind_at d.objects i) 0) _ h in
         let y = and_true (eqb (type_at d.slots (first_at d.objects i)) 12) _ u.1 in
         bit_kept d e b x n i f (eqb-true _ _ u.0) (eqb-true _ _ y.0) (ltb-true _ _ y.1)
     bit i f false h = e
 
-    row : (g : Found) → find_row d.objects x ≡ g → well_formed (filled d (contents d.words (marked_at d.bytes n (bit_in d.objects d.slots d.words n g)))) ≡ true
-    row (At i) f = bit i f (eqb (kind_at d.objects i) 0 && (eqb (type_at d.slots (first_at d.objects i)) 12 && ltb (byte_of n) (get_or d.words (first_at d.objects i) 0))) refl
-    row Nothing f = e
+    row : (g : Option ℕ) → find_row d.objects x ≡ g → well_formed (filled d (contents d.words (marked_at d.bytes n (bit_in d.objects d.slots d.words n g)))) ≡ true
+    row (Some i) f = bit i f (eqb (kind_at d.objects i) 0 && (eqb (type_at d.slots (first_at d.objects i)) 12 && ltb (byte_of n) (get_or d.words (first_at d.objects i) 0))) refl
+    row None f = e
 
-    node : (c : Bool) → well_formed (filled d (contents d.words (marked_at d.bytes n (cond c Nothing (bit_in d.objects d.slots d.words n (find_row d.objects x)))))) ≡ true
+    node : (c : Bool) → well_formed (filled d (contents d.words (marked_at d.bytes n (cond c None (bit_in d.objects d.slots d.words n (find_row d.objects x)))))) ≡ true
     node true = e
     node false = row (find_row d.objects x) refl
 
@@ -108,6 +106,6 @@ pub mark_bytes : (d : Dict) → well_formed d ≡ true → Bytes d.bytes → (x 
 unfolding marked_in
 mark_bytes d e b x n = go (bit_at d.objects d.slots d.words x n) refl
   where
-    go : (g : Found) → bit_at d.objects d.slots d.words x n ≡ g → Bytes (marked_at d.bytes n g)
-    go (At a) q = bytes_set d.bytes a _ b (bit_lies d e x n a q).inside (or_lt 8 (get_or d.bytes a 0) (mask_of n) (b a) (mask_small n))
-    go Nothing q = b
+    go : (g : Option ℕ) → bit_at d.objects d.slots d.words x n ≡ g → Bytes (marked_at d.bytes n g)
+    go (Some a) q = bytes_set d.bytes a _ b (bit_lies d e x n a q).inside (or_lt 8 (get_or d.bytes a 0) (mask_of n) (b a) (mask_small n))
+    go None q = b

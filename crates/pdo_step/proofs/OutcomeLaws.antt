@@ -1,4 +1,7 @@
 -- What a word that is stored comes from: its target takes the field, and has room for it. Assumes nothing.
+use Rattle.std.specs.Prelude.{Option, Some, None, Result, Ok, Err}
+use Rattle.mapping.specs.declared.Field.{Field}
+use Rattle.value.specs.declared.CodecFault.{CodecFault}
 use mathlib.Core.Path.{◌≡◌, refl, sym, ap, ◌∙◌}
 use mathlib.Core.Bool.{Bool, true, false, cond, ◌&&◌}
 use mathlib.Core.List.{List}
@@ -10,14 +13,10 @@ use lib.ListN.{length, drop}
 use Rattle.lists.specs.Numbers.{Bytes}
 use Rattle.lists.proofs.NumberLaws.{part_length, bytes_take, bytes_drop, bytes_over}
 use Rattle.value.specs.Codec.{is_text, word_at}
-use Rattle.value.specs.declared.Word.{Word}
-use Rattle.value.specs.declared.Word.TheVariants.{Takes, Fails}
 use Rattle.value.specs.declared.CodecFault.TheVariants as fault
 use Rattle.value.proofs.FaultLaws.{word_tells, told_small}
-use Rattle.mapping.specs.Word.{entry_of, field_of}
+use Rattle.mapping.specs.Word.{entry_of, field_of, field_at}
 use Rattle.mapping.specs.declared.PdoMappingEntry.{PdoMappingEntry}
-use Rattle.mapping.specs.declared.Field.{Field}
-use Rattle.mapping.specs.declared.Field.TheVariants as field
 use Rattle.mapping.proofs.WordLaws.{whole_field, entry_in_range}
 use Rattle.entry.specs.Table.{Dict, type_at, start_at, room_at, is_mapping}
 use Rattle.entry.specs.Find.{place_of}
@@ -53,9 +52,9 @@ module _ (d : Dict) (payload : List ℕ) (p a n : ℕ) where
     within : b + m ≤ length payload
     small : b + m ≤ 16382
 
-  at_value_lem : (x sub q b m : ℕ) → place_of d.objects x sub ≡ Value q → Lies b m → (w : Word) → word_at (type_at d.slots q) (part payload b m) ≡ w → on_value d.slots q b m w ≡ outcome.Stored p a n → StoredBy d payload p a n
-  at_value_lem x sub q b m l h (Fails f) k e = let z : ◌≡◌ {A = ℕ} 0 1 = cc in absurd (omega arith)
-  at_value_lem x sub q b m l h (Takes w) k e = room (is_text (type_at d.slots q) && ltb (room_at d.slots q) m) refl e
+  at_value_lem : (x sub q b m : ℕ) → place_of d.objects x sub ≡ Value q → Lies b m → (w : Result ℕ CodecFault) → word_at (type_at d.slots q) (part payload b m) ≡ w → on_value d.slots q b m w ≡ outcome.Stored p a n → StoredBy d payload p a n
+  at_value_lem x sub q b m l h (Err f) k e = let z : ◌≡◌ {A = ℕ} 0 1 = cc in absurd (omega arith)
+  at_value_lem x sub q b m l h (Ok w) k e = room (is_text (type_at d.slots q) && ltb (room_at d.slots q) m) refl e
     where
       same : (q ≡ p) → (b ≡ a) → (m ≡ n) → (is_text (type_at d.slots q) ≡ true → m ≤ room_at d.slots q) → StoredBy d payload p a n
       same u v y r =
@@ -99,20 +98,20 @@ module _ (d : Dict) (payload : List ℕ) (p a n : ℕ) where
       server b m h true e = let z : ◌≡◌ {A = ℕ} 0 1 = cc in absurd (omega arith)
       server b m h false e = client b m h (between 0x1280 0x12FF x) e
 
-      short : (b m : ℕ) → field_of (entry_of w) ≡ field.Whole b m → (c : Bool) → ltb (length payload) (b + m) ≡ c → cond c outcome.Short (on_index d.objects d.slots payload (entry_of w) b m) ≡ outcome.Stored p a n → StoredBy d payload p a n
+      short : (b m : ℕ) → field_of (entry_of w) ≡ field_at b m → (c : Bool) → ltb (length payload) (b + m) ≡ c → cond c outcome.Short (on_index d.objects d.slots payload (entry_of w) b m) ≡ outcome.Stored p a n → StoredBy d payload p a n
       short b m q true l e = let z : ◌≡◌ {A = ℕ} 0 1 = cc in absurd (omega arith)
       short b m q false l e =
           server b m (record { within = ltb-false (length payload) (b + m) l; small = (whole_field (entry_of w) (entry_in_range w) b m q).end_small }) (between 0x1200 0x127F x) e
 
-      fielded : (f : Field) → field_of (entry_of w) ≡ f → on_field d.objects d.slots payload (entry_of w) f ≡ outcome.Stored p a n → StoredBy d payload p a n
-      fielded field.Misaligned q e = let z : ◌≡◌ {A = ℕ} 0 1 = cc in absurd (omega arith)
-      fielded (field.Whole b m) q e = short b m q (ltb (length payload) (b + m)) refl e
+      fielded : (f : Option Field) → field_of (entry_of w) ≡ f → on_field d.objects d.slots payload (entry_of w) f ≡ outcome.Stored p a n → StoredBy d payload p a n
+      fielded None q e = let z : ◌≡◌ {A = ℕ} 0 1 = cc in absurd (omega arith)
+      fielded (Some v) q e = short v.start v.length q (ltb (length payload) (v.start + v.length)) refl e
 
 -- ---- a field ends within the payload, and what its fault tells is as small
 module _ (objects slots payload : List ℕ) (w : ℕ) where
-  reach-value : (q b m : ℕ) → b + m ≤ length payload → (v : Word) → word_at (type_at slots q) (part payload b m) ≡ v → reach (on_value slots q b m v) ≤ length payload + 16
-  reach-value q b m h (Fails f) e = omega (arith, h, part_length payload b m h, told_small (type_at slots q) (part payload b m) f (word_tells (type_at slots q) (part payload b m) f e))
-  reach-value q b m h (Takes v) e = go (is_text (type_at slots q) && ltb (room_at slots q) m)
+  reach-value : (q b m : ℕ) → b + m ≤ length payload → (v : Result ℕ CodecFault) → word_at (type_at slots q) (part payload b m) ≡ v → reach (on_value slots q b m v) ≤ length payload + 16
+  reach-value q b m h (Err f) e = omega (arith, h, part_length payload b m h, told_small (type_at slots q) (part payload b m) f (word_tells (type_at slots q) (part payload b m) f e))
+  reach-value q b m h (Ok v) e = go (is_text (type_at slots q) && ltb (room_at slots q) m)
     where
       go : (c : Bool) → reach (cond c outcome.TooLong (outcome.Stored q b m)) ≤ length payload + 16
       go true = omega arith
@@ -144,9 +143,9 @@ module _ (objects slots payload : List ℕ) (w : ℕ) where
       go b m false false true h = omega (arith, ltb-false (length payload) (b + m) h)
       go b m false false false h = reach-place e.index b m (ltb-false (length payload) (b + m) h) (place_of objects e.index e.sub_index)
 
-      fielded : (f : Field) → reach (on_field objects slots payload (entry_of w) f) ≤ length payload + 16
-      fielded field.Misaligned = omega arith
-      fielded (field.Whole b m) = go b m (ltb (length payload) (b + m)) (between 0x1200 0x127F e.index) (between 0x1280 0x12FF e.index) refl
+      fielded : (f : Option Field) → reach (on_field objects slots payload (entry_of w) f) ≤ length payload + 16
+      fielded None = omega arith
+      fielded (Some v) = go v.start v.length (ltb (length payload) (v.start + v.length)) (between 0x1200 0x127F e.index) (between 0x1280 0x12FF e.index) refl
 
 -- ---- a step keeps the dictionary well-formed
 pub step_keeps : (d : Dict) (payload : List ℕ) (w : ℕ) → well_formed d ≡ true → Bytes payload → well_formed (filled d (applied d.slots payload (contents d.words d.bytes) (outcome_of d.objects d.slots payload w))) ≡ true

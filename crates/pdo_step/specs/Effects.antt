@@ -1,6 +1,5 @@
 -- What each outcome does: RULES.md 11, the table of R11.5, row by row. Assumes nothing.
-use Rattle.std.specs.Prelude.{ℕ, Bool, true, false, eqb}
-use Rattle.std.proofs.Math.Option.{Option, none, some}
+use Rattle.std.specs.Prelude.{ℕ, Bool, true, false, eqb, Option, Some, None}
 use Rattle.value.specs.declared.CodecFault.{CodecFault}
 use Rattle.value.specs.declared.CodecFault.TheVariants as fault
 use Rattle.event.specs.declared.Cause.{Cause}
@@ -24,13 +23,13 @@ pub record Effect : Type 0 where
   pub put : Option Putting
 
 abbrev pub goes_on : Option Event → Effect
-goes_on v = record { event = v; stops = false; put = none }
+goes_on v = record { event = v; stops = false; put = None }
 
 abbrev pub ends : Cause → Effect
-ends c = record { event = some (PayloadShort c); stops = true; put = none }
+ends c = record { event = Some (PayloadShort c); stops = true; put = None }
 
 abbrev pub puts : ℕ → ℕ → ℕ → Effect
-puts p start n = record { event = none; stops = false; put = some (record { place = p; start = start; len = n }) }
+puts p start n = record { event = None; stops = false; put = Some (record { place = p; start = start; len = n }) }
 
 -- R11.5, step 5: the cause, with what R3.9 says of the field
 abbrev pub caused_by : CodecFault → Cause
@@ -39,15 +38,15 @@ caused_by (fault.Text at) = Text at
 caused_by fault.Odd = Odd
 
 abbrev pub effect_of : Outcome → Effect
-effect_of outcome.Misaligned = goes_on none
+effect_of outcome.Misaligned = goes_on None
 effect_of outcome.Short = ends Frame
-effect_of (outcome.Server x start n) = goes_on (some (Server x start n))
-effect_of (outcome.Client x start n) = goes_on (some (Client x start n))
-effect_of outcome.NoTarget = goes_on none
-effect_of outcome.Count = goes_on none
-effect_of outcome.CountRefused = goes_on (some (WriteRefused CountNotWritable))
+effect_of (outcome.Server x start n) = goes_on (Some (Server x start n))
+effect_of (outcome.Client x start n) = goes_on (Some (Client x start n))
+effect_of outcome.NoTarget = goes_on None
+effect_of outcome.Count = goes_on None
+effect_of outcome.CountRefused = goes_on (Some (WriteRefused CountNotWritable))
 effect_of (outcome.Undecodable f) = ends (caused_by f)
-effect_of outcome.TooLong = goes_on (some (WriteRefused TooLong))
+effect_of outcome.TooLong = goes_on (Some (WriteRefused TooLong))
 effect_of (outcome.Stored p start n) = puts p start n
 
 -- a field too short for its value counts in edition 2 as one past the payload does

@@ -1,12 +1,10 @@
 -- What a mapping word comes to: RULES.md 11, the table of R11.5. Assumes nothing.
-use Rattle.std.specs.Prelude.{ℕ, ◌+◌, ◌<◌, ◌≤◌, ◌≡◌, cond, ◌&&◌, List, eqb, ltb, length, take, drop}
+use Rattle.mapping.specs.declared.Field.{Field}
+use Rattle.value.specs.declared.CodecFault.{CodecFault}
+use Rattle.std.specs.Prelude.{ℕ, ◌+◌, ◌<◌, ◌≤◌, ◌≡◌, cond, ◌&&◌, List, eqb, ltb, length, take, drop, Option, Some, None, Result, Ok, Err}
 use Rattle.value.specs.Codec.{is_text, word_at}
 use Rattle.value.specs.Fault.{first_told, second_told}
-use Rattle.value.specs.declared.Word.{Word}
-use Rattle.value.specs.declared.Word.TheVariants.{Takes, Fails}
 use Rattle.value.specs.declared.CodecFault.TheVariants as fault
-use Rattle.mapping.specs.declared.Field.{Field}
-use Rattle.mapping.specs.declared.Field.TheVariants as field
 use Rattle.entry.specs.Table.{slot_end, type_at, room_at, is_mapping}
 use Rattle.entry.specs.Find.{Rows, place_of}
 use Rattle.entry.specs.declared.Place.TheVariants.{Value}
@@ -25,9 +23,9 @@ unfoldable pub on_count : ℕ → ℕ → Outcome
 on_count x n = cond (eqb n 0) (outcome.Undecodable (fault.Value 1 0)) (cond (is_mapping x) outcome.Count outcome.CountRefused)
 
 -- steps 5, 7 and 8 at a value
-abbrev pub on_value : List ℕ → ℕ → ℕ → ℕ → Word → Outcome
-on_value slots p start n (Fails f) = outcome.Undecodable f
-on_value slots p start n (Takes w) =
+abbrev pub on_value : List ℕ → ℕ → ℕ → ℕ → Result ℕ CodecFault → Outcome
+on_value slots p start n (Err f) = outcome.Undecodable f
+on_value slots p start n (Ok w) =
     cond (is_text (type_at slots p) && ltb (room_at slots p) n) outcome.TooLong (outcome.Stored p start n)
 
 -- steps 3 to 8, of a word whose index is x
@@ -40,9 +38,9 @@ on_class slots payload x (class.Count start n) = on_count x n
 on_class slots payload x (class.Value start n p) = on_value slots p start n (word_at (type_at slots p) (part payload start n))
 
 -- steps 1 and 2: "misaligned", "the field ends past the payload"
-abbrev pub inside : List ℕ → Field → Outcome → Outcome
-inside payload field.Misaligned next = outcome.Misaligned
-inside payload (field.Whole start n) next = cond (ltb (length payload) (start + n)) outcome.Short next
+abbrev pub inside : List ℕ → Option Field → Outcome → Outcome
+inside payload None next = outcome.Misaligned
+inside payload (Some v) next = cond (ltb (length payload) (v.start + v.length)) outcome.Short next
 
 unfoldable pub outcome_of : List ℕ → List ℕ → List ℕ → ℕ → Outcome
 outcome_of objects slots payload w =

@@ -26,7 +26,6 @@ pub fn step(
     let Outcome::Stored { p, start, len } = o else {
         return o;
     };
-    let end = start + len;
-    entry::put_value(slots, words, bytes, p, &payload[start..end]);
+    entry::put_value(slots, words, bytes, p, &payload[start..start + len]);
     o
 }

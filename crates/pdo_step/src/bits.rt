@@ -4,45 +4,33 @@ ghost use Rattle.entry.specs.Table.{dict};
 ghost use Rattle.entry.specs.Judge.{well_formed};
 ghost use Rattle.pdo_step.specs.Bits.{mask_of, bit_at, marked_in};
 
-use entry::Found;
+use judge::Dictionary;
 
 // The byte that has the bit of a node, where the object is an OctetString Variable that long.
-pub fn bit_place(
-    objects: &[u64],
-    slots: &[u64],
-    words: &[u64],
-    bytes: &[u8],
-    index: u16,
-    node: u8,
-) -> Found
-    requires { well_formed (dict objects.now slots.now words.now bytes.now) ≡ true }
-    ensures { result ≡ bit_at objects.now slots.now words.now index node }
+pub fn bit_place(d: &Dictionary, index: u16, node: u8) -> Option<usize>
+    ensures { result ≡ bit_at d.now.objects d.now.slots d.now.words index node }
 {
     if (node == 0) | (239 < node) {
-        return Found::Nothing;
+        return None;
     }
-    let Found::At(i) = entry::find(objects, index) else {
-        return Found::Nothing;
-    };
-    if entry::kind_at(objects, i) != 0 {
-        return Found::Nothing;
+    let i = entry::find(d.objects, index)?;
+    if entry::kind_at(d.objects, i) != 0 {
+        return None;
     }
-    let p = entry::first_at(objects, i) as usize;
+    let p = entry::first_at(d.objects, i) as usize;
     let k = (node - 1) as u64 / 8;
-    let long = words[p];
-    if (entry::type_at(slots, p) == 12) & (k < long) {
-        return Found::At(entry::start_at(slots, p) as usize + k as usize);
+    let long = d.words[p];
+    if (entry::type_at(d.slots, p) == 12) & (k < long) {
+        return Some(entry::start_at(d.slots, p) as usize + k as usize);
     }
-    Found::Nothing
+    None
 }
-
-const MASKS: [u8; 8] = [1, 2, 4, 8, 16, 32, 64, 128];
 
 fn mask(node: u8) -> u8
     requires { 0 < node }
     ensures { result ≡ mask_of node }
 {
-    MASKS[((node - 1) % 8) as usize]
+    1 << ((node - 1) % 8)
 }
 
 // Sets the bit of a node in the object at an index; where it has none, nothing happens.
@@ -57,7 +45,13 @@ pub fn set_bit(
     requires { well_formed (dict objects.now slots.now words.now bytes.old) ≡ true }
     ensures { bytes.new ≡ marked_in objects.now slots.now words.now bytes.old index node }
 {
-    let Found::At(a) = bit_place(objects, slots, words, bytes, index, node) else {
+    let d = Dictionary {
+        objects,
+        slots,
+        words,
+        bytes: &*bytes,
+    };
+    let Some(a) = bit_place(&d, index, node) else {
         return;
     };
     bytes[a] = bytes[a] | mask(node);

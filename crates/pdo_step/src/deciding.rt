@@ -7,8 +7,7 @@ ghost use Rattle.pdo_step.specs.Outcomes.{part, Shape, on_count, on_value, on_cl
 
 use crate::Outcome;
 use aim::Class;
-use mapping::Field;
-use value::{CodecFault, Word};
+use value::CodecFault;
 
 // At a list's count, a U8.
 fn at_count(index: u16, len: usize) -> Outcome
@@ -31,10 +30,9 @@ fn at_value(slots: &[u64], payload: &[u8], p: usize, start: usize, len: usize) -
 {
     let t = entry::type_at(slots, p);
     let room = entry::room_at(slots, p);
-    let end = start + len;
-    match value::decode_word(t, &payload[start..end]) {
-        Word::Fails(f) => Outcome::Undecodable(f),
-        Word::Takes(_) => if value::is_text(t) & (room < len as u64) {
+    match value::decode_word(t, &payload[start..start + len]) {
+        Err(f) => Outcome::Undecodable(f),
+        Ok(_) => if value::is_text(t) & (room < len as u64) {
             Outcome::TooLong
         } else {
             Outcome::Stored { p, start, len }
@@ -52,7 +50,7 @@ fn at_class(slots: &[u64], payload: &[u8], index: u16, class: Class) -> Outcome
         Class::Server { start, len } => Outcome::Server { index, start, len },
         Class::Client { start, len } => Outcome::Client { index, start, len },
         Class::NoTarget => Outcome::NoTarget,
-        Class::Count { start: _, len } => at_count(index, len),
+        Class::Count { len, .. } => at_count(index, len),
         Class::Value { start, len, p } => at_value(slots, payload, p, start, len),
     }
 }
@@ -62,13 +60,11 @@ pub fn decide(objects: &[u64], slots: &[u64], payload: &[u8], word: u64) -> Outc
     ensures { result ≡ outcome_of objects.now slots.now payload.now word }
 {
     let a = aim::aim_of(objects, word);
-    let field = a.field;
-    let Field::Whole { start, length } = field else {
+    let Some(field) = a.field else {
         return Outcome::Misaligned;
     };
-    if payload.len() < start + length {
+    if payload.len() < field.start + field.length {
         return Outcome::Short;
     }
-    let e = a.entry;
-    at_class(slots, payload, e.index, aim::classify(a))
+    at_class(slots, payload, a.entry.index, aim::classify(a))
 }

@@ -5,7 +5,7 @@ use native.Mathlib.Omega.{arith}
 use Rattle.pdo_channel.proofs.behind.Goals as goal
 
 pub overflow_add-result : goal.overflow_add-result
-overflow_add-result c = omega (arith, row_below c.args.objects.now c.args.index c.in-At.i (sym c.requires.2 ∙ c.in-At.is), c.requires.0.few)
+overflow_add-result c = omega (arith, row_below c.args.objects.now c.args.index c.in-Some.i (sym c.requires.2 ∙ c.in-Some.is), c.requires.0.few)
 
-pub returns-in-At : goal.returns-in-At
-returns-in-At c = omega (arith, row_below c.args.objects.now c.args.index c.in-At.i (sym c.requires.2 ∙ c.in-At.is))
+pub returns-in-Some : goal.returns-in-Some
+returns-in-Some c = omega (arith, row_below c.args.objects.now c.args.index c.in-Some.i (sym c.requires.2 ∙ c.in-Some.is))

@@ -1,16 +1,14 @@
 -- `pdo_channel::first_match` meets its contract: the scan from here on gives what the whole scan gives. Assumes nothing.
+use Rattle.std.specs.Prelude.{None}
 use mathlib.Core.Path.{◌≡◌}
 use Prim.Native.Nat.{◌-◌, ◌≤◌}
-use Rattle.entry.specs.Table.{dict, number_of}
+use Rattle.entry.specs.Table.{number_of}
 use Rattle.pdo_channel.specs.Channel.{channel_from, first_match}
 use Rattle.pdo_channel.proofs.first_match.Given as goal
 
 abbrev pub invariant-loop-i : goal.invariant-loop-i
 invariant-loop-i l = record {
-  in_range : l.i ≤ 256;
-  row_in_range : l.r ≤ number_of l.objects;
-  rest_is : channel_from (dict l.objects l.slots l.words l.bytes) l.sender (256 - l.i) l.i ≡ first_match (dict l.objects l.slots l.words l.bytes) l.sender;
+  none_yet : l.found ≡ None;
+  row_in_range : l.r ≤ number_of l.d.objects;
+  rest_is : channel_from l.d l.sender (256 - l.i) l.i ≡ first_match l.d l.sender;
 }
-
-abbrev pub decreases-loop-i : goal.decreases-loop-i
-decreases-loop-i l = 256 - l.i

@@ -1,32 +1,28 @@
 -- `pdo_channel::u8_in` meets its contract: each place is a case of the definition. Assumes nothing.
+use Rattle.std.specs.Prelude.{Some}
 use mathlib.Core.Bool.{true}
-use mathlib.Core.Path.{◌≡◌, sym}
+use mathlib.Core.Path.{◌≡◌, sym, ap, ◌∙◌}
 use Prim.Native.Nat.{ℕ}
-use Rattle.entry.specs.Table.{Dict, dict}
+use Rattle.entry.specs.Table.{Dict}
 use Rattle.entry.specs.Find.{sub_at, find_row}
 use Rattle.entry.specs.Judge.{well_formed}
-use Rattle.entry.specs.declared.Found.TheVariants.{At}
 use Rattle.entry.specs.declared.Place.TheVariants.{Value}
 use Rattle.entry.proofs.ValueLaws.{ValueFacts, rows_of, found_lies, value_lies}
 use Rattle.pdo_channel.proofs.u8_in.Goals as goal
 
 pub sub_at-requires-clause-rows : goal.sub_at-requires-clause-rows
-sub_at-requires-clause-rows c = rows_of (dict c.args.objects.now c.args.slots.now c.args.words.now c.args.bytes.now) c.requires.bytes_value
+sub_at-requires-clause-rows c = rows_of _ c.d.invariant
 
 pub sub_at-requires-clause-i_bound : goal.sub_at-requires-clause-i_bound
-sub_at-requires-clause-i_bound c =
-    (found_lies (dict c.args.objects.now c.args.slots.now c.args.words.now c.args.bytes.now) c.requires.bytes_value c.args.index c.args.i c.requires.index_value).below
+sub_at-requires-clause-i_bound c = (found_lies _ c.d.invariant c.args.index c.args.i (ap (λ (d : Dict). find_row d.objects c.args.index) c.d.view_is ∙ c.requires)).below
 
-there : (d : Dict) → well_formed d ≡ true → (x sub i p : ℕ) → find_row d.objects x ≡ At i → Value p ≡ sub_at d.objects i sub → ValueFacts d p
-there d w x sub i p f e = value_lies d w x sub i p f (sym e)
+there : (d v : Dict) → well_formed d ≡ true → d ≡ v → (x sub i p : ℕ) → find_row v.objects x ≡ Some i → Value p ≡ sub_at d.objects i sub → ValueFacts d p
+there d v w h x sub i p f e = value_lies d w x sub i p (ap (λ (d : Dict). find_row d.objects x) h ∙ f) (sym e)
 
 pub type_at-requires : goal.type_at-requires
 type_at-requires c =
-    let f =
-    there (dict c.args.objects.now c.args.slots.now c.args.words.now c.args.bytes.now) c.requires.bytes_value c.args.index c.args.sub c.args.i c.in-Value.p c.requires.index_value c.in-Value.ensures
-    in
+    let f = there _ _ c.d.invariant c.d.view_is c.args.index c.args.sub c.args.i c.in-Value.p c.requires c.in-Value.ensures in
     (f.low, f.slot)
 
-pub bounds-words-p : goal.bounds-words-p
-bounds-words-p c =
-    (there (dict c.args.objects.now c.args.slots.now c.args.words.now c.args.bytes.now) c.requires.bytes_value c.args.index c.args.sub c.args.i c.in-Value.p c.requires.index_value c.in-Value.ensures).word
+pub bounds-d-inside-p : goal.bounds-d-inside-p
+bounds-d-inside-p c = (there _ _ c.d.invariant c.d.view_is c.args.index c.args.sub c.args.i c.in-Value.p c.requires c.in-Value.ensures).word

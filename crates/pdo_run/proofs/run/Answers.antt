@@ -40,7 +40,6 @@ loop-j-preserved-then-type_at-ne8 c =
     let f = frame a.objects.now a.slots.now a.payload.now a.sender a.number in
     let v = c.loop-j.invariant in
     record {
-      within = omega arith;
       begun = omega (arith, v.begun);
       held = v.held;
       run = ap (λ r. finished r c.loop-j.log c.loop-j.n) (sym (run_over f a.first a.list.now c.loop-j.j _ c.loop-j-test.true (λ z. c.if-type_at-ne8.true (c.type_at.ensures ∙ z)))) ∙ v.run;
@@ -73,7 +72,6 @@ loop-j-preserved c =
     let q = stop _ _ _ o t.result _ t.ensures.turn c.if-t.false in
     let b : Bytes a.payload.now = λ k. omega (arith, c.type_inv.payload k) in
     record {
-      within = omega arith;
       begun = omega (arith, c.note-n.ensures.count, noted_few l.n t.result.event, v.begun);
       held = subst (λ (x : Contents). well_formed (dict a.objects.now a.slots.now x.words x.bytes) ≡ true) (sym t.ensures.held)
           (act_keeps (dict a.objects.now a.slots.now l.words l.bytes) a.payload.now a.sender a.number _ v.held b o refl q);

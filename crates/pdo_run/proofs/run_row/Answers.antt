@@ -50,34 +50,34 @@ list_count-n-requires c =
     let a = c.args in
     let l = row_lies (dict a.objects.now a.slots.now a.words.now a.bytes.now) c.requires.bytes_value a.r c.requires.r_bound.0 in (l.small, l.inside)
 
-pub gather_few-few-requires : goal.gather_few-few-requires
-gather_few-few-requires c =
+pub gather-few-requires : goal.gather-few-requires
+gather-few-requires c =
     let a = c.args in
     let l = lies (dict a.objects.now a.slots.now a.words.now a.bytes.now) a.r _ _ c.requires.bytes_value c.requires.r_bound.0 c.first_at-first.ensures c.list_count-n.ensures in
-    (omega arith, l.held)
+    (omega arith, (omega arith, l.held))
 
 pub slice_bounds-few-end : goal.slice_bounds-few-end
-slice_bounds-few-end c = omega (arith, c.gather_few-few.ensures.0)
+slice_bounds-few-end c = omega (arith, c.gather-few.ensures.0)
 
 pub run-requires : goal.run-requires
 run-requires c =
     let a = c.args in
     let l = lies (dict a.objects.now a.slots.now a.words.now a.bytes.now) a.r _ _ c.requires.bytes_value c.requires.r_bound.0 c.first_at-first.ensures c.list_count-n.ensures in
     let r = c.requires.r_bound in
-    let n : length (take c.list_count-n.result c.gather_few-few.result) ≡ c.list_count-n.result = as_long _ _ _ c.gather_few-few.ensures.0 (omega (arith, l.few)) in
+    let n : length (take c.list_count-n.result c.gather-few.result) ≡ c.list_count-n.result = as_long _ _ _ c.gather-few.ensures.0 (omega (arith, l.few)) in
     record { bytes_value = c.requires.bytes_value; list_bound = (omega (arith, l.inside, n), omega (arith, l.few, n), r.1, r.2, omega (arith, l.few, n, r.3)) }
 
 pub returns-then-n-le16 : goal.returns-then-n-le16
 returns-then-n-le16 c =
     let a = c.args in
     let f = frame a.objects.now a.slots.now a.payload.now a.sender a.number in
-    c.run.ensures ∙ told f _ _ _ _ _ _ _ _ c.first_at-first.ensures c.list_count-n.ensures c.gather_few-few.ensures.1
+    c.run.ensures ∙ told f _ _ _ _ _ _ _ _ c.first_at-first.ensures c.list_count-n.ensures c.gather-few.ensures.1
 
 pub gather-list-requires : goal.gather-list-requires
 gather-list-requires c =
     let a = c.args in
     let l = lies (dict a.objects.now a.slots.now a.words.now a.bytes.now) a.r _ _ c.requires.bytes_value c.requires.r_bound.0 c.first_at-first.ensures c.list_count-n.ensures in
-    (l.few, l.held)
+    (omega arith, (l.few, l.held))
 
 pub slice_bounds-list-end : goal.slice_bounds-list-end
 slice_bounds-list-end c =

@@ -1,31 +1,61 @@
 -- `channel::checking::check_elements` meets its contract: how far the elements reach comes last. Assumes nothing.
-use Rattle.entry.specs.Table.{dict}
+use mathlib.Core.List.{List}
+use mathlib.Core.Path.{◌≡◌, ap}
+use Prim.Native.Nat.{ℕ, ◌+◌, ◌-◌, ◌<◌, ◌≤◌}
+use lib.ListN.{length, take, drop, length-drop}
+use lib.Seq.{length-take-le}
+use native.Mathlib.Omega.{arith}
+use Rattle.entry.specs.Table.{Dict, number_of, slot_place}
+use Rattle.entry.specs.Find.{Elements}
 use Rattle.entry.proofs.ValueLaws.{row_lies}
 use Rattle.pdo_step.proofs.OutcomeLaws.{shape_of}
 use Rattle.channel.proofs.CheckLaws.{list_lies}
 use Rattle.channel.proofs.checking.check_elements.Goals as goal
 
+-- as far as the words between the list's ends reach
+reaches : (slots words : List ℕ) (n first : ℕ) → Elements slots words n first
+    → (first + length (take (first + n - first) (drop first words)) ≤ 6144) × (slot_place (first + length (take (first + n - first) (drop first words))) ≤ length slots)
+reaches slots words n first e =
+    let z : first + n - first ≡ n = omega arith in
+    let l : length (take n (drop first words)) ≡ n = length-take-le n _ (rw length-drop (omega (arith, e.worded))) in
+    rw (z, l) (e.low, e.slotted)
+
+-- the row is one of the columns' rows
+below : (d v : Dict) (r : ℕ) → d ≡ v → r < number_of v.objects → r < number_of d.objects
+below d v r s h = omega (arith, ap (λ (e : Dict). number_of e.objects) s, h)
+
 pub first_at-first-requires : goal.first_at-first-requires
 first_at-first-requires c =
-    let l = row_lies (dict c.args.objects.now c.args.slots.now c.args.words.now c.args.bytes.now) c.requires.bytes_value c.args.r c.requires.r_bound in
+    let l = row_lies _ c.d.invariant c.args.r (below _ _ c.args.r c.d.view_is c.requires) in
     (l.small, l.inside)
 
 pub list_count-n-requires : goal.list_count-n-requires
 list_count-n-requires c =
-    let l = row_lies (dict c.args.objects.now c.args.slots.now c.args.words.now c.args.bytes.now) c.requires.bytes_value c.args.r c.requires.r_bound in
+    let l = row_lies _ c.d.invariant c.args.r (below _ _ c.args.r c.d.view_is c.requires) in
     (l.small, l.inside)
 
 pub ends-requires : goal.ends-requires
-ends-requires c = list_lies (dict c.args.objects.now c.args.slots.now c.args.words.now c.args.bytes.now) c.requires.bytes_value c.args.r c.requires.r_bound _ _ c.list_count-n.ensures c.first_at-first.ensures
+ends-requires c = list_lies _ c.d.invariant c.args.r (below _ _ c.args.r c.d.view_is c.requires) _ _ c.list_count-n.ensures c.first_at-first.ensures
+
+pub overflow_add-list : goal.overflow_add-list
+overflow_add-list c =
+    let e = list_lies _ c.d.invariant c.args.r (below _ _ c.args.r c.d.view_is c.requires) _ _ c.list_count-n.ensures c.first_at-first.ensures in
+    omega (arith, e.low)
+
+pub offset_bounds-d-inside-first : goal.offset_bounds-d-inside-first
+offset_bounds-d-inside-first c =
+    let e = list_lies _ c.d.invariant c.args.r (below _ _ c.args.r c.d.view_is c.requires) _ _ c.list_count-n.ensures c.first_at-first.ensures in
+    omega (arith, e.low)
+
+pub slice_bounds-list-end : goal.slice_bounds-list-end
+slice_bounds-list-end c =
+    let e = list_lies _ c.d.invariant c.args.r (below _ _ c.args.r c.d.view_is c.requires) _ _ c.list_count-n.ensures c.first_at-first.ensures in
+    omega (arith, e.worded)
 
 pub first_fault-requires-clause-elements : goal.first_fault-requires-clause-elements
-first_fault-requires-clause-elements c = list_lies (dict c.args.objects.now c.args.slots.now c.args.words.now c.args.bytes.now) c.requires.bytes_value c.args.r c.requires.r_bound _ _ c.list_count-n.ensures c.first_at-first.ensures
-
-pub first_fault-requires-2-clause-elements : goal.first_fault-requires-2-clause-elements
-first_fault-requires-2-clause-elements c = list_lies (dict c.args.objects.now c.args.slots.now c.args.words.now c.args.bytes.now) c.requires.bytes_value c.args.r c.requires.r_bound _ _ c.list_count-n.ensures c.first_at-first.ensures
+first_fault-requires-clause-elements c =
+    let e = list_lies _ c.d.invariant c.args.r (below _ _ c.args.r c.d.view_is c.requires) _ _ c.list_count-n.ensures c.first_at-first.ensures in
+    reaches _ _ _ _ e
 
 pub first_fault-requires-clause-shape : goal.first_fault-requires-clause-shape
-first_fault-requires-clause-shape c = shape_of (dict c.args.objects.now c.args.slots.now c.args.words.now c.args.bytes.now) c.requires.bytes_value
-
-pub first_fault-requires-2-clause-shape : goal.first_fault-requires-2-clause-shape
-first_fault-requires-2-clause-shape c = shape_of (dict c.args.objects.now c.args.slots.now c.args.words.now c.args.bytes.now) c.requires.bytes_value
+first_fault-requires-clause-shape c = shape_of _ c.d.invariant

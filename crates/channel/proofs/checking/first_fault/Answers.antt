@@ -1,39 +1,46 @@
 -- `channel::checking::first_fault` meets its contract: the verdict on an element decides. Assumes nothing.
+use Rattle.std.specs.Prelude.{Result, Err}
+use Rattle.element.specs.declared.Fault.{Fault}
 use mathlib.Core.Path.{◌≡◌, sym, ap, ◌∙◌}
-use Prim.Native.Nat.{◌+◌}
+use mathlib.Core.List.{List}
+use Prim.Native.Nat.{ℕ, ◌+◌, ◌<◌}
 use borrow.Author.Tests.{eq-eqb, ne_eqb}
-use lib.ListN.{take, drop, get_or}
+use lib.ListN.{length, drop, get_or}
 use Rattle.entry.specs.Table.{type_at}
-use Rattle.element.specs.Elements.{verdict_of}
-use Rattle.channel.specs.Check.{on_verdict}
-use Rattle.channel.proofs.CheckLaws.{as_long, decided, fault_end}
-use native.Mathlib.Omega.{arith}
+use Rattle.element.specs.declared.Fault.TheVariants.{NotMapping}
+use Rattle.element.specs.Elements.{word_verdict, verdict_of}
+use Rattle.channel.specs.declared.Checked.{Checked}
+use Rattle.channel.specs.Check.{on_verdict, fault_from}
+use Rattle.channel.proofs.CheckLaws.{fault_step, fault_end}
 use Rattle.channel.proofs.checking.first_fault.Goals as goal
+
+-- the verdict v on element j decides
+decided : (objects slots : List ℕ) (p : ℕ) (list : List ℕ) (j : ℕ) (last : Checked) (v : Result (Unit {0}) Fault) → j < length list
+    → verdict_of objects slots (type_at slots (p + j)) (get_or list j 0) ≡ v
+    → fault_from objects slots p (drop j list) j last ≡ fault_from objects slots p list 0 last
+    → on_verdict (j + 1) (fault_from objects slots p (drop (j + 1) list) (j + 1) last) v ≡ fault_from objects slots p list 0 last
+decided objects slots p list j last v h e q = sym (ap (on_verdict _ _) e) ∙ sym (fault_step objects slots p list j last h) ∙ q
+
+-- the verdict on a word of type U64
+mapped : (objects slots : List ℕ) (t u w : ℕ) (v y : Result (Unit {0}) Fault) → u ≡ type_at slots t → u ≡ 8 → v ≡ word_verdict objects slots w → v ≡ y → verdict_of objects slots (type_at slots t) w ≡ y
+mapped objects slots t u w v y e h q z = rw (eq-eqb (type_at slots t) 8 (sym e ∙ h)) (sym q ∙ z)
 
 pub returns-then-type_at-ne8 : goal.returns-then-type_at-ne8
 returns-then-type_at-ne8 c =
-    sym (rw (ne_eqb _ 8 (λ z. c.if-type_at-ne8.true (c.type_at.ensures ∙ z)))) ∙ decided c.args.objects.now c.args.slots.now c.args.words.now c.args.first c.args.n c.loop-j.j c.args.last c.loop-j-test.true c.requires.elements.worded ∙ c.loop-j.invariant.rest_is
+    let a = c.args in
+    decided a.objects.now a.slots.now a.first a.list.now c.loop-j.j a.last (Err NotMapping) c.loop-j-test.true (rw (ne_eqb _ 8 (λ z. c.if-type_at-ne8.true (c.type_at.ensures ∙ z)))) c.loop-j.invariant
 
-pub returns-in-Faulty : goal.returns-in-Faulty
-returns-in-Faulty c =
-    let verdict : verdict_of c.args.objects.now c.args.slots.now (type_at c.args.slots.now (c.args.first + c.loop-j.j)) (get_or c.args.words.now (c.args.first + c.loop-j.j) 0) ≡ c.word_verdict.result =
-    rw (eq-eqb _ 8 (sym c.type_at.ensures ∙ c.if-type_at-ne8.false)) (sym c.word_verdict.ensures)
-    in
-    sym (ap (on_verdict _ _) (verdict ∙ c.in-Faulty.is)) ∙ decided c.args.objects.now c.args.slots.now c.args.words.now c.args.first c.args.n c.loop-j.j c.args.last c.loop-j-test.true c.requires.elements.worded ∙ c.loop-j.invariant.rest_is
+pub returns-in-Err : goal.returns-in-Err
+returns-in-Err c =
+    let a = c.args in
+    decided a.objects.now a.slots.now a.first a.list.now c.loop-j.j a.last _ c.loop-j-test.true (mapped _ _ _ _ _ _ _ c.type_at.ensures c.if-type_at-ne8.false c.word_verdict.ensures c.in-Err.is) c.loop-j.invariant
 
 pub loop-j-preserved : goal.loop-j-preserved
 loop-j-preserved c =
-    let verdict : verdict_of c.args.objects.now c.args.slots.now (type_at c.args.slots.now (c.args.first + c.loop-j.j)) (get_or c.args.words.now (c.args.first + c.loop-j.j) 0) ≡ c.word_verdict.result =
-    rw (eq-eqb _ 8 (sym c.type_at.ensures ∙ c.if-type_at-ne8.false)) (sym c.word_verdict.ensures)
-    in
-    record {
-      in_range = omega (arith, c.loop-j-test.true);
-      rest_is = sym (ap (on_verdict _ _) (verdict ∙ c.in_default.is)) ∙ decided c.args.objects.now c.args.slots.now c.args.words.now c.args.first c.args.n c.loop-j.j c.args.last c.loop-j-test.true c.requires.elements.worded ∙ c.loop-j.invariant.rest_is;
-    }
+    let a = c.args in
+    decided a.objects.now a.slots.now a.first a.list.now c.loop-j.j a.last _ c.loop-j-test.true (mapped _ _ _ _ _ _ _ c.type_at.ensures c.if-type_at-ne8.false c.word_verdict.ensures c.in_default.is) c.loop-j.invariant
 
 pub returns : goal.returns
 returns c =
-    sym
-    (fault_end c.args.objects.now c.args.slots.now c.args.first (take c.args.n (drop c.args.first c.args.words.now)) c.loop-j.j c.args.last
-    (omega (arith, as_long c.args.words.now c.args.first c.args.n c.requires.elements.worded, c.loop-j-test.false)))
-    ∙ c.loop-j.invariant.rest_is
+    let a = c.args in
+    sym (fault_end a.objects.now a.slots.now a.first a.list.now c.loop-j.j a.last c.loop-j-test.false) ∙ c.loop-j.invariant

@@ -3,8 +3,10 @@ use mathlib.Core.Path.{◌≡◌, sym, ap, ◌∙◌}
 use mathlib.Core.List.{List, [], ◌∷◌}
 use Prim.Native.Nat.{ℕ, ◌+◌, ◌-◌}
 use Rattle.lists.specs.Lists.{over}
-use Rattle.entry.specs.Table.{Dict, dict}
+use Rattle.entry.specs.Table.{Dict}
+use Rattle.entry.specs.Find.{find_row}
 use Rattle.entry.proofs.ValueLaws.{rows_of}
+use Rattle.pdo_channel.specs.Channel.{comm_index}
 use Rattle.channel.specs.Check.{check_of}
 use Rattle.channel.specs.Numbers.{answer_number, element_of}
 use Rattle.channel.specs.All.{lines_from, laid_on}
@@ -13,39 +15,35 @@ use native.Mathlib.Omega.{arith}
 use Rattle.channel.proofs.every.check_each.Goals as goal
 
 pub find-requires : goal.find-requires
-find-requires c = rows_of (dict c.args.objects.now c.args.slots.now c.args.words.now c.args.bytes.now) c.requires.bytes_value
+find-requires c = rows_of _ c.d.invariant
 
 pub loop-i-preserved-in_default : goal.loop-i-preserved-in_default
 loop-i-preserved-in_default c =
-    let d : Dict = dict c.args.objects.now c.args.slots.now c.args.words.now c.args.bytes.now in
+    let d : Dict = c.args.d.now in
     record {
-      in_range = omega (arith, c.loop-i-test.true);
       few = omega (arith, c.loop-i.invariant.few);
-      same_length = c.loop-i.invariant.same_length;
-      rest_is = turned d c.args.out.now 0 c.loop-i.i c.loop-i.out c.loop-i.n c.loop-i-test.true c.loop-i.invariant.rest_is _ (sym c.in_default.is ∙ c.find.ensures);
+      rest_is = turned d c.args.out.now 0 c.loop-i.i c.loop-i.out c.loop-i.n c.loop-i-test.true c.loop-i.invariant.rest_is _ (sym c.in_default.is ∙ c.find.ensures ∙ ap (λ (d : Dict). find_row d.objects (comm_index c.loop-i.i)) c.d.view_is);
     }
 
 pub loop-i-preserved : goal.loop-i-preserved
 loop-i-preserved c =
-    let d : Dict = dict c.args.objects.now c.args.slots.now c.args.words.now c.args.bytes.now in
+    let d : Dict = c.args.d.now in
     let x = check_of d c.loop-i.i in
     let q : c.lay.new.out ≡ over c.loop-i.out c.loop-i.n (c.loop-i.i ∷ answer_number x ∷ element_of x ∷ []) =
     c.lay.ensures ∙ ap (λ a. over c.loop-i.out c.loop-i.n (c.loop-i.i ∷ answer_number a ∷ element_of a ∷ [])) c.check_judged-a.ensures
     in
     let rest : List ℕ = lines_from d (256 - (c.loop-i.i + 1)) (c.loop-i.i + 1) in
     record {
-      in_range = omega (arith, c.loop-i-test.true);
       few = omega (arith, c.loop-i.invariant.few);
-      same_length = c.lay.auto.out ∙ c.loop-i.invariant.same_length;
       rest_is =
           ap (λ o. laid_on rest o (c.loop-i.n + 3)) q
           ∙ sym
           (laid_line c.loop-i.out c.loop-i.n c.loop-i.i (answer_number x) (element_of x) rest
-          (omega (arith, c.loop-i-test.true, c.loop-i.invariant.few, c.loop-i.invariant.same_length, c.requires.in_bounds)))
-          ∙ turned d c.args.out.now 0 c.loop-i.i c.loop-i.out c.loop-i.n c.loop-i-test.true c.loop-i.invariant.rest_is _ (sym c.in-At.is ∙ c.find.ensures);
+          (omega (arith, c.loop-i-test.true, c.loop-i.invariant.few, c.loop-i.auto.out, c.requires)))
+          ∙ turned d c.args.out.now 0 c.loop-i.i c.loop-i.out c.loop-i.n c.loop-i-test.true c.loop-i.invariant.rest_is _ (sym c.in-Some.is ∙ c.find.ensures ∙ ap (λ (d : Dict). find_row d.objects (comm_index c.loop-i.i)) c.d.view_is);
     }
 
 pub returns : goal.returns
 returns c =
     sym (laid_none c.loop-i.out c.loop-i.n)
-    ∙ ap (λ x. laid_on x c.loop-i.out c.loop-i.n) (sym (lines_end (dict c.args.objects.now c.args.slots.now c.args.words.now c.args.bytes.now) 256 c.loop-i.i (omega (arith, c.loop-i-test.false)))) ∙ c.loop-i.invariant.rest_is
+    ∙ ap (λ x. laid_on x c.loop-i.out c.loop-i.n) (sym (lines_end c.args.d.now 256 c.loop-i.i (omega (arith, c.loop-i-test.false)))) ∙ c.loop-i.invariant.rest_is

@@ -7,7 +7,7 @@ use Rattle.aim.specs.declared.Aim.{Aim}
 use Rattle.element.proofs.explaining.of_word.Goals as goal
 
 pub overflow_cast-result : goal.overflow_cast-result
-overflow_cast-result c = omega (arith, (whole_field (entry_of c.args.word) (entry_in_range c.args.word) _ _ (sym (ap (λ (z : Aim). z.field) c.aim_of-a.ensures) ∙ c.in-Whole.is)).start_small)
+overflow_cast-result c = omega (arith, (whole_field (entry_of c.args.word) (entry_in_range c.args.word) _ _ (sym (ap (λ (z : Aim). z.field) c.aim_of-a.ensures) ∙ c.in-Some.is)).start_small)
 
 pub overflow_cast-result-2 : goal.overflow_cast-result-2
-overflow_cast-result-2 c = omega (arith, (whole_field (entry_of c.args.word) (entry_in_range c.args.word) _ _ (sym (ap (λ (z : Aim). z.field) c.aim_of-a.ensures) ∙ c.in-Whole.is)).length_small)
+overflow_cast-result-2 c = omega (arith, (whole_field (entry_of c.args.word) (entry_in_range c.args.word) _ _ (sym (ap (λ (z : Aim). z.field) c.aim_of-a.ensures) ∙ c.in-Some.is)).length_small)

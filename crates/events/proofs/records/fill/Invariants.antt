@@ -1,14 +1,9 @@
 -- `events::records::fill` meets its contract: the records so far are those that the log's numbers say. Assumes nothing.
 use mathlib.Core.Path.{◌≡◌}
-use Prim.Native.Nat.{◌-◌, ◌≤◌}
-use Rattle.events.proofs.RecordLaws.{stored}
+use mathlib.Core.List.{◌++◌}
+use lib.ListN.{drop}
+use Rattle.events.specs.Receive.{records_of}
 use Rattle.events.proofs.records.fill.Given as goal
 
 abbrev pub invariant-loop-i : goal.invariant-loop-i
-invariant-loop-i l = record {
-  within : l.i ≤ l.n;
-  stored : l.events ≡ stored l.log l.initial.events l.i;
-}
-
-abbrev pub decreases-loop-i : goal.decreases-loop-i
-decreases-loop-i l = l.n - l.i
+invariant-loop-i l = l.events ≡ records_of l.i l.log ++ drop l.i l.initial.events

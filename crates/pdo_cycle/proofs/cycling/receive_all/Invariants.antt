@@ -13,13 +13,9 @@ use Rattle.pdo_cycle.proofs.cycling.receive_all.Given as goal
 
 abbrev pub invariant-loop-i : goal.invariant-loop-i
 invariant-loop-i l = record {
-  within : l.i ≤ payloads_in l.payloads;
   room : l.n ≤ length l.log;
   held : well_formed (dict l.objects l.slots l.words l.bytes) ≡ true;
   sane : Bytes l.bytes;
   run : ended (cycle_from (delivery l.objects l.slots l.delivered l.payloads) (payloads_in l.payloads - l.i) l.i (contents l.words l.bytes) (length l.log - l.n)) l.log l.n l.i
       ≡ ended (cycle_from (delivery l.objects l.slots l.delivered l.payloads) (payloads_in l.payloads) 0 (contents l.initial.words l.initial.bytes) (length l.initial.log)) l.initial.log 0 0;
 }
-
-abbrev pub decreases-loop-i : goal.decreases-loop-i
-decreases-loop-i l = payloads_in l.payloads - l.i

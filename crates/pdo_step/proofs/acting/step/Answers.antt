@@ -32,8 +32,8 @@ decide-o-requires c = shape_of (dict c.args.objects.now c.args.slots.now c.args.
 pub returns-in_default-clause-held : goal.returns-in_default-clause-held
 returns-in_default-clause-held c = idle c.args.slots.now c.args.payload.now (contents c.args.words.now c.args.bytes.now) c.decide-o.result c.in_default.not-Stored
 
-pub overflow_add-end : goal.overflow_add-end
-overflow_add-end c = omega (arith, (by c.args.objects.now c.args.slots.now c.args.words.now c.args.bytes.now c.args.payload.now c.args.word _ _ _ _ c.decide-o.ensures c.in-Stored.is).small)
+pub overflow_add-start : goal.overflow_add-start
+overflow_add-start c = omega (arith, (by c.args.objects.now c.args.slots.now c.args.words.now c.args.bytes.now c.args.payload.now c.args.word _ _ _ _ c.decide-o.ensures c.in-Stored.is).small)
 
 pub slice_bounds-put_value-end : goal.slice_bounds-put_value-end
 slice_bounds-put_value-end c = omega (arith, (by c.args.objects.now c.args.slots.now c.args.words.now c.args.bytes.now c.args.payload.now c.args.word _ _ _ _ c.decide-o.ensures c.in-Stored.is).within)
