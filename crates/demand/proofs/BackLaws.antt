@@ -1,5 +1,6 @@
 -- Where what an answer of the check says (`Says`) is so, that is the answer. Of NoSender and NoList this is in NamedLaws.antt, of Pass in
 -- ExactLaws.antt. Assumes nothing.
+use Rattle.std.specs.Prelude.{Ok, Err}
 use mathlib.Core.Path.{◌≡◌, refl, ap, sym, ◌∙◌}
 use mathlib.Core.Bool.{Bool, true, false}
 use mathlib.Core.List.{List, [], ◌∷◌}
@@ -13,7 +14,6 @@ use Rattle.entry.specs.Table.{Dict, list_count, type_at}
 use Rattle.entry.specs.Judge.{well_formed}
 use Rattle.pdo_validator.specs.Counting.{ends_from}
 use Rattle.element.specs.declared.Fault.{Fault}
-use Rattle.element.specs.declared.Verdict.TheVariants.{Clean, Faulty}
 use Rattle.element.specs.Elements.{verdict_of}
 use Rattle.channel.specs.declared.Checked.{Checked}
 use Rattle.channel.specs.declared.Checked.TheVariants.{Element, TooFar, Refused}
@@ -29,13 +29,13 @@ malformed_back d i e = simp e
 
 -- ---- the first fault of some elements is the one named
 fault_there : (objects slots : List ℕ) (p : ℕ) (ws : List ℕ) (j : ℕ) (last : Checked) (k : ℕ) (v : Fault) → k < length ws
-    → ((m : ℕ) → m < k → verdict_of objects slots (type_at slots (p + (j + m))) (get_or ws m 0) ≡ Clean) → verdict_of objects slots (type_at slots (p + (j + k))) (get_or ws k 0) ≡ Faulty v
+    → ((m : ℕ) → m < k → verdict_of objects slots (type_at slots (p + (j + m))) (get_or ws m 0) ≡ (Ok tt)) → verdict_of objects slots (type_at slots (p + (j + k))) (get_or ws k 0) ≡ Err v
     → fault_from objects slots p ws j last ≡ Element (j + k + 1) v
 unfolding fault_from
 fault_there objects slots p [] j last k v h before q = absurd (omega (arith, h))
-fault_there objects slots p (w ∷ ws) j last zero v h before q = let e : verdict_of objects slots (type_at slots (p + j)) w ≡ Faulty v = rw add-zero at q in rw (e, add-zero)
+fault_there objects slots p (w ∷ ws) j last zero v h before q = let e : verdict_of objects slots (type_at slots (p + j)) w ≡ Err v = rw add-zero at q in rw (e, add-zero)
 fault_there objects slots p (w ∷ ws) j last (suc k) v h before q =
-    let c : verdict_of objects slots (type_at slots (p + j)) w ≡ Clean = rw add-zero at (before 0 (omega arith)) in
+    let c : verdict_of objects slots (type_at slots (p + j)) w ≡ (Ok tt) = rw add-zero at (before 0 (omega arith)) in
     let e : j + suc k ≡ j + 1 + k = omega arith in
     rw (c, e)
     (fault_there objects slots p ws (j + 1) last k v (omega (arith, h)) (λ m l. let z : j + suc m ≡ j + 1 + m = omega arith in rw z at (before (suc m) (omega (arith, l)))) (rw e at q))

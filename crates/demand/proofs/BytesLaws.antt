@@ -1,4 +1,6 @@
 -- Bytes stay bytes: of a dictionary of bytes, a call that is lent bytes leaves one. Assumes nothing.
+use Rattle.std.specs.Prelude.{Result, Ok, Err}
+use Rattle.answers.specs.declared.Refusal.{Refusal}
 use mathlib.Core.Path.{◌≡◌, refl, sym, ap, subst}
 use mathlib.Core.Bool.{Bool, true, false, cond, ◌&&◌}
 use mathlib.Core.List.{List, [], ◌∷◌, ◌++◌}
@@ -18,8 +20,6 @@ use Rattle.entry.proofs.PutLaws.{put_text, put_fixed}
 use Rattle.given.specs.declared.Head.{Head}
 use Rattle.given.specs.Given.{type_in, room_in, length_in, held, room_of, given, count_in, obj_in}
 use Rattle.placing.specs.Place.{inserted}
-use Rattle.insertion.specs.declared.Inserted.{Inserted}
-use Rattle.insertion.specs.declared.Inserted.TheVariants as inserting
 use Rattle.insertion.specs.Insert.{below, answer_of, memory_after, memory_of}
 use Rattle.writing.specs.declared.Judged.{Judged}
 use Rattle.writing.specs.declared.Judged.TheVariants as judged
@@ -28,11 +28,9 @@ use Rattle.writing.specs.Writing as writing
 use Rattle.writing.specs.Writing.{write_of}
 use Rattle.writing.proofs.PutLaws.{judged_facts}
 use Rattle.pdo_run.specs.Run.{Frame, frame, finished}
-use Rattle.pdo_handler.specs.declared.Consumed.TheVariants as consumed
 use Rattle.pdo_handler.specs.Consume as consume
 use Rattle.pdo_handler.specs.Consume.{received_by, consume_of}
 use Rattle.pdo_handler.proofs.ConsumeLaws.{received_sane}
-use Rattle.pdo_cycle.specs.declared.Cycle.TheVariants as cycles
 use Rattle.pdo_cycle.specs.Payloads.{payloads_in, are_shaped, are_placed, are_short}
 use Rattle.pdo_cycle.specs.Cycle as cycle
 use Rattle.pdo_cycle.specs.Cycle.{Delivery, delivery, cycle_from, ended, cycle_of}
@@ -116,9 +114,9 @@ insert_bytes h name vals encodings d bn be b = go (answer_of h name vals encodin
     laid : Bytes (all_bytes (insert_at i o (model_of d)))
     laid = all_bytes_lem (insert_at i o (model_of d)) (insert_each i o (model_of d) object (objects_bytes d b (number_of d.objects) 0))
 
-    go : (a : Inserted) → Bytes (memory_after a (inserted i o d) d).bytes
-    go inserting.Done = bytes_over d.bytes 0 (all_bytes (insert_at i o (model_of d))) (omega arith) b laid
-    go (inserting.Refused r) = b
+    go : (a : Result (Unit {0}) Refusal) → Bytes (memory_after a (inserted i o d) d).bytes
+    go (Ok _) = bytes_over d.bytes 0 (all_bytes (insert_at i o (model_of d))) (omega arith) b laid
+    go (Err r) = b
 
 -- ---- a write
 pub write_bytes : (d : Dict) (store : List ℕ) (x sub t : ℕ) (s : List ℕ) → well_formed d ≡ true → Bytes s → Bytes d.bytes → Bytes (write_of d store x sub t s).bytes
@@ -151,7 +149,7 @@ consume_bytes d payload sender version ready room log w bp b = rw w (go (ltb roo
     c : Contents
     c = contents d.words d.bytes
 
-    go : (x y : Bool) → Bytes (cond x (consume.after_consume (consumed.Refused NoEventRoom) c log) (cond y (consume.after_consume (consumed.Refused PayloadTooLong) c log) (consume.consume_done (finished (received_by f c version ready) log 0)))).contents.bytes
+    go : (x y : Bool) → Bytes (cond x (consume.after_consume (Err NoEventRoom) c log) (cond y (consume.after_consume (Err PayloadTooLong) c log) (consume.consume_done (finished (received_by f c version ready) log 0)))).contents.bytes
     go true y = b
     go false true = b
     go false false = (received_sane f bp c version ready (record { well = w; bytes = b })).bytes
@@ -171,7 +169,7 @@ cycle_bytes d delivered ps log w bd b = rw w (go (are_shaped ps && are_placed (l
         let x = cycle_from v (payloads_in ps) 0 c (length log) in
         subst (λ (y : Contents). Bytes y.bytes) (sym (from_turns v (payloads_in ps) 0 c (length log)).leaves) (turns_sane v bd 0 x.consumed c (record { well = w; bytes = b })).bytes
 
-    go : (x y : Bool) → Bytes (cond x (cond y (cycle.cycle_done (ended (cycle_from v (payloads_in ps) 0 c (length log)) log 0 0)) (cycle.after_cycle (cycles.Refused PayloadTooLong) c log)) (cycle.after_cycle (cycles.Refused BadValue) c log)).contents.bytes
+    go : (x y : Bool) → Bytes (cond x (cond y (cycle.cycle_done (ended (cycle_from v (payloads_in ps) 0 c (length log)) log 0 0)) (cycle.after_cycle (Err PayloadTooLong) c log)) (cycle.after_cycle (Err BadValue) c log)).contents.bytes
     go true true = consumed_bytes
     go true false = b
     go false y = b

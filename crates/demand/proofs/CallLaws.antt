@@ -1,8 +1,9 @@
 -- Each public call but a restore keeps every object's kind, element count, types and rooms. Assumes nothing.
+use Rattle.std.specs.Prelude.{Option, Some, None, Result, Ok, Err}
+use Rattle.answers.specs.declared.Refusal.{Refusal}
 use mathlib.Core.Path.{◌≡◌, refl, sym, ap, ◌∙◌}
 use mathlib.Core.Bool.{Bool, true, false, cond, ◌||◌}
 use mathlib.Core.List.{List, [], ◌∷◌}
-use mathlib.Core.Option.{Option, some, none}
 use Prim.Native.Nat.{ℕ, ◌+◌, ◌<◌}
 use native.Mathlib.Omega.{arith}
 use borrow.Author.Tests.{eqb-true, eqb-false}
@@ -14,15 +15,11 @@ use Rattle.entry.specs.Table.{Dict, dict, model_of, val_at, vals_from, obj_at, n
 use Rattle.entry.specs.Find.{find_row, object_of, object_in, nth}
 use Rattle.entry.specs.Judge.{well_formed}
 use Rattle.entry.specs.Put.{Contents, contents, filled}
-use Rattle.entry.specs.declared.Found.{Found}
-use Rattle.entry.specs.declared.Found.TheVariants.{At, Nothing}
 use Rattle.entry.proofs.FindLaws.{value_there}
 use Rattle.entry.proofs.JudgeLaws.{length_vals}
 use Rattle.entry.proofs.LookupLaws.{lookup_object}
 use Rattle.entry.proofs.ValueLaws.{found_lies, value_facts}
 use Rattle.given.specs.declared.Head.{Head}
-use Rattle.insertion.specs.declared.Inserted.{Inserted}
-use Rattle.insertion.specs.declared.Inserted.TheVariants.{Done, Refused}
 use Rattle.given.specs.Given.{obj_in}
 use Rattle.placing.specs.Place.{inserted}
 use Rattle.insertion.specs.Insert.{below, taken, answer_of, memory_after, memory_of}
@@ -87,7 +84,7 @@ shaped_trans d d' d'' a b x r f =
     }
 
 -- ---- the same object, at another place
-module _ (d d' : Dict) (w : well_formed d ≡ true) (w' : well_formed d' ≡ true) (x r r' : ℕ) (f : find_row d.objects x ≡ At r) (f' : find_row d'.objects x ≡ At r') (same : obj_at d' r' ≡ obj_at d r) where
+module _ (d d' : Dict) (w : well_formed d ≡ true) (w' : well_formed d' ≡ true) (x r r' : ℕ) (f : find_row d.objects x ≡ Some r) (f' : find_row d'.objects x ≡ Some r') (same : obj_at d' r' ≡ obj_at d r) where
   counted : count_at d'.objects r' ≡ count_at d.objects r
   counted =
       let v : vals_from d' (count_at d'.objects r' + default_at d'.objects r') (first_at d'.objects r') ≡ vals_from d (count_at d.objects r + default_at d.objects r) (first_at d.objects r) = ap (λ (o : Obj). o.values) same in
@@ -100,11 +97,11 @@ module _ (d d' : Dict) (w : well_formed d ≡ true) (w' : well_formed d' ≡ tru
       let v : nth (obj_at d' r').values k ≡ nth (obj_at d r).values k = ap (λ (o : Obj). nth o.values k) same in
       let a = value_there d' (count_at d'.objects r' + default_at d'.objects r') (first_at d'.objects r') k (omega (arith, counted, h)) in
       let b = value_there d (count_at d.objects r + default_at d.objects r) (first_at d.objects r) k (omega (arith, h)) in
-      let u : some (val_at d' (first_at d'.objects r' + k)) ≡ some (val_at d (first_at d.objects r + k)) = sym a ∙ v ∙ b in
+      let u : Some (val_at d' (first_at d'.objects r' + k)) ≡ Some (val_at d (first_at d.objects r + k)) = sym a ∙ v ∙ b in
       cc
 
   -- a room's bytes are as many as its slot says
-  roomy : (d : Dict) → well_formed d ≡ true → (r : ℕ) → find_row d.objects x ≡ At r → (k : ℕ) → k < count_at d.objects r → length (val_at d (first_at d.objects r + k)).room ≡ room_at d.slots (first_at d.objects r + k)
+  roomy : (d : Dict) → well_formed d ≡ true → (r : ℕ) → find_row d.objects x ≡ Some r → (k : ℕ) → k < count_at d.objects r → length (val_at d (first_at d.objects r + k)).room ≡ room_at d.slots (first_at d.objects r + k)
   roomy d w r f k h =
       let p = first_at d.objects r + k in
       let v = value_facts d w r k (found_lies d w x r f).below (omega (arith, h)) in
@@ -121,48 +118,48 @@ module _ (d d' : Dict) (w : well_formed d ≡ true) (w' : well_formed d' ≡ tru
   }
 
 -- ---- an insertion
-taken_there : (x : ℕ) (os : List Obj) (o : Obj) → object_of x os ≡ some o → taken x os ≡ true
+taken_there : (x : ℕ) (os : List Obj) (o : Obj) → object_of x os ≡ Some o → taken x os ≡ true
 unfolding object_of taken
 taken_there x [] o e = let z : ◌≡◌ {A = ℕ} 0 1 = cc in absurd (omega arith)
 taken_there x (p ∷ os) o e = go (eqb p.index x) (taken_there x os o) e
   where
-    go : (b : Bool) → (object_of x os ≡ some o → taken x os ≡ true) → cond b (some p) (object_of x os) ≡ some o → (b || taken x os) ≡ true
+    go : (b : Bool) → (object_of x os ≡ Some o → taken x os ≡ true) → cond b (Some p) (object_of x os) ≡ Some o → (b || taken x os) ≡ true
     go true rest q = refl
     go false rest q = rest q
 
 module _ (h : Head) (name vals encodings : List ℕ) (d : Dict) where
   -- an object that was there is there
-  object_stays : (x : ℕ) (o : Obj) → object_of x (model_of d) ≡ some o → object_of x (model_of (memory_of h name vals encodings d)) ≡ some o
+  object_stays : (x : ℕ) (o : Obj) → object_of x (model_of d) ≡ Some o → object_of x (model_of (memory_of h name vals encodings d)) ≡ Some o
   object_stays x o e = go (eqb h.index x) refl
     where
-      again : h.index ≡ x → (a : Inserted) → answer_of h name vals encodings d ≡ a → object_of x (model_of (memory_after a (inserted (below h.index (model_of d)) (obj_in h name vals encodings) d) d)) ≡ some o
-      again q Done a =
+      again : h.index ≡ x → (a : Result (Unit {0}) Refusal) → answer_of h name vals encodings d ≡ a → object_of x (model_of (memory_after a (inserted (below h.index (model_of d)) (obj_in h name vals encodings) d) d)) ≡ Some o
+      again q (Ok _) a =
           let free = (done_by h name vals encodings d a).free in
           let t : taken h.index (model_of d) ≡ true = rw q (taken_there x (model_of d) o e) in
           let z : ◌≡◌ {A = ℕ} 0 1 = cc in absurd (omega arith)
-      again q (Refused r) a = e
+      again q (Err r) a = e
 
-      go : (b : Bool) → eqb h.index x ≡ b → object_of x (model_of (memory_of h name vals encodings d)) ≡ some o
+      go : (b : Bool) → eqb h.index x ≡ b → object_of x (model_of (memory_of h name vals encodings d)) ≡ Some o
       go true q = again (eqb-true h.index x q) (answer_of h name vals encodings d) refl
       go false q = others_stay h name vals encodings d x (eqb-false h.index x q) ∙ e
 
   -- and the same
-  pub insert_same : (x r r' : ℕ) → find_row d.objects x ≡ At r → find_row (memory_of h name vals encodings d).objects x ≡ At r' → obj_at (memory_of h name vals encodings d) r' ≡ obj_at d r
+  pub insert_same : (x r r' : ℕ) → find_row d.objects x ≡ Some r → find_row (memory_of h name vals encodings d).objects x ≡ Some r' → obj_at (memory_of h name vals encodings d) r' ≡ obj_at d r
   insert_same x r r' f q =
       let d' = memory_of h name vals encodings d in
-      let there : object_in d (find_row d.objects x) ≡ some (obj_at d r) = ap (object_in d) f in
+      let there : object_in d (find_row d.objects x) ≡ Some (obj_at d r) = ap (object_in d) f in
       let e = lookup_object d' x ∙ object_stays x (obj_at d r) (sym (lookup_object d x) ∙ there) in
-      let s : some (obj_at d' r') ≡ some (obj_at d r) = sym (ap (object_in d') q) ∙ e in
+      let s : Some (obj_at d' r') ≡ Some (obj_at d r) = sym (ap (object_in d') q) ∙ e in
       cc
 
   pub insert_shaped : well_formed d ≡ true → Shaped d (memory_of h name vals encodings d)
   insert_shaped w x r f =
       let d' = memory_of h name vals encodings d in
-      let there : object_in d (find_row d.objects x) ≡ some (obj_at d r) = ap (object_in d) f in
+      let there : object_in d (find_row d.objects x) ≡ Some (obj_at d r) = ap (object_in d) f in
       go (find_row d'.objects x) refl (lookup_object d' x ∙ object_stays x (obj_at d r) (sym (lookup_object d x) ∙ there))
     where
-      go : (g : Found) → find_row (memory_of h name vals encodings d).objects x ≡ g → object_in (memory_of h name vals encodings d) (find_row (memory_of h name vals encodings d).objects x) ≡ some (obj_at d r) → SameRow d (memory_of h name vals encodings d) x r
-      go (At r') q e = same_row d (memory_of h name vals encodings d) w (stays h name vals encodings d w) x r r' f q (insert_same x r r' f q)
-      go Nothing q e =
-          let s : none ≡ some (obj_at d r) = sym (ap (object_in (memory_of h name vals encodings d)) q) ∙ e in
+      go : (g : Option ℕ) → find_row (memory_of h name vals encodings d).objects x ≡ g → object_in (memory_of h name vals encodings d) (find_row (memory_of h name vals encodings d).objects x) ≡ Some (obj_at d r) → SameRow d (memory_of h name vals encodings d) x r
+      go (Some r') q e = same_row d (memory_of h name vals encodings d) w (stays h name vals encodings d w) x r r' f q (insert_same x r r' f q)
+      go None q e =
+          let s : None ≡ Some (obj_at d r) = sym (ap (object_in (memory_of h name vals encodings d)) q) ∙ e in
           let z : ◌≡◌ {A = ℕ} 0 1 = cc in absurd (omega arith)

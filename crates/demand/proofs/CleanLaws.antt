@@ -1,4 +1,6 @@
 -- A clean word stores its field, whole, of every payload that is long enough and has good text there. Assumes nothing.
+use Rattle.std.specs.Prelude.{Option, Some, None, Ok, Err}
+use Rattle.mapping.specs.declared.Field.{Field}
 use mathlib.Core.Path.{◌≡◌, refl}
 use mathlib.Core.Bool.{Bool, true, false, cond, not, ◌&&◌}
 use mathlib.Core.List.{List}
@@ -8,12 +10,9 @@ use borrow.Author.Tests.{eqb-true, leb-true, le-ltb}
 use lib.Dec.{eqb, leb, ltb}
 use lib.ListN.{length}
 use Rattle.lists.proofs.NumberLaws.{part_length}
-use Rattle.text.specs.declared.Text.TheVariants.{Good}
 use Rattle.text.specs.Machine.{judge}
 use Rattle.value.specs.Codec.{is_text, size_of, text_word, word_at}
-use Rattle.mapping.specs.Word.{entry_of, field_of}
-use Rattle.mapping.specs.declared.Field.{Field}
-use Rattle.mapping.specs.declared.Field.TheVariants as field
+use Rattle.mapping.specs.Word.{entry_of, field_of, field_at}
 use Rattle.entry.specs.Table.{type_at, room_at}
 use Rattle.entry.specs.Find.{place_of}
 use Rattle.entry.specs.declared.Place.{Place}
@@ -24,7 +23,6 @@ use Rattle.aim.specs.declared.Class.TheVariants as class
 use Rattle.aim.proofs.ClassLaws.{value_class}
 use Rattle.pdo_step.specs.declared.Outcome.TheVariants.{Stored}
 use Rattle.pdo_step.specs.Outcomes.{part, on_value, outcome_of}
-use Rattle.element.specs.declared.Verdict.TheVariants.{Clean, Faulty}
 use Rattle.element.specs.declared.Fault.TheVariants as fault
 use Rattle.element.specs.Elements.{length_fits, on_target, on_field, word_verdict}
 use Rattle.demand.specs.Demand.{TextAt}
@@ -34,42 +32,42 @@ pub record CleanWord (objects slots : List ℕ) (w : ℕ) : Type 0 where
   pub target : ℕ
   pub start : ℕ
   pub len : ℕ
-  pub field : field_of (entry_of w) ≡ field.Whole start len
+  pub field : field_of (entry_of w) ≡ field_at start len
   pub away : between 0x1200 0x12FF (entry_of w).index ≡ false
   pub placed : place_of objects (entry_of w).index (entry_of w).sub_index ≡ Value target
   pub fits : length_fits (type_at slots target) (room_at slots target) len ≡ true
 
-pub clean_word : (objects slots : List ℕ) (w : ℕ) → word_verdict objects slots w ≡ Clean → CleanWord objects slots w
+pub clean_word : (objects slots : List ℕ) (w : ℕ) → word_verdict objects slots w ≡ (Ok tt) → CleanWord objects slots w
 unfolding word_verdict
 clean_word objects slots w e = fielded (field_of (entry_of w)) refl e
   where
     x : ℕ
     x = (entry_of w).index
 
-    length_is : (s n p : ℕ) → field_of (entry_of w) ≡ field.Whole s n → between 0x1200 0x12FF x ≡ false → place_of objects x (entry_of w).sub_index ≡ Value p
-        → (b : Bool) → length_fits (type_at slots p) (room_at slots p) n ≡ b → cond b Clean (Faulty fault.WrongLength) ≡ Clean → CleanWord objects slots w
+    length_is : (s n p : ℕ) → field_of (entry_of w) ≡ field_at s n → between 0x1200 0x12FF x ≡ false → place_of objects x (entry_of w).sub_index ≡ Value p
+        → (b : Bool) → length_fits (type_at slots p) (room_at slots p) n ≡ b → cond b (Ok (tt {0})) (Err fault.WrongLength) ≡ Ok (tt {0}) → CleanWord objects slots w
     length_is s n p f a q true l e = record { target = p; start = s; len = n; field = f; away = a; placed = q; fits = l }
     length_is s n p f a q false l e = let z : ◌≡◌ {A = ℕ} 0 1 = cc in absurd (omega arith)
 
-    target_is : (s n : ℕ) → field_of (entry_of w) ≡ field.Whole s n → between 0x1200 0x12FF x ≡ false → (q : Place) → place_of objects x (entry_of w).sub_index ≡ q → on_target slots n q ≡ Clean → CleanWord objects slots w
+    target_is : (s n : ℕ) → field_of (entry_of w) ≡ field_at s n → between 0x1200 0x12FF x ≡ false → (q : Place) → place_of objects x (entry_of w).sub_index ≡ q → on_target slots n q ≡ (Ok tt) → CleanWord objects slots w
     target_is s n f a NoObject q e = let z : ◌≡◌ {A = ℕ} 0 1 = cc in absurd (omega arith)
     target_is s n f a NoSub q e = let z : ◌≡◌ {A = ℕ} 0 1 = cc in absurd (omega arith)
     target_is s n f a (Count k) q e = let z : ◌≡◌ {A = ℕ} 0 1 = cc in absurd (omega arith)
     target_is s n f a (Value p) q e = length_is s n p f a q (length_fits (type_at slots p) (room_at slots p) n) refl e
 
-    range : (s n : ℕ) → field_of (entry_of w) ≡ field.Whole s n → (b : Bool) → between 0x1200 0x12FF x ≡ b → cond b (Faulty fault.HandOff) (on_target slots n (place_of objects x (entry_of w).sub_index)) ≡ Clean → CleanWord objects slots w
+    range : (s n : ℕ) → field_of (entry_of w) ≡ field_at s n → (b : Bool) → between 0x1200 0x12FF x ≡ b → cond b (Err fault.HandOff) (on_target slots n (place_of objects x (entry_of w).sub_index)) ≡ (Ok tt) → CleanWord objects slots w
     range s n f true a e = let z : ◌≡◌ {A = ℕ} 0 1 = cc in absurd (omega arith)
     range s n f false a e = target_is s n f a (place_of objects x (entry_of w).sub_index) refl e
 
-    fielded : (f : Field) → field_of (entry_of w) ≡ f → on_field objects slots (entry_of w) f ≡ Clean → CleanWord objects slots w
-    fielded field.Misaligned f e = let z : ◌≡◌ {A = ℕ} 0 1 = cc in absurd (omega arith)
-    fielded (field.Whole s n) f e = range s n f (between 0x1200 0x12FF x) refl e
+    fielded : (f : Option Field) → field_of (entry_of w) ≡ f → on_field objects slots (entry_of w) f ≡ (Ok tt) → CleanWord objects slots w
+    fielded None f e = let z : ◌≡◌ {A = ℕ} 0 1 = cc in absurd (omega arith)
+    fielded (Some v) f e = range v.start v.length f (between 0x1200 0x12FF x) refl e
 
 pub clean_class : (objects slots : List ℕ) (w : ℕ) (c : CleanWord objects slots w) → class_of (aim_of objects w) ≡ class.Value c.start c.len c.target
 clean_class objects slots w c = value_class (aim_of objects w) c.start c.len c.target (record { field = c.field; away = c.away; placed = c.placed })
 
 -- ---- a length that fits is decoded, and has room
-pub taken : (slots payload : List ℕ) (p start n : ℕ) → start + n ≤ length payload → length_fits (type_at slots p) (room_at slots p) n ≡ true → (type_at slots p ≡ 11 → judge (part payload start n) ≡ Good)
+pub taken : (slots payload : List ℕ) (p start n : ℕ) → start + n ≤ length payload → length_fits (type_at slots p) (room_at slots p) n ≡ true → (type_at slots p ≡ 11 → judge (part payload start n) ≡ (Ok tt))
     → on_value slots p start n (word_at (type_at slots p) (part payload start n)) ≡ Stored p start n
 unfolding word_at text_word
 taken slots payload p start n h fits good = go (is_text t) refl

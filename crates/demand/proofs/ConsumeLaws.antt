@@ -1,5 +1,6 @@
 -- Demand 3 of the call `consume_pdo_payload` (and `consume_by_value`, of the same contract): right after a pass, and after other calls.
 -- Assumes nothing.
+use Rattle.std.specs.Prelude.{Some}
 use mathlib.Core.Path.{◌≡◌, ap₂}
 use mathlib.Core.Bool.{Bool, true}
 use mathlib.Core.List.{List}
@@ -10,7 +11,6 @@ use Rattle.entry.specs.Table.{Dict, first_at}
 use Rattle.entry.specs.Find.{find_row}
 use Rattle.entry.specs.Judge.{well_formed}
 use Rattle.entry.specs.Put.{contents}
-use Rattle.entry.specs.declared.Found.TheVariants.{At}
 use Rattle.pdo_run.specs.Run.{frame, Ran, list_in}
 use Rattle.pdo_handler.specs.Consume.{AfterConsume}
 use Rattle.event.specs.declared.EventRecord.{EventRecord}
@@ -32,7 +32,7 @@ written_consumes d payload sender version ready es p ws w room short o =
 
 -- ---- right after the check; the list is in row r
 pub pass_consumes : (d : Dict) (i : ℕ) → check_of d i ≡ Pass → Bytes d.bytes → (payload : List ℕ) → Bytes payload → (sender version : ℕ) (ready : Bool) (es : List EventRecord) → 254 ≤ length es → (r : ℕ)
-    → find_row d.objects (0x1600 + i) ≡ At r → Admitted d i r payload sender version ready
+    → find_row d.objects (0x1600 + i) ≡ Some r → Admitted d i r payload sender version ready
     → Consumes d payload sender version ready es (first_at d.objects r) (list_in d.objects d.words r)
 pass_consumes d i e b payload bp sender version ready es room r found a =
     let s = passed d i e in
@@ -47,13 +47,13 @@ module _ (d : Dict) (i : ℕ) (e : check_of d i ≡ Pass) (b : Bytes d.bytes) (c
   d' = left_by cs d
 
   pub kept_consumes : Keeps d d' i → (payload : List ℕ) → Bytes payload → (sender version : ℕ) (ready : Bool) (es : List EventRecord) → 254 ≤ length es → (r : ℕ)
-      → find_row d'.objects (0x1600 + i) ≡ At r → Admitted d' i r payload sender version ready
+      → find_row d'.objects (0x1600 + i) ≡ Some r → Admitted d' i r payload sender version ready
       → Consumes d' payload sender version ready es (first_at d'.objects r) (list_in d'.objects d'.words r)
   kept_consumes keeps payload bp sender version ready es room r found a =
       written_consumes d' payload sender version ready es (first_at d'.objects r) (list_in d'.objects d'.words r) (pass_left d i e b cs g).well room a.short (pass_kept d i e b cs g keeps payload bp sender version ready 0 r found a)
 
   -- and, of calls that keep every shape, only the list's words have to be the same
   pub holds_consumes : AllShaping cs d → SameWords d d' i → (payload : List ℕ) → Bytes payload → (sender version : ℕ) (ready : Bool) (es : List EventRecord) → 254 ≤ length es → (r : ℕ)
-      → find_row d'.objects (0x1600 + i) ≡ At r → Admitted d' i r payload sender version ready
+      → find_row d'.objects (0x1600 + i) ≡ Some r → Admitted d' i r payload sender version ready
       → Consumes d' payload sender version ready es (first_at d'.objects r) (list_in d'.objects d'.words r)
   holds_consumes s same = kept_consumes (calls_hold d i e b cs g s same)

@@ -1,4 +1,5 @@
 -- The check passes exactly where demand 3 holds. Assumes nothing.
+use Rattle.std.specs.Prelude.{Option, Some, None}
 use mathlib.Core.Path.{◌≡◌, refl, sym, ap, ◌∙◌}
 use mathlib.Core.Bool.{Bool, true, false, cond, not, ◌&&◌, ◌||◌}
 use mathlib.Core.List.{List, [], ◌∷◌}
@@ -15,8 +16,6 @@ use Rattle.entry.specs.Table.{Dict, list_count, first_at, type_at}
 use Rattle.entry.specs.Find.{find_row}
 use Rattle.entry.specs.Judge.{well_formed}
 use Rattle.entry.specs.Put.{Contents, contents}
-use Rattle.entry.specs.declared.Found.{Found}
-use Rattle.entry.specs.declared.Found.TheVariants.{At, Nothing}
 use Rattle.entry.proofs.ValueLaws.{list_count_le, found_lies, elements_lie}
 use Rattle.pdo_validator.specs.Counting.{ends_from}
 use Rattle.pdo_channel.specs.Channel.{u8_at, matches_in, comm_index, channel_from, first_match, or_zero, expected_of}
@@ -53,7 +52,7 @@ clean_last objects slots p [] j last c = refl
 clean_last objects slots p (w ∷ ws) j last c = rw c.0 (clean_last objects slots p ws (j + 1) last c.1)
 
 -- ---- the list in a row: as many words as elements are used, and where they lie
-module _ (d : Dict) (e : well_formed d ≡ true) (x r : ℕ) (f : find_row d.objects x ≡ At r) where
+module _ (d : Dict) (e : well_formed d ≡ true) (x r : ℕ) (f : find_row d.objects x ≡ Some r) where
   abbrev n : ℕ
   n = list_count d.objects r
 
@@ -75,13 +74,13 @@ module _ (d : Dict) (e : well_formed d ≡ true) (x r : ℕ) (f : find_row d.obj
 -- ---- a channel's sender
 pub record SentBy (d : Dict) (i s : ℕ) : Type 0 where
   pub value : ℕ
-  pub sender : u8_at d (comm_index i) 1 ≡ At value
+  pub sender : u8_at d (comm_index i) 1 ≡ Some value
   pub same : sender_for value ≡ s
 
 sent : (d : Dict) (i s : ℕ) → matches_in s (u8_at d (comm_index i) 1) ≡ true → SentBy d i s
 sent d i s e = go (u8_at d (comm_index i) 1) refl e
   where
-    by : (v : ℕ) → u8_at d (comm_index i) 1 ≡ At v → (a b c t : Bool) → eqb v s ≡ a → eqb s 0 ≡ b → eqb v 0 ≡ c → eqb s 240 ≡ t → ((a && not b) || (c && t)) ≡ true → SentBy d i s
+    by : (v : ℕ) → u8_at d (comm_index i) 1 ≡ Some v → (a b c t : Bool) → eqb v s ≡ a → eqb s 0 ≡ b → eqb v 0 ≡ c → eqb s 240 ≡ t → ((a && not b) || (c && t)) ≡ true → SentBy d i s
     by v q a b true true k l m o e = record { value = v; sender = q; same = rw m (sym (eqb-true s 240 o)) }
     by v q true false false t k l m o e = record { value = v; sender = q; same = rw m (eqb-true v s k) }
     by v q true false true false k l m o e =
@@ -93,20 +92,20 @@ sent d i s e = go (u8_at d (comm_index i) 1) refl e
     by v q false b false t k l m o e = let z : ◌≡◌ {A = ℕ} 0 1 = cc in absurd (omega arith)
     by v q false b true false k l m o e = let z : ◌≡◌ {A = ℕ} 0 1 = cc in absurd (omega arith)
 
-    go : (g : Found) → u8_at d (comm_index i) 1 ≡ g → matches_in s g ≡ true → SentBy d i s
-    go Nothing q e = let z : ◌≡◌ {A = ℕ} 0 1 = cc in absurd (omega arith)
-    go (At v) q e = by v q (eqb v s) (eqb s 0) (eqb v 0) (eqb s 240) refl refl refl refl e
+    go : (g : Option ℕ) → u8_at d (comm_index i) 1 ≡ g → matches_in s g ≡ true → SentBy d i s
+    go None q e = let z : ◌≡◌ {A = ℕ} 0 1 = cc in absurd (omega arith)
+    go (Some v) q e = by v q (eqb v s) (eqb s 0) (eqb v 0) (eqb s 240) refl refl refl refl e
 
-channel_matches : (d : Dict) (s n k i : ℕ) → channel_from d s n k ≡ At i → matches_in s (u8_at d (comm_index i) 1) ≡ true
+channel_matches : (d : Dict) (s n k i : ℕ) → channel_from d s n k ≡ Some i → matches_in s (u8_at d (comm_index i) 1) ≡ true
 unfolding channel_from
 channel_matches d s zero k i e = let z : ◌≡◌ {A = ℕ} 0 1 = cc in absurd (omega arith)
 channel_matches d s (suc n) k i e = go (matches_in s (u8_at d (comm_index k) 1)) refl e (channel_matches d s n (suc k) i)
   where
-    go : (b : Bool) → matches_in s (u8_at d (comm_index k) 1) ≡ b → cond b (At k) (channel_from d s n (suc k)) ≡ At i → (channel_from d s n (suc k) ≡ At i → matches_in s (u8_at d (comm_index i) 1) ≡ true) → matches_in s (u8_at d (comm_index i) 1) ≡ true
+    go : (b : Bool) → matches_in s (u8_at d (comm_index k) 1) ≡ b → cond b (Some k) (channel_from d s n (suc k)) ≡ Some i → (channel_from d s n (suc k) ≡ Some i → matches_in s (u8_at d (comm_index i) 1) ≡ true) → matches_in s (u8_at d (comm_index i) 1) ≡ true
     go true q e ih = let u : k ≡ i = cc in rw (← u) q
     go false q e ih = ih e
 
-pub sent_by : (d : Dict) (i s : ℕ) → first_match d s ≡ At i → SentBy d i s
+pub sent_by : (d : Dict) (i s : ℕ) → first_match d s ≡ Some i → SentBy d i s
 sent_by d i s e = sent d i s (channel_matches d s 256 0 i e)
 
 -- ---- a pass admits a payload
@@ -125,9 +124,9 @@ sender_small v h = go (eqb v 0)
 version_small : (d : Dict) → well_formed d ≡ true → (i : ℕ) → expected_of d i < 256
 version_small d e i = go (u8_at d (comm_index i) 2) refl
   where
-    go : (g : Found) → u8_at d (comm_index i) 2 ≡ g → or_zero g < 256
-    go Nothing q = omega arith
-    go (At v) q = u8_small d e (comm_index i) 2 v q
+    go : (g : Option ℕ) → u8_at d (comm_index i) 2 ≡ g → or_zero g < 256
+    go None q = omega arith
+    go (Some v) q = u8_small d e (comm_index i) 2 v q
 
 pub pass_admits : (d : Dict) (i : ℕ) (e : check_of d i ≡ Pass) → Admits d i (passed d i e).row
 pass_admits d i e =
@@ -174,5 +173,5 @@ demand_pass d i e t =
     let long = list_length d e (0x1600 + i) r t.found in
     let few : m.end ≤ 1490 = m.least 1490 (omega arith) (λ k h. rw (sym (list_word d e (0x1600 + i) r t.found k h)) (omega (arith, a.short, long_at d.objects d.slots x.payload p ws 0 c a.long k (omega (arith, long, h))))) in
     let near : is_far (ends_from d.slots d.words (list_count d.objects r) p 0) ≡ false = ap is_far m.is ∙ le-ltb 1490 m.end few in
-    let first : first_match d (sender_for s.value) ≡ At i = ap (first_match d) s.same ∙ a.first in
+    let first : first_match d (sender_for s.value) ≡ Some i = ap (first_match d) s.same ∙ a.first in
     simp (e, s.sender, first, eq-eqb i i refl, t.found, t.list, t.some) (clean_last d.objects d.slots p ws 0 (last_of d r) c ∙ rw near)

@@ -1,4 +1,5 @@
 -- A channel that passes admits the payload of zeros that is just long enough. Assumes nothing.
+use Rattle.std.specs.Prelude.{Some, Ok}
 use mathlib.Core.Path.{◌≡◌, refl, sym, ap, ◌∙◌}
 use mathlib.Core.Bool.{Bool, true, false, cond}
 use mathlib.Core.List.{List, [], ◌∷◌}
@@ -8,12 +9,10 @@ use native.Mathlib.Omega.{arith}
 use borrow.Author.Tests.{eq-eqb, eqb-false, le-leb, lt-ltb, ltb-true, ltb-false}
 use lib.Dec.{eqb, ltb}
 use lib.ListN.{length, take, drop, get_or, replicate}
-use Rattle.text.specs.declared.Text.TheVariants.{Good}
 use Rattle.text.specs.Machine.{judge_at}
 use Rattle.mapping.specs.Word.{entry_of, end_of}
 use Rattle.entry.specs.Table.{type_at}
 use Rattle.pdo_validator.specs.Counting.{most, ends_from}
-use Rattle.pdo_validator.specs.declared.Mapped.TheVariants.{Upto}
 use Rattle.pdo_step.specs.Outcomes.{part}
 use Rattle.pdo_channel.specs.Channel.{right_version}
 use Rattle.demand.specs.Demand.{Long, TextAt, Texts}
@@ -37,7 +36,7 @@ zero_take zero s z = tt
 zero_take (suc n) [] z = tt
 zero_take (suc n) (b ∷ s) z = (z.0, zero_take n s z.1)
 
-zero_good : (k : ℕ) (s : List ℕ) → AllZero s → judge_at k [] s ≡ Good
+zero_good : (k : ℕ) (s : List ℕ) → AllZero s → judge_at k [] s ≡ Ok tt
 unfolding judge_at
 zero_good k [] z = refl
 zero_good k (b ∷ s) z = rw z.0 (zero_good (k + 1) s z.1)
@@ -60,7 +59,7 @@ right_same e = go (eqb e 0) refl
 -- ---- the largest end of a list of U64
 pub record Most (slots words : List ℕ) (n q a : ℕ) : Type 0 where
   pub end : ℕ
-  pub is : ends_from slots words n q a ≡ Upto end
+  pub is : ends_from slots words n q a ≡ Some end
   pub low : a ≤ end
   pub all : (k : ℕ) → k < n → end_of (entry_of (get_or words (q + k) 0)) ≤ end
   pub least : (b : ℕ) → a ≤ b → ((k : ℕ) → k < n → end_of (entry_of (get_or words (q + k) 0)) ≤ b) → end ≤ b

@@ -1,4 +1,5 @@
 -- An explanation shows the fault that the check names. Assumes nothing.
+use Rattle.std.specs.Prelude.{Err}
 use mathlib.Core.Path.{◌≡◌, refl, sym, ap, ◌∙◌}
 use mathlib.Core.Bool.{Bool, true, false, cond}
 use mathlib.Core.List.{List}
@@ -14,7 +15,6 @@ use Rattle.entry.specs.declared.Place.TheVariants.{Value}
 use Rattle.entry.proofs.ValueLaws.{list_count_le, found_lies}
 use Rattle.element.specs.declared.Fault.{Fault}
 use Rattle.element.specs.declared.Fault.TheVariants.{NotMapping}
-use Rattle.element.specs.declared.Verdict.TheVariants.{Faulty}
 use Rattle.channel.specs.declared.Checked.TheVariants.{Element}
 use Rattle.element.specs.declared.Explained.TheVariants.{Other}
 use Rattle.element.specs.Explain.{of_word, of_element, of_place, explain_of}
@@ -28,7 +28,7 @@ said_element : (objects slots : List ℕ) (t w : ℕ) → said_of (of_element ob
 unfolding word_verdict
 said_element objects slots t w = go (eqb t 8)
   where
-    go : (b : Bool) → said_of (cond b (of_word objects slots w) (Other t)) ≡ cond b (word_verdict objects slots w) (Faulty NotMapping)
+    go : (b : Bool) → said_of (cond b (of_word objects slots w) (Other t)) ≡ cond b (word_verdict objects slots w) (Err NotMapping)
     go true = refl
     go false = refl
 
@@ -38,7 +38,7 @@ unfolding sub_at
 element_there objects r k n list e h =
     rw (list, ne_eqb k 0 (λ z. omega (arith, z, e)), le-leb k (count_at objects r) (omega (arith, h, e))) (ap (λ m. Value (first_at objects r + m)) (omega (arith, e)))
 
-pub named_explained : (d : Dict) (i k : ℕ) (v : Fault) → check_of d i ≡ Element k v → said_of (explain_of d i k) ≡ Faulty v
+pub named_explained : (d : Dict) (i k : ℕ) (v : Fault) → check_of d i ≡ Element k v → said_of (explain_of d i k) ≡ Err v
 unfolding explain_of
 named_explained d i k v e =
     let n = named_never d i k v e in

@@ -1,4 +1,5 @@
 -- The fault that is named is the first: under an admitted payload the elements before it are written whole. Assumes nothing.
+use Rattle.std.specs.Prelude.{Ok}
 use mathlib.Core.Path.{◌≡◌, refl, sym, ap, ◌∙◌, subst}
 use mathlib.Core.Bool.{Bool, true, false}
 use mathlib.Core.List.{List, [], ◌∷◌, ◌++◌, append-nil}
@@ -16,7 +17,6 @@ use Rattle.pdo_run.proofs.RunLaws.{run_stops, run_on_lem}
 use Rattle.pdo_handler.specs.Consume.{consumed_by, received_by}
 use Rattle.pdo_handler.proofs.ConsumeLaws.{Sane, act_sane}
 use Rattle.element.specs.declared.Fault.{Fault}
-use Rattle.element.specs.declared.Verdict.TheVariants.{Clean}
 use Rattle.element.specs.Elements.{verdict_of}
 use Rattle.demand.specs.Demand.{Long, Texts, Admitted, put_word, put_all}
 use Rattle.demand.specs.Saying.{list_start, list_words, element_type, element_word, AllClean, Never}
@@ -24,7 +24,7 @@ use Rattle.demand.specs.First.{First, Told}
 use Rattle.demand.proofs.PassLaws.{clean_element, clean_step, clean_run}
 
 -- ---- the first n of some elements
-clean_front : (objects slots : List ℕ) (p : ℕ) (ws : List ℕ) (j n : ℕ) → n ≤ length ws → ((m : ℕ) → m < n → verdict_of objects slots (type_at slots (p + (j + m))) (get_or ws m 0) ≡ Clean) → AllClean objects slots p (take n ws) j
+clean_front : (objects slots : List ℕ) (p : ℕ) (ws : List ℕ) (j n : ℕ) → n ≤ length ws → ((m : ℕ) → m < n → verdict_of objects slots (type_at slots (p + (j + m))) (get_or ws m 0) ≡ (Ok tt)) → AllClean objects slots p (take n ws) j
 clean_front objects slots p ws j zero h c = tt
 clean_front objects slots p [] j (suc n) h c = absurd (omega (arith, h))
 clean_front objects slots p (w ∷ ws) j (suc n) h c =

@@ -1,4 +1,5 @@
 -- A pass holds until a restore, or until the channel's list changes: whatever other calls are made between. Assumes nothing.
+use Rattle.std.specs.Prelude.{Some, Ok, Err}
 use mathlib.Core.Path.{◌≡◌, refl, sym, subst}
 use mathlib.Core.Bool.{Bool, true, false, cond}
 use mathlib.Core.List.{List, [], ◌∷◌}
@@ -9,13 +10,11 @@ use Rattle.entry.specs.Table.{Dict, number_of, first_at}
 use Rattle.entry.specs.Find.{find_row}
 use Rattle.entry.specs.Judge.{well_formed}
 use Rattle.entry.specs.Put.{contents}
-use Rattle.entry.specs.declared.Found.TheVariants.{At}
 use Rattle.insertion.proofs.AnswerLaws.{stays}
 use Rattle.counter.specs.Counter.{counter_of}
 use Rattle.counter.proofs.CounterLaws.{counter_keeps}
 use Rattle.writing.proofs.PutLaws.{write_keeps}
 use Rattle.fitting.specs.Fit.{rows_fit}
-use Rattle.restoring.specs.declared.Restored.TheVariants.{Done, Refused}
 use Rattle.restoring.specs.Restore.{rows_restored, after_restore, restore_of}
 use Rattle.restoring.proofs.RestoreLaws.{restore_keeps}
 use Rattle.pdo_step.proofs.MarkLaws.{mark_keeps, mark_bytes}
@@ -47,14 +46,14 @@ call_keeps (restore s first last) d g k = let r = restore_keeps d s first last k
 
 -- ---- and each but a restore that is Done its shape
 -- R12.11: "a refused one ends none"
-pub refused_stays : (d : Dict) (s : List ℕ) (first last : ℕ) → ((restore_of d s first last).answer ≡ Done → ⊥) → (restore_of d s first last).memory ≡ d
+pub refused_stays : (d : Dict) (s : List ℕ) (first last : ℕ) → ((restore_of d s first last).answer ≡ (Ok tt) → ⊥) → (restore_of d s first last).memory ≡ d
 unfolding restore_of
 refused_stays d s first last n = go (well_formed d) (rows_fit d s first last (number_of d.objects) 0) n
   where
     e : Dict
     e = rows_restored d s first last (number_of d.objects) 0
 
-    go : (x y : Bool) → ((cond x (cond y (after_restore Done e) (after_restore (Refused TooLong) d)) (after_restore (Refused Malformed) d)).answer ≡ Done → ⊥) → (cond x (cond y (after_restore Done e) (after_restore (Refused TooLong) d)) (after_restore (Refused Malformed) d)).memory ≡ d
+    go : (x y : Bool) → ((cond x (cond y (after_restore (Ok tt) e) (after_restore (Err TooLong) d)) (after_restore (Err Malformed) d)).answer ≡ (Ok tt) → ⊥) → (cond x (cond y (after_restore (Ok tt) e) (after_restore (Err TooLong) d)) (after_restore (Err Malformed) d)).memory ≡ d
     go true true n = absurd (n refl)
     go true false n = refl
     go false y n = refl
@@ -88,7 +87,7 @@ module _ (d : Dict) (i : ℕ) (e : check_of d i ≡ Pass) (b : Bytes d.bytes) (c
   pub pass_left : Kept d'
   pass_left = calls_keep cs d g (record { well = (passed d i e).well; bytes = b })
 
-  pub pass_kept : Keeps d d' i → (payload : List ℕ) → Bytes payload → (sender version : ℕ) (ready : Bool) (m r : ℕ) → find_row d'.objects (0x1600 + i) ≡ At r → Admitted d' i r payload sender version ready
+  pub pass_kept : Keeps d d' i → (payload : List ℕ) → Bytes payload → (sender version : ℕ) (ready : Bool) (m r : ℕ) → find_row d'.objects (0x1600 + i) ≡ Some r → Admitted d' i r payload sender version ready
       → Written (frame d'.objects d'.slots payload sender m) (contents d'.words d'.bytes) version ready (first_at d'.objects r) (list_in d'.objects d'.words r)
   pass_kept keeps payload bp sender version ready m r found a = pass_lasts d d' i e keeps pass_left.well pass_left.bytes payload bp sender version ready m r found a
 
@@ -99,6 +98,6 @@ module _ (d : Dict) (i : ℕ) (e : check_of d i ≡ Pass) (b : Bytes d.bytes) (c
   pub calls_hold : AllShaping cs d → SameWords d d' i → Keeps d d' i
   calls_hold s same = shaped_keeps d d' i (passed d i e).well (shape_held s) same
 
-  pub pass_holds : AllShaping cs d → SameWords d d' i → (payload : List ℕ) → Bytes payload → (sender version : ℕ) (ready : Bool) (m r : ℕ) → find_row d'.objects (0x1600 + i) ≡ At r → Admitted d' i r payload sender version ready
+  pub pass_holds : AllShaping cs d → SameWords d d' i → (payload : List ℕ) → Bytes payload → (sender version : ℕ) (ready : Bool) (m r : ℕ) → find_row d'.objects (0x1600 + i) ≡ Some r → Admitted d' i r payload sender version ready
       → Written (frame d'.objects d'.slots payload sender m) (contents d'.words d'.bytes) version ready (first_at d'.objects r) (list_in d'.objects d'.words r)
   pass_holds s same = pass_kept (calls_hold s same)

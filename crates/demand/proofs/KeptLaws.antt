@@ -1,11 +1,11 @@
 -- Of an object that stays, the kept count changes by a write alone. Assumes nothing.
+use Rattle.std.specs.Prelude.{Some}
 use mathlib.Core.Path.{◌≡◌, refl, sym, ap, ◌∙◌}
 use mathlib.Core.List.{List}
 use Prim.Native.Nat.{ℕ}
 use Rattle.entry.specs.Model.{Obj}
 use Rattle.entry.specs.Table.{Dict, kept_at}
 use Rattle.entry.specs.Find.{find_row}
-use Rattle.entry.specs.declared.Found.TheVariants.{At}
 use Rattle.restoring.proofs.RestoreLaws.{restore_keeps}
 use Rattle.demand.specs.Lasting.{SameKept, Call, look, insert, write, increment-counter, update-pdo-error-object, consume-pdo-payload, consume-cycle, restore, left, Given, Kept, IsWrite}
 use Rattle.demand.proofs.CallLaws.{insert_same}
@@ -13,7 +13,7 @@ use Rattle.demand.proofs.CallLaws.{insert_same}
 -- the rows are as they were
 rows_kept : (d d' : Dict) → d'.objects ≡ d.objects → SameKept d d'
 rows_kept d d' e x r r' f f' =
-    let g : find_row d.objects x ≡ At r' = ap (λ o. find_row o x) (sym e) ∙ f' in
+    let g : find_row d.objects x ≡ Some r' = ap (λ o. find_row o x) (sym e) ∙ f' in
     let same : r' ≡ r = cc in
     ap (λ o. kept_at o r') e ∙ ap (kept_at d.objects) same
 

@@ -1,5 +1,6 @@
 -- A pass lasts: in a later dictionary that keeps the channel's list and what it maps, every payload admitted there is written whole.
 -- Assumes nothing.
+use Rattle.std.specs.Prelude.{Some, Ok}
 use mathlib.Core.Path.{◌≡◌, refl, sym, ap, ◌∙◌, subst}
 use mathlib.Core.Bool.{Bool, true, false}
 use mathlib.Core.List.{List, [], ◌∷◌}
@@ -15,12 +16,10 @@ use Rattle.entry.specs.Table.{Dict, kind_at, count_at, first_at, type_at, room_a
 use Rattle.entry.specs.Find.{find_row, sub_at, place_of}
 use Rattle.entry.specs.Judge.{well_formed}
 use Rattle.entry.specs.Put.{contents}
-use Rattle.entry.specs.declared.Found.TheVariants.{At}
 use Rattle.entry.specs.declared.Place.TheVariants.{Value}
 use Rattle.entry.proofs.ValueLaws.{list_count_le, found_lies, Element, element_of_lem}
 use Rattle.pdo_run.specs.Run.{frame, list_in}
 use Rattle.pdo_handler.specs.Consume.{consumed_by}
-use Rattle.element.specs.declared.Verdict.TheVariants.{Clean}
 use Rattle.channel.specs.declared.Checked.TheVariants.{Pass}
 use Rattle.element.specs.Elements.{word_verdict}
 use Rattle.channel.specs.Check.{check_of}
@@ -55,7 +54,7 @@ same_target d d' shape w x sub p q =
         (ap (λ n. Value (first_at d'.objects s.row + n)) (omega (arith, z)))
 
 -- ---- a clean word stays clean where its target is the same
-pub word_clean : (objects slots : List ℕ) (w : ℕ) → CleanWord objects slots w → word_verdict objects slots w ≡ Clean
+pub word_clean : (objects slots : List ℕ) (w : ℕ) → CleanWord objects slots w → word_verdict objects slots w ≡ Ok tt
 unfolding word_verdict
 word_clean objects slots w c = rw (c.field, c.away, c.placed, c.fits)
 
@@ -64,7 +63,7 @@ module _ (d d' : Dict) where
   abbrev Mapped : ℕ → Type 0
   Mapped w = (p : ℕ) → place_of d.objects (entry_of w).index (entry_of w).sub_index ≡ Value p → SameTarget d d' (entry_of w).index (entry_of w).sub_index p
 
-  kept_word : (w : ℕ) → Mapped w → word_verdict d.objects d.slots w ≡ Clean → word_verdict d'.objects d'.slots w ≡ Clean
+  kept_word : (w : ℕ) → Mapped w → word_verdict d.objects d.slots w ≡ (Ok tt) → word_verdict d'.objects d'.slots w ≡ Ok tt
   kept_word w same e =
       let c = clean_word d.objects d.slots w e in
       let t = same c.target c.placed in
@@ -80,7 +79,7 @@ module _ (d d' : Dict) where
 
   -- ---- the theorem: "The rest holds for every payload admitted in a later dictionary"; there the list is in row r
   pub pass_lasts : (i : ℕ) → check_of d i ≡ Pass → Keeps d d' i → well_formed d' ≡ true → Bytes d'.bytes → (payload : List ℕ) → Bytes payload → (sender version : ℕ) (ready : Bool) (m r : ℕ)
-      → find_row d'.objects (0x1600 + i) ≡ At r → Admitted d' i r payload sender version ready
+      → find_row d'.objects (0x1600 + i) ≡ Some r → Admitted d' i r payload sender version ready
       → Written (frame d'.objects d'.slots payload sender m) (contents d'.words d'.bytes) version ready (first_at d'.objects r) (list_in d'.objects d'.words r)
   unfolding consumed_by
   pass_lasts i e keeps w b payload bp sender version ready m r found a =

@@ -1,4 +1,5 @@
 -- What each answer of the check says (`says`), and that NoSender and NoList are said exactly there. Assumes nothing.
+use Rattle.std.specs.Prelude.{Option, Some, None, Result, Ok, Err}
 use mathlib.Core.Path.{◌≡◌, refl, sym, ap, ◌∙◌}
 use mathlib.Core.Bool.{Bool, true, false}
 use mathlib.Core.List.{List, [], ◌∷◌}
@@ -12,14 +13,10 @@ use lib.ListN.{length, get_or}
 use Rattle.entry.specs.Table.{Dict, kind_at, list_count, first_at, type_at}
 use Rattle.entry.specs.Find.{find_row}
 use Rattle.entry.specs.Judge.{well_formed}
-use Rattle.entry.specs.declared.Found.{Found}
-use Rattle.entry.specs.declared.Found.TheVariants.{At, Nothing}
 use Rattle.pdo_validator.specs.Counting.{ends_from}
 use Rattle.pdo_channel.specs.Channel.{u8_at, comm_index, first_match}
 use Rattle.pdo_run.specs.Run.{frame}
 use Rattle.element.specs.declared.Fault.{Fault}
-use Rattle.element.specs.declared.Verdict.{Verdict}
-use Rattle.element.specs.declared.Verdict.TheVariants.{Clean, Faulty}
 use Rattle.channel.specs.declared.Checked.{Checked}
 use Rattle.channel.specs.declared.Checked.TheVariants.{Pass, NoSender, NoList, Element, TooFar}
 use Rattle.element.specs.Elements.{verdict_of}
@@ -34,8 +31,8 @@ record FaultAt (objects slots : List ℕ) (p : ℕ) (ws : List ℕ) (j : ℕ) (l
   place : ℕ
   below : place < length ws
   fault : Fault
-  verdict : verdict_of objects slots (type_at slots (p + (j + place))) (get_or ws place 0) ≡ Faulty fault
-  before : (m : ℕ) → m < place → verdict_of objects slots (type_at slots (p + (j + m))) (get_or ws m 0) ≡ Clean
+  verdict : verdict_of objects slots (type_at slots (p + (j + place))) (get_or ws place 0) ≡ Err fault
+  before : (m : ℕ) → m < place → verdict_of objects slots (type_at slots (p + (j + m))) (get_or ws m 0) ≡ Ok tt
   is : fault_from objects slots p ws j last ≡ Element (j + place + 1) fault
 
 record Faultless (objects slots : List ℕ) (p : ℕ) (ws : List ℕ) (j : ℕ) (last : Checked) : Type 0 where
@@ -47,41 +44,41 @@ unfolding fault_from
 fault_view objects slots p [] j last = inr (record { clean = tt; is = refl })
 fault_view objects slots p (w ∷ ws) j last = go (verdict_of objects slots (type_at slots (p + j)) w) refl (fault_view objects slots p ws (j + 1) last)
   where
-    earlier : verdict_of objects slots (type_at slots (p + j)) w ≡ Clean → (r : FaultAt objects slots p ws (j + 1) last) (m : ℕ) → m < suc r.place → verdict_of objects slots (type_at slots (p + (j + m))) (get_or (w ∷ ws) m 0) ≡ Clean
+    earlier : verdict_of objects slots (type_at slots (p + j)) w ≡ (Ok tt) → (r : FaultAt objects slots p ws (j + 1) last) (m : ℕ) → m < suc r.place → verdict_of objects slots (type_at slots (p + (j + m))) (get_or (w ∷ ws) m 0) ≡ Ok tt
     earlier q r zero h = rw add-zero q
     earlier q r (suc m) h = let e : j + 1 + m ≡ j + suc m = omega arith in rw (← e) (r.before m (omega (arith, h)))
 
-    go : (v : Verdict) → verdict_of objects slots (type_at slots (p + j)) w ≡ v → FaultAt objects slots p ws (j + 1) last ⊎ Faultless objects slots p ws (j + 1) last
+    go : (v : Result (Unit {0}) Fault) → verdict_of objects slots (type_at slots (p + j)) w ≡ v → FaultAt objects slots p ws (j + 1) last ⊎ Faultless objects slots p ws (j + 1) last
         → FaultAt objects slots p (w ∷ ws) j last ⊎ Faultless objects slots p (w ∷ ws) j last
-    go (Faulty f) q r = inl (record { place = 0; below = omega arith; fault = f; verdict = rw add-zero q; before = λ m h. absurd (omega (arith, h)); is = rw (q, add-zero) })
-    go Clean q (inl r) =
+    go (Err f) q r = inl (record { place = 0; below = omega arith; fault = f; verdict = rw add-zero q; before = λ m h. absurd (omega (arith, h)); is = rw (q, add-zero) })
+    go (Ok _) q (inl r) =
         let e : j + 1 + r.place ≡ j + suc r.place = omega arith in
         inl (record { place = suc r.place; below = omega (arith, r.below); fault = r.fault; verdict = rw (← e) r.verdict; before = earlier q r; is = rw (q, ← e) r.is })
-    go Clean q (inr r) = inr (record { clean = (q, r.clean); is = rw q r.is })
+    go (Ok _) q (inr r) = inr (record { clean = (q, r.clean); is = rw q r.is })
 
 -- ---- a channel's sender
-no_sender : (d : Dict) (i : ℕ) → has_sender d i (u8_at d (comm_index i) 1) ≡ false → (s : ℕ) → first_match d s ≡ At i → ⊥
+no_sender : (d : Dict) (i : ℕ) → has_sender d i (u8_at d (comm_index i) 1) ≡ false → (s : ℕ) → first_match d s ≡ Some i → ⊥
 no_sender d i h s m =
     let b = sent_by d i s m in
-    let first : first_match d (sender_for b.value) ≡ At i = ap (first_match d) b.same ∙ m in
+    let first : first_match d (sender_for b.value) ≡ Some i = ap (first_match d) b.same ∙ m in
     let t : has_sender d i (u8_at d (comm_index i) 1) ≡ true = rw (b.sender, first) (eq-eqb i i refl) in
     let z : ◌≡◌ {A = ℕ} 0 1 = cc in absurd (omega arith)
 
 a_sender : (d : Dict) (i : ℕ) → well_formed d ≡ true → has_sender d i (u8_at d (comm_index i) 1) ≡ true → Sender d i
 a_sender d i w e = go (u8_at d (comm_index i) 1) refl e
   where
-    same : (v : ℕ) → u8_at d (comm_index i) 1 ≡ At v → (g : Found) → first_match d (sender_for v) ≡ g → is_at i g ≡ true → Sender d i
-    same v s Nothing m e = let z : ◌≡◌ {A = ℕ} 0 1 = cc in absurd (omega arith)
-    same v s (At j) m e = record { sender = sender_for v; a_sender = sender_small v (u8_small d w (comm_index i) 1 v s); first = m ∙ ap At (eqb-true j i e) }
+    same : (v : ℕ) → u8_at d (comm_index i) 1 ≡ Some v → (g : Option ℕ) → first_match d (sender_for v) ≡ g → is_at i g ≡ true → Sender d i
+    same v s None m e = let z : ◌≡◌ {A = ℕ} 0 1 = cc in absurd (omega arith)
+    same v s (Some j) m e = record { sender = sender_for v; a_sender = sender_small v (u8_small d w (comm_index i) 1 v s); first = m ∙ ap Some (eqb-true j i e) }
 
-    go : (g : Found) → u8_at d (comm_index i) 1 ≡ g → has_sender d i g ≡ true → Sender d i
-    go Nothing s e = let z : ◌≡◌ {A = ℕ} 0 1 = cc in absurd (omega arith)
-    go (At v) s e = same v s (first_match d (sender_for v)) refl e
+    go : (g : Option ℕ) → u8_at d (comm_index i) 1 ≡ g → has_sender d i g ≡ true → Sender d i
+    go None s e = let z : ◌≡◌ {A = ℕ} 0 1 = cc in absurd (omega arith)
+    go (Some v) s e = same v s (first_match d (sender_for v)) refl e
 
 pub sender_there : (d : Dict) (i : ℕ) → Sender d i → has_sender d i (u8_at d (comm_index i) 1) ≡ true
 sender_there d i s =
     let b = sent_by d i s.sender s.first in
-    let first : first_match d (sender_for b.value) ≡ At i = ap (first_match d) b.same ∙ s.first in
+    let first : first_match d (sender_for b.value) ≡ Some i = ap (first_match d) b.same ∙ s.first in
     rw (b.sender, first) (eq-eqb i i refl)
 
 -- ---- the theorem
@@ -95,13 +92,13 @@ module _ (d : Dict) (i : ℕ) where
   first_fault : (l : Listed d i) (f : FaultIn l) → Never d i (f.place + 1) f.fault
   first_fault l f =
       let n : 0 + f.place ≡ f.place = omega arith in
-      let v : verdict_at d l.row f.place ≡ Faulty f.fault = rw n at f.verdict in
+      let v : verdict_at d l.row f.place ≡ Err f.fault = rw n at f.verdict in
       record {
         listed = l;
         fault = record { place = f.place; below = f.below; verdict = v; before = λ m h. let z : 0 + m ≡ m = omega arith in rw z at (f.before m h) };
         element = refl;
         never = λ payload sender m c t h.
-            let w : verdict_at d l.row f.place ≡ Clean = rw (eq-eqb _ 8 t) (whole_clean (frame d.objects d.slots payload sender m) c _ h) in
+            let w : verdict_at d l.row f.place ≡ (Ok tt) = rw (eq-eqb _ 8 t) (whole_clean (frame d.objects d.slots payload sender m) c _ h) in
             let z : ◌≡◌ {A = ℕ} 0 1 = cc in absurd (omega arith);
       }
 
@@ -135,16 +132,16 @@ module _ (d : Dict) (i : ℕ) where
       elements h l (inl f) = let n : 0 + f.place ≡ f.place = omega arith in named (f.place + 1) f.fault (first_fault l f) (simp (l.well, h, l.found, l.list, l.some) (rw n at f.is))
       elements h l (inr f) = last h l f (is_far (ends_from d.slots d.words (list_count d.objects l.row) (first_at d.objects l.row) 0)) refl
 
-      some_of : well_formed d ≡ true → s ≡ true → (r : ℕ) → find_row d.objects x ≡ At r → (a b : Bool) → eqb (kind_at d.objects r) 0 ≡ a → eqb (list_count d.objects r) 0 ≡ b → Says d i
+      some_of : well_formed d ≡ true → s ≡ true → (r : ℕ) → find_row d.objects x ≡ Some r → (a b : Bool) → eqb (kind_at d.objects r) 0 ≡ a → eqb (list_count d.objects r) 0 ≡ b → Says d i
       some_of w h r f true b k n = listless (record { well = w; sent = a_sender d i w h; none = λ q g. let u : r ≡ q = cc in rw (← u, k) }) (simp (w, h, f, k))
       some_of w h r f false true k n = listless (record { well = w; sent = a_sender d i w h; none = λ q g. let u : r ≡ q = cc in rw (← u, k, n) }) (simp (w, h, f, k, n))
       some_of w h r f false false k n =
           let l : Listed d i = record { well = w; sent = a_sender d i w h; row = r; found = f; list = k; some = n } in
           elements h l (fault_view d.objects d.slots (list_start d r) (list_words d r) 0 (last_of d r))
 
-      list : well_formed d ≡ true → s ≡ true → (g : Found) → find_row d.objects x ≡ g → Says d i
-      list w h Nothing f = listless (record { well = w; sent = a_sender d i w h; none = λ r g. let z : ◌≡◌ {A = ℕ} 0 1 = cc in absurd (omega arith) }) (simp (w, h, f))
-      list w h (At r) f = some_of w h r f (eqb (kind_at d.objects r) 0) (eqb (list_count d.objects r) 0) refl refl
+      list : well_formed d ≡ true → s ≡ true → (g : Option ℕ) → find_row d.objects x ≡ g → Says d i
+      list w h None f = listless (record { well = w; sent = a_sender d i w h; none = λ r g. let z : ◌≡◌ {A = ℕ} 0 1 = cc in absurd (omega arith) }) (simp (w, h, f))
+      list w h (Some r) f = some_of w h r f (eqb (kind_at d.objects r) 0) (eqb (list_count d.objects r) 0) refl refl
 
       sender : well_formed d ≡ true → (b : Bool) → s ≡ b → Says d i
       sender w true h = list w h (find_row d.objects x) refl
@@ -215,6 +212,6 @@ module _ (d : Dict) (i : ℕ) where
   unfolding check_of
   unlisted_back u = go (find_row d.objects (0x1600 + i)) refl
     where
-      go : (g : Found) → find_row d.objects (0x1600 + i) ≡ g → check_of d i ≡ NoList
-      go Nothing f = simp (u.well, sender_there d i u.sent, f)
-      go (At r) f = simp (u.well, sender_there d i u.sent, f, u.none r f)
+      go : (g : Option ℕ) → find_row d.objects (0x1600 + i) ≡ g → check_of d i ≡ NoList
+      go None f = simp (u.well, sender_there d i u.sent, f)
+      go (Some r) f = simp (u.well, sender_there d i u.sent, f, u.none r f)

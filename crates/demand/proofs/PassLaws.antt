@@ -1,7 +1,7 @@
 -- What passes is written whole: each element of a clean list stores its field, in order, with no event. Assumes nothing.
+use Rattle.std.specs.Prelude.{None, Ok, Err}
 use mathlib.Core.Path.{◌≡◌, refl, ap, ◌∙◌, subst}
 use mathlib.Core.Bool.{Bool, true, false, cond}
-use mathlib.Core.Option.{none}
 use mathlib.Core.List.{List, [], ◌∷◌}
 use Prim.Native.Nat.{ℕ, ◌+◌, ◌≤◌}
 use native.Mathlib.Omega.{arith}
@@ -28,7 +28,6 @@ use Rattle.pdo_step.specs.Steps.{applied}
 use Rattle.pdo_run.specs.Run.{Frame, held, decided, act_of, ran, run_from}
 use Rattle.pdo_handler.proofs.ConsumeLaws.{Sane, act_sane}
 use Rattle.element.specs.declared.Fault.TheVariants as fault
-use Rattle.element.specs.declared.Verdict.TheVariants.{Clean, Faulty}
 use Rattle.element.specs.Elements.{length_fits, word_verdict, verdict_of}
 use Rattle.demand.specs.Demand.{Long, TextAt, Texts, Whole, put_word, put_all, AllWhole}
 use Rattle.demand.specs.Saying.{AllClean}
@@ -56,10 +55,10 @@ put_encodes d p s v b l = go (is_text t) refl
         ∙ rw (get_or-set_same d.words p (number (take (size_of t) s)) 0 v.word, take_all (size_of t) s (omega (arith, l x)), ← (l x)) (bytes_of-number s b)
 
 -- ---- a clean element is U64, and its word is clean
-pub clean_element : (objects slots : List ℕ) (t w : ℕ) → verdict_of objects slots t w ≡ Clean → (t ≡ 8) × (word_verdict objects slots w ≡ Clean)
+pub clean_element : (objects slots : List ℕ) (t w : ℕ) → verdict_of objects slots t w ≡ (Ok tt) → (t ≡ 8) × (word_verdict objects slots w ≡ (Ok tt))
 clean_element objects slots t w e = go (eqb t 8) refl e
   where
-    go : (b : Bool) → eqb t 8 ≡ b → cond b (word_verdict objects slots w) (Faulty fault.NotMapping) ≡ Clean → (t ≡ 8) × (word_verdict objects slots w ≡ Clean)
+    go : (b : Bool) → eqb t 8 ≡ b → cond b (word_verdict objects slots w) (Err fault.NotMapping) ≡ (Ok tt) → (t ≡ 8) × (word_verdict objects slots w ≡ (Ok tt))
     go true q r = (eqb-true t 8 q, r)
     go false q r = let z : ◌≡◌ {A = ℕ} 0 1 = cc in absurd (omega arith)
 
@@ -72,9 +71,9 @@ module _ (f : Frame) (b : Bytes f.payload) where
     pub whole : Whole f c w
     pub acts : act_of f c (decided f w) ≡ put_word f c w
     pub stays : (effect_of (decided f w)).stops ≡ false
-    pub silent : (effect_of (decided f w)).event ≡ none
+    pub silent : (effect_of (decided f w)).event ≡ None
 
-  pub clean_step : (c : Contents) (w : ℕ) → Sane f c → word_verdict f.objects f.slots w ≡ Clean → end_of (entry_of w) ≤ length f.payload → TextAt f.objects f.slots f.payload w → Steps c w
+  pub clean_step : (c : Contents) (w : ℕ) → Sane f c → word_verdict f.objects f.slots w ≡ (Ok tt) → end_of (entry_of w) ≤ length f.payload → TextAt f.objects f.slots f.payload w → Steps c w
   unfolding act_of applied
   clean_step c w s v l t =
       let k = clean_word f.objects f.slots w v in

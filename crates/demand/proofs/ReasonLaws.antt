@@ -1,5 +1,7 @@
 -- The true reason: what the step of a named element comes to is what its fault says, whatever the payload, if it reaches the element.
 -- Assumes nothing.
+use Rattle.std.specs.Prelude.{Option, Some, None, Result, Ok, Err}
+use Rattle.mapping.specs.declared.Field.{Field}
 use mathlib.Core.Path.{◌≡◌, refl, sym, ◌∙◌, subst}
 use mathlib.Core.Bool.{Bool, true, false, cond, ◌&&◌}
 use mathlib.Core.List.{List, [], ◌∷◌}
@@ -10,7 +12,6 @@ use native.Mathlib.Decide.{dec_lt}
 use borrow.Author.Tests.{eqb-true, eqb-false, ltb-true, ltb-false, le-ltb, le-leb}
 use lib.Dec.{eqb, ltb}
 use lib.ListN.{length, drop, get_or, take-append-drop}
-use Rattle.text.specs.declared.Text.TheVariants.{Good}
 use Rattle.text.specs.Utf8.{WellFormed, Stops, Means}
 use Rattle.text.specs.Machine.{judge}
 use Rattle.text.proofs.Agree.{means}
@@ -19,13 +20,9 @@ use Rattle.value.specs.Codec.{is_text, size_of, word_at}
 use Rattle.value.specs.Fault.{Tells}
 use Rattle.value.specs.declared.CodecFault.{CodecFault}
 use Rattle.value.specs.declared.CodecFault.TheVariants as cause
-use Rattle.value.specs.declared.Word.{Word}
-use Rattle.value.specs.declared.Word.TheVariants.{Takes, Fails}
 use Rattle.value.proofs.CodecLaws.{word_fixed}
 use Rattle.value.proofs.FaultLaws.{word_tells}
-use Rattle.mapping.specs.Word.{entry_of, field_of, end_of}
-use Rattle.mapping.specs.declared.Field.{Field}
-use Rattle.mapping.specs.declared.Field.TheVariants as field
+use Rattle.mapping.specs.Word.{entry_of, field_of, end_of, field_at}
 use Rattle.mapping.proofs.WordLaws.{whole_field, entry_in_range}
 use Rattle.entry.specs.Table.{Dict, type_at, room_at, is_mapping}
 use Rattle.entry.specs.Find.{place_of}
@@ -42,7 +39,6 @@ use Rattle.pdo_step.proofs.FormLaws.{on_place, on_index, outcome_form}
 use Rattle.pdo_run.specs.Run.{Frame, frame, decided, act_of}
 use Rattle.element.specs.declared.Fault.{Fault}
 use Rattle.element.specs.declared.Fault.TheVariants as fault
-use Rattle.element.specs.declared.Verdict.TheVariants.{Clean, Faulty}
 use Rattle.element.specs.Elements.{length_fits, on_target, on_field, word_verdict, verdict_of}
 use Rattle.demand.specs.Demand.{Long, TextAt, Admitted, Whole}
 use Rattle.demand.specs.Saying.{list_start, list_words, element_type, element_word, Never}
@@ -51,17 +47,17 @@ use Rattle.demand.proofs.WholeLaws.{not_odd, whole_clean}
 
 module _ (f : Frame) (c : Contents) (w : ℕ) (reach : end_of (entry_of w) ≤ length f.payload) where
   -- ---- the field is within the payload
-  inside : (s n : ℕ) → field_of (entry_of w) ≡ field.Whole s n → s + n ≤ length f.payload
+  inside : (s n : ℕ) → field_of (entry_of w) ≡ field_at s n → s + n ≤ length f.payload
   inside s n q = let k = whole_field (entry_of w) (entry_in_range w) s n q in omega (arith, k.end, reach)
 
-  reached : (s n : ℕ) → field_of (entry_of w) ≡ field.Whole s n → decided f w ≡ on_index f.objects f.slots f.payload (entry_of w) s n
+  reached : (s n : ℕ) → field_of (entry_of w) ≡ field_at s n → decided f w ≡ on_index f.objects f.slots f.payload (entry_of w) s n
   reached s n q = outcome_form f.objects f.slots f.payload w ∙ rw (q, le-ltb (length f.payload) (s + n) (inside s n q))
 
   -- ---- each fault of a word
-  misaligned : field_of (entry_of w) ≡ field.Misaligned → decided f w ≡ outcome.Misaligned
+  misaligned : field_of (entry_of w) ≡ None → decided f w ≡ outcome.Misaligned
   misaligned q = outcome_form f.objects f.slots f.payload w ∙ rw q
 
-  handed_off : (s n : ℕ) → field_of (entry_of w) ≡ field.Whole s n → between 0x1200 0x12FF (entry_of w).index ≡ true → HandedOff f w
+  handed_off : (s n : ℕ) → field_of (entry_of w) ≡ field_at s n → between 0x1200 0x12FF (entry_of w).index ≡ true → HandedOff f w
   unfolding on_index
   handed_off s n q a = go (between 0x1200 0x127F (entry_of w).index) refl (between 0x1280 0x12FF (entry_of w).index) refl
     where
@@ -70,11 +66,11 @@ module _ (f : Frame) (c : Contents) (w : ℕ) (reach : end_of (entry_of w) ≤ l
       go false b true e = client s n q (reached s n q ∙ rw (b, e))
       go false b false e = let u = joined_range (entry_of w).index b e in let z : ◌≡◌ {A = ℕ} 0 1 = cc in absurd (omega arith)
 
-  placed : (s n : ℕ) → field_of (entry_of w) ≡ field.Whole s n → between 0x1200 0x12FF (entry_of w).index ≡ false → (g : Place) → place_of f.objects (entry_of w).index (entry_of w).sub_index ≡ g → decided f w ≡ on_place f.slots f.payload (entry_of w).index s n g
+  placed : (s n : ℕ) → field_of (entry_of w) ≡ field_at s n → between 0x1200 0x12FF (entry_of w).index ≡ false → (g : Place) → place_of f.objects (entry_of w).index (entry_of w).sub_index ≡ g → decided f w ≡ on_place f.slots f.payload (entry_of w).index s n g
   unfolding on_index
   placed s n q a g e = reached s n q ∙ rw (no_server (entry_of w).index a, no_client (entry_of w).index a, e)
 
-  counted : (s n k : ℕ) → field_of (entry_of w) ≡ field.Whole s n → between 0x1200 0x12FF (entry_of w).index ≡ false → place_of f.objects (entry_of w).index (entry_of w).sub_index ≡ Count k → Counted f w
+  counted : (s n k : ℕ) → field_of (entry_of w) ≡ field_at s n → between 0x1200 0x12FF (entry_of w).index ≡ false → place_of f.objects (entry_of w).index (entry_of w).sub_index ≡ Count k → Counted f w
   unfolding on_count
   counted s n k q a e = go (eqb n 0) refl (is_mapping (entry_of w).index) refl
     where
@@ -83,7 +79,7 @@ module _ (f : Frame) (c : Contents) (w : ℕ) (reach : end_of (entry_of w) ≤ l
       go false b true m = ignored (placed s n q a (Count k) e ∙ rw (b, m))
       go false b false m = refused (placed s n q a (Count k) e ∙ rw (b, m))
 
-  misfit : (s n p : ℕ) → field_of (entry_of w) ≡ field.Whole s n → between 0x1200 0x12FF (entry_of w).index ≡ false → place_of f.objects (entry_of w).index (entry_of w).sub_index ≡ Value p
+  misfit : (s n p : ℕ) → field_of (entry_of w) ≡ field_at s n → between 0x1200 0x12FF (entry_of w).index ≡ false → place_of f.objects (entry_of w).index (entry_of w).sub_index ≡ Value p
       → length_fits (type_at f.slots p) (room_at f.slots p) n ≡ false → Misfit f c w p s n
   unfolding word_verdict
   misfit s n p q a e l = go (word_at (type_at f.slots p) (part f.payload s n)) refl
@@ -95,10 +91,10 @@ module _ (f : Frame) (c : Contents) (w : ℕ) (reach : end_of (entry_of w) ≤ l
       other : decided f w ≡ outcome.Stored p s n → encoding_in f.slots (act_of f c (decided f w)).words (act_of f c (decided f w)).bytes p ≡ part f.payload s n → ⊥
       other d h =
           let u = whole_clean f c w (record { target = p; start = s; len = n; field = q; stores = d; encodes = h }) in
-          let v : word_verdict f.objects f.slots w ≡ Faulty fault.WrongLength = rw (q, a, e, l) in
+          let v : word_verdict f.objects f.slots w ≡ Err fault.WrongLength = rw (q, a, e, l) in
           let z : ◌≡◌ {A = ℕ} 0 1 = cc in absurd (omega arith)
 
-      took : (v : ℕ) → word_at (type_at f.slots p) (part f.payload s n) ≡ Takes v → (b : Bool) → is_text (type_at f.slots p) ≡ b → (r : Bool) → ltb (room_at f.slots p) n ≡ r → Misfit f c w p s n
+      took : (v : ℕ) → word_at (type_at f.slots p) (part f.payload s n) ≡ Ok v → (b : Bool) → is_text (type_at f.slots p) ≡ b → (r : Bool) → ltb (room_at f.slots p) n ≡ r → Misfit f c w p s n
       took v k true b true r = over-room b (ltb-true _ _ r) (placed s n q a (Value p) e ∙ rw (k, b, r))
       took v k true b false r =
           let o = not_odd f.objects f.slots f.payload w p s n q p (inside s n q) b v k in
@@ -117,47 +113,47 @@ module _ (f : Frame) (c : Contents) (w : ℕ) (reach : end_of (entry_of w) ≤ l
           let u : length_fits (type_at f.slots p) (room_at f.slots p) n ≡ true = rw (y, le-leb n (room_at f.slots p) (ltb-false _ _ r)) in
           let z : ◌≡◌ {A = ℕ} 0 1 = cc in absurd (omega arith)
 
-      failed : (g : CodecFault) → word_at (type_at f.slots p) (part f.payload s n) ≡ Fails g → Tells (type_at f.slots p) (part f.payload s n) g → Misfit f c w p s n
+      failed : (g : CodecFault) → word_at (type_at f.slots p) (part f.payload s n) ≡ Err g → Tells (type_at f.slots p) (part f.payload s n) g → Misfit f c w p s n
       failed (cause.Value needed had) k y =
           too_short y.fixed (omega (arith, y.fewer, y.needed-is, y.had-is, size)) (placed s n q a (Value p) e ∙ rw (k, y.needed-is, y.had-is, size))
       failed (cause.Text at) k y = no_text y.visible (roomy y.visible (ltb (room_at f.slots p) n) refl) at y.stops (placed s n q a (Value p) e ∙ rw k)
       failed cause.Odd k y = odd y.unicode (rw size at y.odd) (placed s n q a (Value p) e ∙ rw k)
 
-      go : (g : Word) → word_at (type_at f.slots p) (part f.payload s n) ≡ g → Misfit f c w p s n
-      go (Fails g) k = failed g k (word_tells (type_at f.slots p) (part f.payload s n) g k)
-      go (Takes v) k = took v k (is_text (type_at f.slots p)) refl (ltb (room_at f.slots p) n) refl
+      go : (g : Result ℕ CodecFault) → word_at (type_at f.slots p) (part f.payload s n) ≡ g → Misfit f c w p s n
+      go (Err g) k = failed g k (word_tells (type_at f.slots p) (part f.payload s n) g k)
+      go (Ok v) k = took v k (is_text (type_at f.slots p)) refl (ltb (room_at f.slots p) n) refl
 
   -- ---- and which of them it is
-  word_reason : (t : ℕ) (v : Fault) → t ≡ 8 → word_verdict f.objects f.slots w ≡ Faulty v → Reason v f c t w
+  word_reason : (t : ℕ) (v : Fault) → t ≡ 8 → word_verdict f.objects f.slots w ≡ Err v → Reason v f c t w
   unfolding word_verdict
   word_reason t v y e = fielded (field_of (entry_of w)) refl e
     where
-      is : (g : Fault) → Faulty g ≡ Faulty v → Reason g f c t w → Reason v f c t w
+      is : (g : Fault) → ◌≡◌ {A = Result (Unit {0}) Fault} (Err g) (Err v) → Reason g f c t w → Reason v f c t w
       is g q r = let u : g ≡ v = cc in subst (λ (h : Fault). Reason h f c t w) u r
 
-      length_is : (s n p : ℕ) → field_of (entry_of w) ≡ field.Whole s n → between 0x1200 0x12FF (entry_of w).index ≡ false → place_of f.objects (entry_of w).index (entry_of w).sub_index ≡ Value p
-          → (b : Bool) → length_fits (type_at f.slots p) (room_at f.slots p) n ≡ b → cond b Clean (Faulty fault.WrongLength) ≡ Faulty v → Reason v f c t w
+      length_is : (s n p : ℕ) → field_of (entry_of w) ≡ field_at s n → between 0x1200 0x12FF (entry_of w).index ≡ false → place_of f.objects (entry_of w).index (entry_of w).sub_index ≡ Value p
+          → (b : Bool) → length_fits (type_at f.slots p) (room_at f.slots p) n ≡ b → cond b (Ok (tt {0})) (Err fault.WrongLength) ≡ Err v → Reason v f c t w
       length_is s n p q a g true l e = let z : ◌≡◌ {A = ℕ} 0 1 = cc in absurd (omega arith)
       length_is s n p q a g false l e = is fault.WrongLength e (record { target = p; start = s; len = n; class = value_class (aim_of f.objects w) s n p (record { field = q; away = a; placed = g }); how = misfit s n p q a g l })
 
-      target_is : (s n : ℕ) → field_of (entry_of w) ≡ field.Whole s n → between 0x1200 0x12FF (entry_of w).index ≡ false → (g : Place) → place_of f.objects (entry_of w).index (entry_of w).sub_index ≡ g → on_target f.slots n g ≡ Faulty v → Reason v f c t w
+      target_is : (s n : ℕ) → field_of (entry_of w) ≡ field_at s n → between 0x1200 0x12FF (entry_of w).index ≡ false → (g : Place) → place_of f.objects (entry_of w).index (entry_of w).sub_index ≡ g → on_target f.slots n g ≡ Err v → Reason v f c t w
       target_is s n q a NoObject g e = is fault.NoTarget e (placed s n q a NoObject g)
       target_is s n q a NoSub g e = is fault.NoTarget e (placed s n q a NoSub g)
       target_is s n q a (Count k) g e = is fault.CountTarget e (counted s n k q a g)
       target_is s n q a (Value p) g e = length_is s n p q a g (length_fits (type_at f.slots p) (room_at f.slots p) n) refl e
 
-      range : (s n : ℕ) → field_of (entry_of w) ≡ field.Whole s n → (b : Bool) → between 0x1200 0x12FF (entry_of w).index ≡ b → cond b (Faulty fault.HandOff) (on_target f.slots n (place_of f.objects (entry_of w).index (entry_of w).sub_index)) ≡ Faulty v → Reason v f c t w
+      range : (s n : ℕ) → field_of (entry_of w) ≡ field_at s n → (b : Bool) → between 0x1200 0x12FF (entry_of w).index ≡ b → cond b (Err fault.HandOff) (on_target f.slots n (place_of f.objects (entry_of w).index (entry_of w).sub_index)) ≡ Err v → Reason v f c t w
       range s n q true a e = is fault.HandOff e (handed_off s n q a)
       range s n q false a e = target_is s n q a (place_of f.objects (entry_of w).index (entry_of w).sub_index) refl e
 
-      fielded : (g : Field) → field_of (entry_of w) ≡ g → on_field f.objects f.slots (entry_of w) g ≡ Faulty v → Reason v f c t w
-      fielded field.Misaligned q e = is fault.Misaligned e (misaligned q)
-      fielded (field.Whole s n) q e = range s n q (between 0x1200 0x12FF (entry_of w).index) refl e
+      fielded : (g : Option Field) → field_of (entry_of w) ≡ g → on_field f.objects f.slots (entry_of w) g ≡ Err v → Reason v f c t w
+      fielded None q e = is fault.Misaligned e (misaligned q)
+      fielded (Some v) q e = range v.start v.length q (between 0x1200 0x12FF (entry_of w).index) refl e
 
-pub reason : (f : Frame) (c : Contents) (t w : ℕ) (v : Fault) → verdict_of f.objects f.slots t w ≡ Faulty v → (t ≡ 8 → end_of (entry_of w) ≤ length f.payload) → Reason v f c t w
+pub reason : (f : Frame) (c : Contents) (t w : ℕ) (v : Fault) → verdict_of f.objects f.slots t w ≡ Err v → (t ≡ 8 → end_of (entry_of w) ≤ length f.payload) → Reason v f c t w
 reason f c t w v e reach = go (eqb t 8) refl e
   where
-    go : (b : Bool) → eqb t 8 ≡ b → cond b (word_verdict f.objects f.slots w) (Faulty fault.NotMapping) ≡ Faulty v → Reason v f c t w
+    go : (b : Bool) → eqb t 8 ≡ b → cond b (word_verdict f.objects f.slots w) (Err fault.NotMapping) ≡ Err v → Reason v f c t w
     go true q e = word_reason f c w (reach (eqb-true t 8 q)) t v (eqb-true t 8 q) e
     go false q e = let u : fault.NotMapping ≡ v = cc in subst (λ (h : Fault). Reason h f c t w) u (eqb-false t 8 q)
 
@@ -183,7 +179,7 @@ admitted_outcome d i k v n payload sender version ready m c a =
     named_outcome d i k v n payload sender m c (λ t. long_reaches d.slots payload (list_start d r) (list_words d r) 0 a.long place n.fault.below (rw z t))
 
 -- what stops being text is none
-stopped : (s : List ℕ) (k : ℕ) → Stops s k → judge s ≡ Good → ⊥
+stopped : (s : List ℕ) (k : ℕ) → Stops s k → judge s ≡ (Ok tt) → ⊥
 stopped s k h g = go (dec_lt k (length s))
   where
     text : WellFormed s

@@ -1,5 +1,6 @@
 -- R11.8: "of two fields with one target the later stands": after a payload that is written, a target encodes the last field that is mapped onto it, and
 -- what no element maps is encoded as before. Assumes nothing.
+use Rattle.mapping.proofs.WordLaws.{same_field}
 use mathlib.Core.Path.{◌≡◌, refl, sym, ap, ◌∙◌, subst}
 use mathlib.Core.Bool.{Bool, true, false}
 use mathlib.Core.Logic.{◌≢◌}
@@ -11,8 +12,7 @@ use lib.Seq.{take-take}
 use Rattle.lists.specs.Numbers.{Bytes}
 use Rattle.value.specs.Codec.{is_text, encoding}
 use Rattle.value.proofs.CodecLaws.{encoding_fixed}
-use Rattle.mapping.specs.Word.{entry_of, field_of}
-use Rattle.mapping.specs.declared.Field.TheVariants as field
+use Rattle.mapping.specs.Word.{entry_of, field_of, field_at}
 use Rattle.entry.specs.Model.{Val}
 use Rattle.entry.specs.Table.{Dict, values_of, val_at, type_at, start_at, room_at}
 use Rattle.entry.specs.Find.{place_of}
@@ -96,7 +96,7 @@ module _ (f : Frame) (b : Bytes f.payload) where
 
   -- ---- the theorem: element k + 1 is the last that maps q
   pub later_stands : (p : ℕ) (ws : List ℕ) (j : ℕ) (c : Contents) → Sane f c → AllWhole f p ws j c → (k : ℕ) → k < length ws → (q start n : ℕ)
-      → field_of (entry_of (get_or ws k 0)) ≡ field.Whole start n → place_of f.objects (entry_of (get_or ws k 0)).index (entry_of (get_or ws k 0)).sub_index ≡ Value q
+      → field_of (entry_of (get_or ws k 0)) ≡ field_at start n → place_of f.objects (entry_of (get_or ws k 0)).index (entry_of (get_or ws k 0)).sub_index ≡ Value q
       → ((m : ℕ) → k < m → m < length ws → place_of f.objects (entry_of (get_or ws m 0)).index (entry_of (get_or ws m 0)).sub_index ≡ Value q → ⊥)
       → encoding_in f.slots (put_all f ws c).words (put_all f ws c).bytes q ≡ part f.payload start n
   unfolding put_all
@@ -105,18 +105,17 @@ module _ (f : Frame) (b : Bytes f.payload) where
       let h = a.1 in
       let u = whole_puts c w h in
       let eq : h.target ≡ q = cc in
-      let es : h.start ≡ start = cc in
-      let en : h.len ≡ n = cc in
+      let fl = same_field h.start h.len start n (sym h.field ∙ fi) in
       let v = element_facts (held f c) s.well (element_of_lem (held f c) s.well (entry_of w).index (entry_of w).sub_index q pl) in
       others_stay p ws (j + 1) (put_word f c w) (next c w h s) a.2 q v.below (λ m g. la (suc m) (omega arith) (omega (arith, g)))
       ∙ ap (λ (k : Contents). encoding_in f.slots k.words k.bytes q) (sym u.acts)
-      ∙ rw (eq, es, en) at h.encodes
+      ∙ rw (eq, fl.0, fl.1) at h.encodes
   later_stands p (w ∷ ws) j c s a (suc k) l q start n fi pl la =
       later_stands p ws (j + 1) (put_word f c w) (next c w a.1 s) a.2 k (omega (arith, l)) q start n fi pl (λ m g o. la (suc m) (omega (arith, g)) (omega (arith, o)))
 
 -- ---- of the call: the last element that maps an index and a sub-index is what is read there afterwards
 pub consumes_stand : (d : Dict) → well_formed d ≡ true → Bytes d.bytes → (payload : List ℕ) → Bytes payload → (sender version : ℕ) (ready : Bool) (es : List EventRecord) (p : ℕ) (ws : List ℕ) → Consumes d payload sender version ready es p ws
-    → (k : ℕ) → k < length ws → (q start n : ℕ) → let e = entry_of (get_or ws k 0) in field_of e ≡ field.Whole start n → place_of d.objects e.index e.sub_index ≡ Value q
+    → (k : ℕ) → k < length ws → (q start n : ℕ) → let e = entry_of (get_or ws k 0) in field_of e ≡ field_at start n → place_of d.objects e.index e.sub_index ≡ Value q
     → ((m : ℕ) → k < m → m < length ws → (entry_of (get_or ws m 0)).index ≡ e.index → (entry_of (get_or ws m 0)).sub_index ≡ e.sub_index → ⊥)
     → let c = (received_of d payload sender version ready es).contents in encoding_in d.slots c.words c.bytes q ≡ part payload start n
 consumes_stand d w b payload bp sender version ready es p ws u k l q start n fi pl la =

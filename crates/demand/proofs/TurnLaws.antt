@@ -1,4 +1,7 @@
 -- Demand 3 of a payload's turn in the call `consume_cycle`: right after a pass, and after other calls and other turns. Assumes nothing.
+use Rattle.std.specs.Prelude.{Some, Result, Ok, Err}
+use Rattle.answers.specs.declared.Refusal.{Refusal}
+use Rattle.pdo_cycle.specs.declared.Cycle.{Cycle}
 use mathlib.Core.Path.{◌≡◌, refl, sym, ap, ◌∙◌, subst}
 use mathlib.Core.Bool.{Bool, true, false, cond, ◌&&◌}
 use mathlib.Core.List.{List, [], ◌++◌, append_assoc, append-nil}
@@ -15,11 +18,9 @@ use Rattle.entry.specs.Table.{Dict, first_at}
 use Rattle.entry.specs.Find.{find_row}
 use Rattle.entry.specs.Judge.{well_formed}
 use Rattle.entry.specs.Put.{Contents, contents}
-use Rattle.entry.specs.declared.Found.TheVariants.{At}
 use Rattle.pdo_run.specs.Run.{Ran, list_in}
-use Rattle.pdo_cycle.specs.declared.Cycle.TheVariants.{Done, Refused}
 use Rattle.pdo_cycle.specs.Payloads.{start_of, length_of, sender_of, version_of, ready_of, payload_of, payloads_in, are_shaped, are_placed, are_short}
-use Rattle.pdo_cycle.specs.Cycle.{Delivery, received_at, cycled, cycle_from, ended, AfterCycle, after_cycle, cycle_done, cycle_of}
+use Rattle.pdo_cycle.specs.Cycle.{Delivery, received_at, cycled, cycle_from, ended, AfterCycle, after_cycle, cycle_done, cycle_of, tallied}
 use Rattle.channel.specs.declared.Checked.TheVariants.{Pass}
 use Rattle.channel.specs.Check.{check_of}
 use Rattle.demand.specs.Demand.{Admitted, Written}
@@ -32,7 +33,12 @@ use Rattle.demand.proofs.CycleLaws.{from_turns, turns_sane}
 use Rattle.demand.proofs.HoldLaws.{calls_keep, pass_left, shape_held}
 
 -- ---- a cycle that is Done is its turns
-cycle_done_lem : (d : Dict) (delivered ps log : List ℕ) (n m : ℕ) → (cycle_of d delivered ps log).answer ≡ Done n m
+same_tally : (a b c d : ℕ) → tallied a b ≡ tallied c d → (a ≡ c) × (b ≡ d)
+same_tally a b c d h =
+    let part : (Cycle → ℕ) → Result Cycle Refusal → ℕ = λ f. elim [ Ok v ↦ f v | Err r ↦ 0 ] in
+    (ap (part (λ (v : Cycle). v.consumed)) h, ap (part (λ (v : Cycle). v.events)) h)
+
+cycle_done_lem : (d : Dict) (delivered ps log : List ℕ) (n m : ℕ) → (cycle_of d delivered ps log).answer ≡ tallied n m
     → cycle_of d delivered ps log ≡ cycle_done (ended (cycle_from (delivery_of d delivered ps) (payloads_in ps) 0 (contents d.words d.bytes) (length log)) log 0 0)
 unfolding cycle_of
 cycle_done_lem d delivered ps log n m e = go (well_formed d) (are_shaped ps && are_placed (length delivered) ps) (are_short ps) e
@@ -43,29 +49,27 @@ cycle_done_lem d delivered ps log n m e = go (well_formed d) (are_shaped ps && a
     whole : AfterCycle
     whole = cycle_done (ended (cycle_from (delivery_of d delivered ps) (payloads_in ps) 0 c (length log)) log 0 0)
 
-    go : (x y z : Bool) → (cond x (cond y (cond z whole (after_cycle (Refused PayloadTooLong) c log)) (after_cycle (Refused BadValue) c log)) (after_cycle (Refused Malformed) c log)).answer ≡ Done n m
-        → cond x (cond y (cond z whole (after_cycle (Refused PayloadTooLong) c log)) (after_cycle (Refused BadValue) c log)) (after_cycle (Refused Malformed) c log) ≡ whole
+    go : (x y z : Bool) → (cond x (cond y (cond z whole (after_cycle (Err PayloadTooLong) c log)) (after_cycle (Err BadValue) c log)) (after_cycle (Err Malformed) c log)).answer ≡ tallied n m
+        → cond x (cond y (cond z whole (after_cycle (Err PayloadTooLong) c log)) (after_cycle (Err BadValue) c log)) (after_cycle (Err Malformed) c log) ≡ whole
     go true true true e = refl
     go true true false e = let z : ◌≡◌ {A = ℕ} 0 1 = cc in absurd (omega arith)
     go true false z e = let z : ◌≡◌ {A = ℕ} 0 1 = cc in absurd (omega arith)
     go false y z e = let z : ◌≡◌ {A = ℕ} 0 1 = cc in absurd (omega arith)
 
-pub turns : (d : Dict) (delivered ps log : List ℕ) (n m : ℕ) → (cycle_of d delivered ps log).answer ≡ Done n m → Turns d delivered ps log n m
+pub turns : (d : Dict) (delivered ps log : List ℕ) (n m : ℕ) → (cycle_of d delivered ps log).answer ≡ tallied n m → Turns d delivered ps log n m
 turns d delivered ps log n m e =
     let q = cycle_done_lem d delivered ps log n m e in
     let v = delivery_of d delivered ps in
     let c = contents d.words d.bytes in
     let x = cycle_from v (payloads_in ps) 0 c (length log) in
     let f = from_turns v (payloads_in ps) 0 c (length log) in
-    let a : Done (0 + x.consumed) (0 + length x.events) ≡ Done n m = sym (ap (λ (y : AfterCycle). y.answer) q) ∙ e in
-    let an : 0 + x.consumed ≡ n = cc in
-    let am : 0 + length x.events ≡ m = cc in
-    let same : x.consumed ≡ n = omega (arith, an) in
+    let a = same_tally (0 + x.consumed) (0 + length x.events) n m (sym (ap (λ (y : AfterCycle). y.answer) q) ∙ e) in
+    let same : x.consumed ≡ n = omega (arith, a.0) in
     record {
       few = omega (arith, same, f.few);
       leaves = ap (λ (y : AfterCycle). y.contents) q ∙ f.leaves ∙ rw same;
       logged = ap (λ (y : AfterCycle). y.log) q ∙ rw (f.events, same);
-      count = let k : length x.events ≡ m = omega (arith, am) in sym k ∙ rw (f.events, same);
+      count = let k : length x.events ≡ m = omega (arith, a.1) in sym k ∙ rw (f.events, same);
     }
 
 -- ---- one turn more
@@ -116,7 +120,7 @@ from_silent v (suc n) i c room h e =
 
 pub cycle_silent : (d : Dict) (delivered ps log : List ℕ) → well_formed d ≡ true → are_shaped ps ≡ true → are_placed (length delivered) ps ≡ true → are_short ps ≡ true → 254 ≤ length log
     → ((k : ℕ) → k < payloads_in ps → (received_at (delivery_of d delivered ps) (contents_from (delivery_of d delivered ps) 0 k (contents d.words d.bytes)) k).events ≡ [])
-    → cycle_of d delivered ps log ≡ after_cycle (Done (payloads_in ps) 0) (contents_from (delivery_of d delivered ps) 0 (payloads_in ps) (contents d.words d.bytes)) log
+    → cycle_of d delivered ps log ≡ after_cycle (tallied (payloads_in ps) 0) (contents_from (delivery_of d delivered ps) 0 (payloads_in ps) (contents d.words d.bytes)) log
 unfolding cycle_of
 cycle_silent d delivered ps log w s p t h e =
     let v = delivery_of d delivered ps in
@@ -131,7 +135,7 @@ module _ (d : Dict) (i : ℕ) (e : check_of d i ≡ Pass) (b : Bytes d.bytes) (c
   d' = left_by cs d
 
   -- of each turn, also of one that the call does not come to
-  turn_kept : (k : ℕ) → let d'' = met_by d' delivered ps k in Keeps d d'' i → (r : ℕ) → find_row d''.objects (0x1600 + i) ≡ At r
+  turn_kept : (k : ℕ) → let d'' = met_by d' delivered ps k in Keeps d d'' i → (r : ℕ) → find_row d''.objects (0x1600 + i) ≡ Some r
       → Admitted d'' i r (payload_of delivered ps k) (sender_of ps k) (version_of ps k) (ready_of ps k)
       → TurnWrites d' delivered ps k (first_at d''.objects r) (list_in d''.objects d''.words r)
   turn_kept k keeps r found a =
@@ -141,13 +145,13 @@ module _ (d : Dict) (i : ℕ) (e : check_of d i ≡ Pass) (b : Bytes d.bytes) (c
       turn_writes d' delivered ps k (first_at d''.objects r) (list_in d''.objects d''.words r)
       (pass_lasts d d'' i e keeps s.well s.bytes (payload_of delivered ps k) (bytes_take (length_of ps k) _ (bytes_drop (start_of ps k) delivered bd)) (sender_of ps k) (version_of ps k) (ready_of ps k) k r found a)
 
-  pub kept_turn : (log : List ℕ) (n m : ℕ) → (cycle_of d' delivered ps log).answer ≡ Done n m → (k : ℕ) → k < n → let d'' = met_by d' delivered ps k in Keeps d d'' i → (r : ℕ) → find_row d''.objects (0x1600 + i) ≡ At r
+  pub kept_turn : (log : List ℕ) (n m : ℕ) → (cycle_of d' delivered ps log).answer ≡ tallied n m → (k : ℕ) → k < n → let d'' = met_by d' delivered ps k in Keeps d d'' i → (r : ℕ) → find_row d''.objects (0x1600 + i) ≡ Some r
       → Admitted d'' i r (payload_of delivered ps k) (sender_of ps k) (version_of ps k) (ready_of ps k)
       → Taken d' delivered ps log n m k (first_at d''.objects r) (list_in d''.objects d''.words r)
   kept_turn log n m done k h keeps r found a = record { cycle = turns d' delivered ps log n m done; one = h; writes = turn_kept k keeps r found a }
 
   -- and, of calls that keep every shape, only the list's words have to be the same when the payload's turn comes
-  pub holds-turn : AllShaping cs d → (log : List ℕ) (n m : ℕ) → (cycle_of d' delivered ps log).answer ≡ Done n m → (k : ℕ) → k < n → let d'' = met_by d' delivered ps k in SameWords d d'' i → (r : ℕ) → find_row d''.objects (0x1600 + i) ≡ At r
+  pub holds-turn : AllShaping cs d → (log : List ℕ) (n m : ℕ) → (cycle_of d' delivered ps log).answer ≡ tallied n m → (k : ℕ) → k < n → let d'' = met_by d' delivered ps k in SameWords d d'' i → (r : ℕ) → find_row d''.objects (0x1600 + i) ≡ Some r
       → Admitted d'' i r (payload_of delivered ps k) (sender_of ps k) (version_of ps k) (ready_of ps k)
       → Taken d' delivered ps log n m k (first_at d''.objects r) (list_in d''.objects d''.words r)
   holds-turn s log n m done k h same =

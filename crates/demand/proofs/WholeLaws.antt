@@ -1,4 +1,6 @@
 -- What is written whole is clean, whatever the payload: so an element with a fault is whole under none. Assumes nothing.
+use Rattle.std.specs.Prelude.{Some, Result, Ok, Err}
+use Rattle.value.specs.declared.CodecFault.{CodecFault}
 use mathlib.Core.Path.{◌≡◌, refl, sym, ap, ◌∙◌}
 use mathlib.Core.Bool.{Bool, true, false, cond, not, ◌&&◌}
 use mathlib.Core.List.{List}
@@ -10,12 +12,9 @@ use lib.ListN.{length}
 use Rattle.lists.proofs.NumberLaws.{part_length, length-bytes_of}
 use Rattle.text.specs.Machine.{judge}
 use Rattle.value.specs.Codec.{is_text, size_of, text_is, text_word, word_at}
-use Rattle.value.specs.declared.Word.{Word}
-use Rattle.value.specs.declared.Word.TheVariants.{Takes, Fails}
 use Rattle.value.specs.declared.CodecFault.TheVariants as cause
 use Rattle.value.proofs.CodecLaws.{encoding_fixed}
-use Rattle.mapping.specs.Word.{entry_of, field_of}
-use Rattle.mapping.specs.declared.Field.TheVariants as field
+use Rattle.mapping.specs.Word.{entry_of, field_of, field_at}
 use Rattle.entry.specs.Table.{type_at, room_at, is_mapping}
 use Rattle.entry.specs.Find.{place_of}
 use Rattle.entry.specs.Put.{Contents}
@@ -27,7 +26,6 @@ use Rattle.pdo_step.specs.declared.Outcome.TheVariants as outcome
 use Rattle.pdo_step.specs.Outcomes.{part, on_count, on_value, outcome_of}
 use Rattle.pdo_step.proofs.FormLaws.{on_place, on_index, outcome_form}
 use Rattle.pdo_run.specs.Run.{Frame}
-use Rattle.element.specs.declared.Verdict.TheVariants.{Clean}
 use Rattle.element.specs.Elements.{length_fits, word_verdict}
 use Rattle.demand.specs.Demand.{Whole}
 
@@ -39,19 +37,19 @@ pub record StoredAt (objects slots payload : List ℕ) (w p start n : ℕ) : Typ
   pub even : is_text (type_at slots p) ≡ true → not (eqb (type_at slots p) 13 && eqb (n % 2) 1) ≡ true
   pub roomy : is_text (type_at slots p) ≡ true → n ≤ room_at slots p
 
-module _ (objects slots payload : List ℕ) (w p start n : ℕ) (f : field_of (entry_of w) ≡ field.Whole start n) where
+module _ (objects slots payload : List ℕ) (w p start n : ℕ) (f : field_of (entry_of w) ≡ field_at start n) where
   abbrev x : ℕ
   x = (entry_of w).index
 
   abbrev sub : ℕ
   sub = (entry_of w).sub_index
 
-  pub not_odd : (q : ℕ) → start + n ≤ length payload → is_text (type_at slots q) ≡ true → (v : ℕ) → word_at (type_at slots q) (part payload start n) ≡ Takes v → not (eqb (type_at slots q) 13 && eqb (n % 2) 1) ≡ true
+  pub not_odd : (q : ℕ) → start + n ≤ length payload → is_text (type_at slots q) ≡ true → (v : ℕ) → word_at (type_at slots q) (part payload start n) ≡ Ok v → not (eqb (type_at slots q) 13 && eqb (n % 2) 1) ≡ true
   unfolding word_at text_word
   not_odd q h t v e = go (eqb (type_at slots q) 11) refl (eqb (type_at slots q) 13 && eqb (n % 2) 1) refl (rw (t, part_length payload start n h) at e)
     where
       go : (a : Bool) → eqb (type_at slots q) 11 ≡ a → (b : Bool) → (eqb (type_at slots q) 13 && eqb (n % 2) 1) ≡ b
-          → cond a (text_is n (judge (part payload start n))) (cond b (Fails cause.Odd) (Takes n)) ≡ Takes v → not b ≡ true
+          → cond a (text_is n (judge (part payload start n))) (cond b (Err cause.Odd) (Ok n)) ≡ Ok v → not b ≡ true
       go true a true r e =
           let y : type_at slots q ≡ 11 = eqb-true _ _ a in
           let u : (eqb 11 13 && eqb (n % 2) 1) ≡ true = sym (ap (λ (m : ℕ). eqb m 13 && eqb (n % 2) 1) y) ∙ r in
@@ -60,9 +58,9 @@ module _ (objects slots payload : List ℕ) (w p start n : ℕ) (f : field_of (e
       go false a true r e = let z : ◌≡◌ {A = ℕ} 0 1 = cc in absurd (omega arith)
       go false a false r e = refl
 
-  at_value_lem : (q : ℕ) → place_of objects x sub ≡ Value q → start + n ≤ length payload → between 0x1200 0x12FF x ≡ false → (v : Word) → word_at (type_at slots q) (part payload start n) ≡ v → on_value slots q start n v ≡ outcome.Stored p start n → StoredAt objects slots payload w p start n
-  at_value_lem q l h a (Fails c) k e = let z : ◌≡◌ {A = ℕ} 0 1 = cc in absurd (omega arith)
-  at_value_lem q l h a (Takes v) k e = room (is_text (type_at slots q)) refl (ltb (room_at slots q) n) refl e
+  at_value_lem : (q : ℕ) → place_of objects x sub ≡ Value q → start + n ≤ length payload → between 0x1200 0x12FF x ≡ false → (v : Result ℕ CodecFault) → word_at (type_at slots q) (part payload start n) ≡ v → on_value slots q start n v ≡ outcome.Stored p start n → StoredAt objects slots payload w p start n
+  at_value_lem q l h a (Err c) k e = let z : ◌≡◌ {A = ℕ} 0 1 = cc in absurd (omega arith)
+  at_value_lem q l h a (Ok v) k e = room (is_text (type_at slots q)) refl (ltb (room_at slots q) n) refl e
     where
       same : q ≡ p → (is_text (type_at slots q) ≡ true → n ≤ room_at slots q) → StoredAt objects slots payload w p start n
       same u r = rw (← u) (record { within_payload = h; away = a; placed = l; even = λ t. not_odd q h t v k; roomy = r })
@@ -96,7 +94,7 @@ module _ (objects slots payload : List ℕ) (w p start n : ℕ) (f : field_of (e
       go false l false q false r e = at_place (place_of objects x sub) refl (ltb-false _ _ l) (joined_range x q r) e
 
 -- ---- the theorem
-pub whole_clean : (f : Frame) (c : Contents) (w : ℕ) → Whole f c w → word_verdict f.objects f.slots w ≡ Clean
+pub whole_clean : (f : Frame) (c : Contents) (w : ℕ) → Whole f c w → word_verdict f.objects f.slots w ≡ Ok tt
 unfolding word_verdict
 whole_clean f c w h =
     let s = stored_at f.objects f.slots f.payload w h.target h.start h.len h.field h.stores in

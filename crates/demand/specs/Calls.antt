@@ -1,20 +1,17 @@
 -- Demand 3 said of the public calls: what a consuming call (RULES.md R11.1), and a payload's turn in a cycle (R11.13), comes to where the payload is
 -- written whole (R12.5, R12.6). Assumes nothing.
-use Rattle.std.specs.Prelude.{ℕ, zero, suc, ◌+◌, ◌<◌, ◌≤◌, ◌≡◌, Bool, List, [], ◌++◌, map, length}
+use Rattle.std.specs.Prelude.{ℕ, zero, suc, ◌+◌, ◌<◌, ◌≤◌, ◌≡◌, Bool, List, [], ◌++◌, map, length, Some, Ok}
 use Rattle.lists.specs.Lists.{over}
 use Rattle.entry.specs.Table.{Dict, first_at}
 use Rattle.entry.specs.Find.{find_row}
-use Rattle.entry.specs.declared.Found.TheVariants.{At}
 use Rattle.entry.specs.Put.{Contents, contents, filled}
 use Rattle.pdo_channel.specs.Channel.{first_match}
 use Rattle.pdo_run.specs.Run.{Frame, frame, list_in}
-use Rattle.pdo_handler.specs.declared.Consumed.TheVariants.{Done}
 use Rattle.event.specs.declared.EventRecord.{EventRecord}
 use Rattle.event.specs.Record.{event_number}
 use Rattle.events.specs.Receive.{received, received_of}
-use Rattle.pdo_cycle.specs.declared.Cycle.TheVariants as cycles
 use Rattle.pdo_cycle.specs.Payloads.{sender_of, version_of, ready_of, payload_of, payloads_in}
-use Rattle.pdo_cycle.specs.Cycle.{Delivery, delivery, received_at, after_cycle, cycle_of}
+use Rattle.pdo_cycle.specs.Cycle.{Delivery, delivery, received_at, after_cycle, cycle_of, tallied}
 use Rattle.channel.specs.declared.Checked.TheVariants.{Pass}
 use Rattle.channel.specs.Check.{check_of}
 use Rattle.demand.specs.Demand.{Admitted, put_all, AllWhole}
@@ -22,7 +19,7 @@ use Rattle.demand.specs.Lasting.{Keeps}
 
 -- ---- `consume_pdo_payload`, and `consume_by_value`: Done with no event, each element whole, nothing else changed, the records as they were
 pub record Consumes (d : Dict) (payload : List ℕ) (sender version : ℕ) (ready : Bool) (es : List EventRecord) (p : ℕ) (ws : List ℕ) : Type 0 where
-  pub is : received_of d payload sender version ready es ≡ received (Done 0) (put_all (frame d.objects d.slots payload sender 0) ws (contents d.words d.bytes)) es
+  pub is : received_of d payload sender version ready es ≡ received (Ok 0) (put_all (frame d.objects d.slots payload sender 0) ws (contents d.words d.bytes)) es
   pub whole : AllWhole (frame d.objects d.slots payload sender 0) p ws 0 (contents d.words d.bytes)
 
 -- ---- `consume_cycle`: the contents after n payloads from payload i on, and their events
@@ -70,11 +67,11 @@ pub record Expected (d d' : Dict) (delivered ps : List ℕ) (k : ℕ) : Type 0 w
   pub passes : check_of d channel ≡ Pass
   pub keeps : Keeps d (met_by d' delivered ps k) channel
   pub row : ℕ
-  pub found : find_row d'.objects (0x1600 + channel) ≡ At row
+  pub found : find_row d'.objects (0x1600 + channel) ≡ Some row
   pub admitted : Admitted (met_by d' delivered ps k) channel row (payload_of delivered ps k) (sender_of ps k) (version_of ps k) (ready_of ps k)
 
 -- a cycle of such payloads alone: every one is consumed, no event is told, and each is written whole in its turn
 pub record Cycles (d : Dict) (delivered ps log : List ℕ) : Type 0 where
-  pub is : cycle_of d delivered ps log ≡ after_cycle (cycles.Done (payloads_in ps) 0) (contents_from (delivery_of d delivered ps) 0 (payloads_in ps) (contents d.words d.bytes)) log
-  pub writes : (k : ℕ) → k < payloads_in ps → (i r : ℕ) → find_row d.objects (0x1600 + i) ≡ At r → first_match (met_by d delivered ps k) (sender_of ps k) ≡ At i
+  pub is : cycle_of d delivered ps log ≡ after_cycle (tallied (payloads_in ps) 0) (contents_from (delivery_of d delivered ps) 0 (payloads_in ps) (contents d.words d.bytes)) log
+  pub writes : (k : ℕ) → k < payloads_in ps → (i r : ℕ) → find_row d.objects (0x1600 + i) ≡ Some r → first_match (met_by d delivered ps k) (sender_of ps k) ≡ Some i
       → TurnWrites d delivered ps k (first_at d.objects r) (list_in d.objects (met_by d delivered ps k).words r)

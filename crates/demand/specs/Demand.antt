@@ -1,15 +1,12 @@
 -- Demand 3: which payloads a channel admits, and what it means that they are written whole. RULES.md R12.4 to R12.6. Assumes nothing.
-use Rattle.std.specs.Prelude.{ℕ, ◌+◌, ◌≤◌, ◌<◌, ◌≡◌, Bool, true, false, List, [], ◌∷◌, eqb, length}
+use Rattle.std.specs.Prelude.{ℕ, ◌+◌, ◌≤◌, ◌<◌, ◌≡◌, Bool, true, false, List, [], ◌∷◌, eqb, length, Some, Ok}
 use Rattle.lists.specs.Numbers.{Bytes}
-use Rattle.text.specs.declared.Text.TheVariants.{Good}
 use Rattle.text.specs.Machine.{judge}
-use Rattle.mapping.specs.Word.{entry_of, field_of, end_of}
-use Rattle.mapping.specs.declared.Field.TheVariants as field
+use Rattle.mapping.specs.Word.{entry_of, field_of, end_of, field_at}
 use Rattle.entry.specs.Table.{Dict, kind_at, list_count, first_at, type_at, room_at}
 use Rattle.entry.specs.Find.{find_row}
 use Rattle.entry.specs.Put.{Contents, contents, put_in}
 use Rattle.entry.specs.Encode.{encoding_in}
-use Rattle.entry.specs.declared.Found.TheVariants.{At}
 use Rattle.aim.specs.Aims.{aim_of, class_of}
 use Rattle.aim.specs.declared.Class.{Class}
 use Rattle.aim.specs.declared.Class.TheVariants as class
@@ -27,7 +24,7 @@ Long slots payload p (w ∷ ws) j = (type_at slots (p + j) ≡ 8 → end_of (ent
 
 -- "every VisibleString field (aligned, target outside 1200h..12FFh) is UTF-8"
 pub record TextAt (objects slots payload : List ℕ) (w : ℕ) : Type 0 where
-  pub good : (start n p : ℕ) → class_of (aim_of objects w) ≡ class.Value start n p → type_at slots p ≡ 11 → judge (part payload start n) ≡ Good
+  pub good : (start n p : ℕ) → class_of (aim_of objects w) ≡ class.Value start n p → type_at slots p ≡ 11 → judge (part payload start n) ≡ Ok tt
 
 abbrev pub Texts : List ℕ → List ℕ → List ℕ → ℕ → List ℕ → ℕ → Type 0
 Texts objects slots payload p [] j = Unit {0}
@@ -36,7 +33,7 @@ Texts objects slots payload p (w ∷ ws) j = (type_at slots (p + j) ≡ 8 → Te
 -- "it is ready; i is the first match of the sender; the version is right; its length is .. to 1,490 bytes"; the channel's list is in row r
 pub record Admitted (d : Dict) (i r : ℕ) (payload : List ℕ) (sender version : ℕ) (ready : Bool) : Type 0 where
   pub is-ready : ready ≡ true
-  pub first : first_match d sender ≡ At i
+  pub first : first_match d sender ≡ Some i
   pub right : right_version (expected_of d i) version ≡ true
   pub long : Long d.slots payload (first_at d.objects r) (list_in d.objects d.words r) 0
   pub short : length payload ≤ 1490
@@ -47,7 +44,7 @@ pub record Whole (f : Frame) (c : Contents) (w : ℕ) : Type 0 where
   pub target : ℕ
   pub start : ℕ
   pub len : ℕ
-  pub field : field_of (entry_of w) ≡ field.Whole start len
+  pub field : field_of (entry_of w) ≡ field_at start len
   pub stores : decided f w ≡ Stored target start len
   pub encodes : encoding_in f.slots (act_of f c (decided f w)).words (act_of f c (decided f w)).bytes target ≡ part f.payload start len
 
@@ -90,7 +87,7 @@ pub record Admits (d : Dict) (i r : ℕ) : Type 0 where
 -- "the list has an element, an admitted payload exists, and every admitted payload writes every element whole .."
 pub record Demand (d : Dict) (i : ℕ) : Type 0 where
   pub row : ℕ
-  pub found : find_row d.objects (0x1600 + i) ≡ At row
+  pub found : find_row d.objects (0x1600 + i) ≡ Some row
   pub list : eqb (kind_at d.objects row) 0 ≡ false
   pub some : eqb (list_count d.objects row) 0 ≡ false
   pub exists : Admits d i row

@@ -1,18 +1,16 @@
 -- How long a pass lasts: RULES.md R12.9 to R12.11. Assumes nothing.
-use Rattle.std.specs.Prelude.{ℕ, ◌+◌, ◌<◌, ◌≡◌, Bool, true, List, [], ◌∷◌, get_or}
+use Rattle.std.specs.Prelude.{ℕ, ◌+◌, ◌<◌, ◌≡◌, Bool, true, List, [], ◌∷◌, get_or, Some, Ok}
 use Rattle.lists.specs.Numbers.{Bytes}
 use Rattle.mapping.specs.Word.{entry_of}
 use Rattle.entry.specs.Table.{Dict, kind_at, count_at, kept_at, list_count, first_at, type_at, room_at}
 use Rattle.entry.specs.Find.{find_row, place_of}
 use Rattle.entry.specs.Judge.{well_formed}
 use Rattle.entry.specs.Put.{contents, filled}
-use Rattle.entry.specs.declared.Found.TheVariants.{At}
 use Rattle.entry.specs.declared.Place.TheVariants.{Value}
 use Rattle.given.specs.declared.Head.{Head}
 use Rattle.insertion.specs.Insert.{memory_of}
 use Rattle.counter.specs.Counter.{counter_of}
 use Rattle.writing.specs.Writing.{written_in, write_of}
-use Rattle.restoring.specs.declared.Restored.TheVariants.{Done}
 use Rattle.restoring.specs.Restore.{restore_of}
 use Rattle.pdo_run.specs.Run.{list_in}
 use Rattle.pdo_handler.specs.Consume.{consume_of}
@@ -22,22 +20,22 @@ use Rattle.pdo_cycle.specs.Cycle.{cycle_of}
 -- R12.11: "keeps each object's kind, element count, types and rooms". Rows and slots may have moved, since objects may have been let in.
 pub record SameRow (d d' : Dict) (x r : ℕ) : Type 0 where
   pub row : ℕ
-  pub found : find_row d'.objects x ≡ At row
+  pub found : find_row d'.objects x ≡ Some row
   pub kind : kind_at d'.objects row ≡ kind_at d.objects r
   pub count : count_at d'.objects row ≡ count_at d.objects r
   pub types : (k : ℕ) → k < count_at d.objects r → type_at d'.slots (first_at d'.objects row + k) ≡ type_at d.slots (first_at d.objects r + k)
   pub rooms : (k : ℕ) → k < count_at d.objects r → room_at d'.slots (first_at d'.objects row + k) ≡ room_at d.slots (first_at d.objects r + k)
 
 abbrev pub Shaped : Dict → Dict → Type 0
-Shaped d d' = (x r : ℕ) → find_row d.objects x ≡ At r → SameRow d d' x r
+Shaped d d' = (x r : ℕ) → find_row d.objects x ≡ Some r → SameRow d d' x r
 
 -- R8.7: of an object that stays, the kept count does
 abbrev pub SameKept : Dict → Dict → Type 0
-SameKept d d' = (x r r' : ℕ) → find_row d.objects x ≡ At r → find_row d'.objects x ≡ At r' → kept_at d'.objects r' ≡ kept_at d.objects r
+SameKept d d' = (x r r' : ℕ) → find_row d.objects x ≡ Some r → find_row d'.objects x ≡ Some r' → kept_at d'.objects r' ≡ kept_at d.objects r
 
 -- R12.10: "They change when their contents differ". Of the two records the claim needs the list 1600h+i alone.
 abbrev pub SameWords : Dict → Dict → ℕ → Type 0
-SameWords d d' i = (r r' : ℕ) → find_row d.objects (0x1600 + i) ≡ At r → find_row d'.objects (0x1600 + i) ≡ At r' → list_in d'.objects d'.words r' ≡ list_in d.objects d.words r
+SameWords d d' i = (r r' : ℕ) → find_row d.objects (0x1600 + i) ≡ Some r → find_row d'.objects (0x1600 + i) ≡ Some r' → list_in d'.objects d'.words r' ≡ list_in d.objects d.words r
 
 -- a value's place, type and room in another dictionary
 pub record SameTarget (d d' : Dict) (x sub p : ℕ) : Type 0 where
@@ -54,7 +52,7 @@ pub record KeepsList (d d' : Dict) (i r : ℕ) : Type 0 where
       → let e = entry_of (get_or (list_in d.objects d.words r) k 0) in (p : ℕ) → place_of d.objects e.index e.sub_index ≡ Value p → SameTarget d d' e.index e.sub_index p
 
 abbrev pub Keeps : Dict → Dict → ℕ → Type 0
-Keeps d d' i = (r : ℕ) → find_row d.objects (0x1600 + i) ≡ At r → KeepsList d d' i r
+Keeps d d' i = (r : ℕ) → find_row d.objects (0x1600 + i) ≡ Some r → KeepsList d d' i r
 
 -- ---- the public calls, but for `new`, which makes a dictionary; those that only look are one. A payload is consumed into a log that has room for so many
 -- events: for C the lent numbers, else a list of records has the room, and the log is laid beside it.
@@ -112,7 +110,7 @@ Shaping (increment-counter x sub) d = Unit {0}
 Shaping (update-pdo-error-object x n) d = Unit {0}
 Shaping (consume-pdo-payload payload sender version ready room log) d = Unit {0}
 Shaping (consume-cycle delivered ps log) d = Unit {0}
-Shaping (restore s first last) d = (restore_of d s first last).answer ≡ Done → ⊥
+Shaping (restore s first last) d = (restore_of d s first last).answer ≡ (Ok tt) → ⊥
 
 abbrev pub AllShaping : List Call → Dict → Type 0
 AllShaping [] d = Unit {0}

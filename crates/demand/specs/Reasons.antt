@@ -3,8 +3,7 @@ use Rattle.std.specs.Prelude.{ℕ, ◌%◌, ◌<◌, ◌≡◌, true, false}
 use Rattle.text.specs.Utf8.{Stops}
 use Rattle.value.specs.Codec.{is_text, size_of}
 use Rattle.value.specs.declared.CodecFault.TheVariants as cause
-use Rattle.mapping.specs.Word.{entry_of, field_of}
-use Rattle.mapping.specs.declared.Field.TheVariants as field
+use Rattle.mapping.specs.Word.{entry_of, field_of, field_at}
 use Rattle.entry.specs.Table.{type_at, room_at}
 use Rattle.entry.specs.Put.{Contents}
 use Rattle.entry.specs.Encode.{encoding_in}
@@ -18,8 +17,8 @@ use Rattle.element.specs.declared.Fault.TheVariants as fault
 
 -- HandOff: the field goes to the SDO server or to the client
 pub data HandedOff (f : Frame) (w : ℕ) : Type 0 where
-  server : (start n : ℕ) → field_of (entry_of w) ≡ field.Whole start n → decided f w ≡ outcome.Server (entry_of w).index start n → HandedOff f w
-  client : (start n : ℕ) → field_of (entry_of w) ≡ field.Whole start n → decided f w ≡ outcome.Client (entry_of w).index start n → HandedOff f w
+  server : (start n : ℕ) → field_of (entry_of w) ≡ field_at start n → decided f w ≡ outcome.Server (entry_of w).index start n → HandedOff f w
+  client : (start n : ℕ) → field_of (entry_of w) ≡ field_at start n → decided f w ≡ outcome.Client (entry_of w).index start n → HandedOff f w
 
 -- CountTarget: a count is not put; of a field of no bytes there is none
 pub data Counted (f : Frame) (w : ℕ) : Type 0 where

@@ -1,13 +1,13 @@
 -- Dictionaries that differ in their edition, their kept counts or their ranges alone have the same first match, expected version and right
 -- versions, and a mapping word comes to the same outcome in them.
 -- Assumes nothing.
+use Rattle.std.specs.Prelude.{Option, Some, None}
+use Rattle.mapping.specs.declared.Field.{Field}
 use Prim.Native.Nat.{ℕ, zero, suc}
 use mathlib.Core.Path.{◌≡◌, refl, sym, ap, ◌∙◌}
 use mathlib.Core.Bool.{cond}
 use mathlib.Core.List.{List}
 use Rattle.mapping.specs.Word.{entry_of, field_of}
-use Rattle.mapping.specs.declared.Field.{Field}
-use Rattle.mapping.specs.declared.Field.TheVariants as field
 use Rattle.entry.specs.Table.{dict}
 use Rattle.entry.specs.Find.{place_of}
 use Rattle.entry.specs.Same.{SameRows, uncounted}
@@ -46,12 +46,12 @@ pub version_same : {a b : List ℕ} → SameRows a b → (s w y : List ℕ) (i v
 version_same h s w y i version = ap (λ e. right_version e version) (expected_same h s w y i)
 
 -- ---- stepping
-class_uncounted : (x : ℕ) (q : Place) (f : Field) → class_in x q f ≡ class_in x (uncounted q) f
-class_uncounted x q field.Misaligned = refl
-class_uncounted x NoObject (field.Whole start n) = refl
-class_uncounted x NoSub (field.Whole start n) = refl
-class_uncounted x (Count k) (field.Whole start n) = refl
-class_uncounted x (Value p) (field.Whole start n) = refl
+class_uncounted : (x : ℕ) (q : Place) (f : Option Field) → class_in x q f ≡ class_in x (uncounted q) f
+class_uncounted x q None = refl
+class_uncounted x NoObject (Some v) = refl
+class_uncounted x NoSub (Some v) = refl
+class_uncounted x (Count k) (Some v) = refl
+class_uncounted x (Value p) (Some v) = refl
 
 pub outcome_same : {a b : List ℕ} → SameRows a b → (s payload : List ℕ) (w : ℕ) → outcome_of a s payload w ≡ outcome_of b s payload w
 unfolding outcome_of class_of

@@ -1,13 +1,12 @@
 -- Reading, counting up, the mapping count, names, nodes and error bits, on rows that are alike.
 -- Assumes nothing.
+use Rattle.std.specs.Prelude.{Option, Some, None}
 use Prim.Native.Nat.{ℕ, zero, suc}
 use mathlib.Core.Path.{◌≡◌, refl, ap, ◌∙◌}
 use mathlib.Core.Bool.{cond}
 use mathlib.Core.List.{List}
 use Rattle.entry.specs.Table.{dict, sends}
 use Rattle.entry.specs.Find.{find_row, sub_at, place_of}
-use Rattle.entry.specs.declared.Found.{Found}
-use Rattle.entry.specs.declared.Found.TheVariants.{At, Nothing}
 use Rattle.entry.specs.declared.Place.{Place}
 use Rattle.entry.specs.declared.Place.TheVariants.{NoObject, NoSub, Count, Value}
 use Rattle.od.specs.Read.{read_at}
@@ -36,9 +35,9 @@ u32_same a b s w y NoSub = refl
 u32_same a b s w y (Count n) = refl
 u32_same a b s w y (Value p) = refl
 
-in_row-same : {a b : List ℕ} → Alike a b → (s w y : List ℕ) (sub : ℕ) (f : Found) → in_row (dict a s w y) sub f ≡ in_row (dict b s w y) sub f
-in_row-same {a} {b} h s w y sub (At i) = rw (kind-same h.rows i) (rw (sub_same h i sub) (rw (u32_same a b s w y (sub_at b i sub)) refl))
-in_row-same h s w y sub Nothing = refl
+in_row-same : {a b : List ℕ} → Alike a b → (s w y : List ℕ) (sub : ℕ) (f : Option ℕ) → in_row (dict a s w y) sub f ≡ in_row (dict b s w y) sub f
+in_row-same {a} {b} h s w y sub (Some i) = rw (kind-same h.rows i) (rw (sub_same h i sub) (rw (u32_same a b s w y (sub_at b i sub)) refl))
+in_row-same h s w y sub None = refl
 
 pub counter_same : {a b : List ℕ} → Alike a b → (s w y : List ℕ) (x sub : ℕ) → counter_at (dict a s w y) x sub ≡ counter_at (dict b s w y) x sub
 unfolding counter_at
@@ -56,10 +55,10 @@ unfolding limit_of
 limit_same {a} {b} h s w y x =
     let sub : ℕ = cond (sends x) 1 2 in u16_same a b s w y (place_of a 0x1F98 sub) ∙ ap (u16_at (dict b s w y)) (place_same h 0x1F98 sub)
 
-count_on_same : {a b : List ℕ} → Alike a b → (s w y : List ℕ) (x n : ℕ) (f : Found) → count_on (dict a s w y) x n f ≡ count_on (dict b s w y) x n f
+count_on_same : {a b : List ℕ} → Alike a b → (s w y : List ℕ) (x n : ℕ) (f : Option ℕ) → count_on (dict a s w y) x n f ≡ count_on (dict b s w y) x n f
 unfolding count_on
-count_on_same h s w y x n (At i) = rw (kind-same h.rows i) (rw (count_same h.rows i) (rw (first_same h.rows i) (rw (limit_same h s w y x) refl)))
-count_on_same h s w y x n Nothing = refl
+count_on_same h s w y x n (Some i) = rw (kind-same h.rows i) (rw (count_same h.rows i) (rw (first_same h.rows i) (rw (limit_same h s w y x) refl)))
+count_on_same h s w y x n None = refl
 
 pub mapping_count-same : {a b : List ℕ} → Alike a b → (s w y : List ℕ) (x n : ℕ) → count_of (dict a s w y) x n ≡ count_of (dict b s w y) x n
 unfolding count_of
@@ -72,9 +71,9 @@ name_from_same h s w y name zero i = refl
 name_from_same h s w y name (suc k) i =
     rw (name_length-same h.rows i) (rw (name_same h.rows i) (rw (index_same h.rows i) (rw (name_from_same h s w y name k (suc i)) refl)))
 
-elements_on_same : {a b : List ℕ} → Alike a b → (f : Found) → elements_on a f ≡ elements_on b f
-elements_on_same h (At i) = rw (kind-same h.rows i) (rw (count_same h.rows i) (rw (first_same h.rows i) refl))
-elements_on_same h Nothing = refl
+elements_on_same : {a b : List ℕ} → Alike a b → (f : Option ℕ) → elements_on a f ≡ elements_on b f
+elements_on_same h (Some i) = rw (kind-same h.rows i) (rw (count_same h.rows i) (rw (first_same h.rows i) refl))
+elements_on_same h None = refl
 
 elements_same : {a b : List ℕ} → Alike a b → elements_at a ≡ elements_at b
 unfolding elements_at
@@ -85,9 +84,9 @@ unfolding nodes_of
 nodes_same h s w y = rw (elements_same h) refl
 
 -- ---- error bits
-bit_in_same : {a b : List ℕ} → Alike a b → (s w : List ℕ) (n : ℕ) (f : Found) → bit_in a s w n f ≡ bit_in b s w n f
-bit_in_same h s w n (At i) = rw (kind-same h.rows i) (rw (first_same h.rows i) refl)
-bit_in_same h s w n Nothing = refl
+bit_in_same : {a b : List ℕ} → Alike a b → (s w : List ℕ) (n : ℕ) (f : Option ℕ) → bit_in a s w n f ≡ bit_in b s w n f
+bit_in_same h s w n (Some i) = rw (kind-same h.rows i) (rw (first_same h.rows i) refl)
+bit_in_same h s w n None = refl
 
 bit_same : {a b : List ℕ} → Alike a b → (s w : List ℕ) (x n : ℕ) → bit_at a s w x n ≡ bit_at b s w x n
 unfolding bit_at

@@ -1,5 +1,6 @@
 -- The check of a channel and the explanation of an element, on rows that are alike.
 -- Assumes nothing.
+use Rattle.std.specs.Prelude.{Option, Some, None}
 use Prim.Native.Nat.{ℕ, ◌+◌}
 use mathlib.Core.Path.{◌≡◌, refl}
 use mathlib.Core.List.{List, [], ◌∷◌}
@@ -7,8 +8,6 @@ use lib.ListN.{get_or}
 use Rattle.mapping.specs.Word.{entry_of}
 use Rattle.entry.specs.Table.{dict, first_at}
 use Rattle.entry.specs.Find.{find_row, sub_at}
-use Rattle.entry.specs.declared.Found.{Found}
-use Rattle.entry.specs.declared.Found.TheVariants.{At, Nothing}
 use Rattle.entry.specs.declared.Place.{Place}
 use Rattle.entry.specs.declared.Place.TheVariants.{NoObject, NoSub, Count, Value}
 use Rattle.pdo_channel.specs.Channel.{u8_at, comm_index}
@@ -31,15 +30,15 @@ unfolding fault_from
 fault_same h s p [] j last = refl
 fault_same h s p (w ∷ ws) j last = rw (verdict_same h s w) (rw (fault_same h s p ws (j + 1) last) refl)
 
-on_list_same : {a b : List ℕ} → Alike a b → (s w y : List ℕ) (f : Found) → on_list (dict a s w y) f ≡ on_list (dict b s w y) f
-on_list_same h s w y Nothing = refl
-on_list_same {a} {b} h s w y (At r) =
+on_list_same : {a b : List ℕ} → Alike a b → (s w y : List ℕ) (f : Option ℕ) → on_list (dict a s w y) f ≡ on_list (dict b s w y) f
+on_list_same h s w y None = refl
+on_list_same {a} {b} h s w y (Some r) =
     rw (kind-same h.rows r)
     (rw (list_same h r) (rw (first_same h.rows r) (rw (fault_same h s (first_at b r) (list_in b w r) 0 (last_of (dict b s w y) r)) refl)))
 
-has_sender_same : {a b : List ℕ} → Alike a b → (s w y : List ℕ) (i : ℕ) (f : Found) → has_sender (dict a s w y) i f ≡ has_sender (dict b s w y) i f
-has_sender_same h s w y i (At v) = rw (match_same h.rows s w y (sender_for v)) refl
-has_sender_same h s w y i Nothing = refl
+has_sender_same : {a b : List ℕ} → Alike a b → (s w y : List ℕ) (i : ℕ) (f : Option ℕ) → has_sender (dict a s w y) i f ≡ has_sender (dict b s w y) i f
+has_sender_same h s w y i (Some v) = rw (match_same h.rows s w y (sender_for v)) refl
+has_sender_same h s w y i None = refl
 
 pub sender_same : {a b : List ℕ} → Alike a b → (s w y : List ℕ) (i : ℕ)
     → has_sender (dict a s w y) i (u8_at (dict a s w y) (comm_index i) 1) ≡ has_sender (dict b s w y) i (u8_at (dict b s w y) (comm_index i) 1)
@@ -55,9 +54,9 @@ of_place-same h s w y NoSub = refl
 of_place-same h s w y (Count n) = refl
 of_place-same h s w y (Value p) = let e = entry_of (get_or w p 0) in rw (place_same h e.index e.sub_index) refl
 
-of_list_same : {a b : List ℕ} → Alike a b → (s w y : List ℕ) (k : ℕ) (f : Found) → of_list (dict a s w y) k f ≡ of_list (dict b s w y) k f
-of_list_same h s w y k Nothing = refl
-of_list_same {a} {b} h s w y k (At r) = rw (kind-same h.rows r) (rw (sub_same h r k) (rw (of_place-same h s w y (sub_at b r k)) refl))
+of_list_same : {a b : List ℕ} → Alike a b → (s w y : List ℕ) (k : ℕ) (f : Option ℕ) → of_list (dict a s w y) k f ≡ of_list (dict b s w y) k f
+of_list_same h s w y k None = refl
+of_list_same {a} {b} h s w y k (Some r) = rw (kind-same h.rows r) (rw (sub_same h r k) (rw (of_place-same h s w y (sub_at b r k)) refl))
 
 pub explained_same : {a b : List ℕ} → Alike a b → (s w y : List ℕ) (k x : ℕ) → of_list (dict a s w y) k (find_row a x) ≡ of_list (dict b s w y) k (find_row b x)
 explained_same {a} {b} h s w y k x = rw (row_same h.rows x) (of_list_same h s w y k (find_row b x))

@@ -1,5 +1,6 @@
 -- A payload and a cycle of them, on rows that are alike.
 -- Assumes nothing.
+use Rattle.std.specs.Prelude.{Option, Some, None}
 use Prim.Native.Nat.{ℕ, zero, suc, ◌+◌}
 use mathlib.Core.Path.{◌≡◌, refl, ap, ◌∙◌}
 use mathlib.Core.Bool.{Bool}
@@ -8,8 +9,6 @@ use Rattle.mapping.specs.Word.{entry_of}
 use Rattle.entry.specs.Table.{dict, first_at}
 use Rattle.entry.specs.Find.{find_row, place_of}
 use Rattle.entry.specs.Put.{Contents}
-use Rattle.entry.specs.declared.Found.{Found}
-use Rattle.entry.specs.declared.Found.TheVariants.{At, Nothing}
 use Rattle.entry.specs.declared.Place.{Place}
 use Rattle.entry.specs.declared.Place.TheVariants.{NoObject, NoSub, Count, Value}
 use Rattle.pdo_step.specs.Outcomes.{outcome_of}
@@ -39,17 +38,17 @@ run_same {a} {b} h s payload sender m p (w ∷ ws) j c =
     (rw (act_same h s payload sender m c o)
     (rw (run_same h s payload sender m p ws (j + 1) (act_of (frame b s payload sender m) c o)) (rw (run_same h s payload sender m p ws (j + 1) c) refl)))
 
-run_on_same : {a b : List ℕ} → Alike a b → (s payload : List ℕ) (sender m : ℕ) (c : Contents) (f : Found)
+run_on_same : {a b : List ℕ} → Alike a b → (s payload : List ℕ) (sender m : ℕ) (c : Contents) (f : Option ℕ)
     → run_on (frame a s payload sender m) c f ≡ run_on (frame b s payload sender m) c f
-run_on_same h s payload sender m c Nothing = refl
-run_on_same {a} {b} h s payload sender m c (At r) =
+run_on_same h s payload sender m c None = refl
+run_on_same {a} {b} h s payload sender m c (Some r) =
     rw (kind-same h.rows r)
     (rw (first_same h.rows r) (rw (list_same h r) (rw (run_same h s payload sender m (first_at b r) (list_in b c.words r) 0 c) refl)))
 
-on_channel_same : {a b : List ℕ} → Alike a b → (s payload : List ℕ) (sender m : ℕ) (c : Contents) (version : ℕ) (f : Found)
+on_channel_same : {a b : List ℕ} → Alike a b → (s payload : List ℕ) (sender m : ℕ) (c : Contents) (version : ℕ) (f : Option ℕ)
     → on_channel (frame a s payload sender m) c version f ≡ on_channel (frame b s payload sender m) c version f
-on_channel_same h s payload sender m c version Nothing = refl
-on_channel_same {a} {b} h s payload sender m c version (At i) =
+on_channel_same h s payload sender m c version None = refl
+on_channel_same {a} {b} h s payload sender m c version (Some i) =
     rw (u8_same h.rows s c.words c.bytes (comm_index i) 2)
     (rw (row_same h.rows (0x1600 + i))
     (rw (run_on_same h s payload sender m c (find_row b (0x1600 + i))) (rw (marked-same h s c.words c.bytes 0x1C80 sender) refl)))

@@ -1,5 +1,6 @@
 -- No call but a write looks at a range: of a well-formed dictionary and of the same without its ranges each answers and leaves the same.
 -- Assumes nothing.
+use Rattle.std.specs.Prelude.{Option, Some, None, Ok, Err}
 use Prim.Native.Nat.{ℕ, zero, suc, ◌+◌}
 use mathlib.Core.Path.{◌≡◌, refl, sym}
 use mathlib.Core.Bool.{Bool, true, false, cond}
@@ -10,8 +11,6 @@ use Rattle.entry.specs.Table.{Dict, number_of}
 use Rattle.entry.specs.Find.{find_row}
 use Rattle.entry.specs.Put.{contents}
 use Rattle.entry.specs.Judge.{well_formed}
-use Rattle.entry.specs.declared.Found.{Found}
-use Rattle.entry.specs.declared.Found.TheVariants.{At, Nothing}
 use Rattle.od.specs.Read.{read_of}
 use Rattle.names.specs.Names.{by_name_of}
 use Rattle.nodes.specs.Nodes.{cns_of}
@@ -20,7 +19,6 @@ use Rattle.pdo_validator.specs.Counting.{valid_of}
 use Rattle.image.specs.Ranges.{range_of}
 use Rattle.commands.specs.Save.{save_of}
 use Rattle.fitting.specs.Fit.{rows_fit}
-use Rattle.restoring.specs.declared.Restored.TheVariants.{Done, Refused}
 use Rattle.restoring.specs.Restore.{rows_restored, AfterRestore, after_restore, restore_of}
 use Rattle.pdo_channel.specs.Channel.{comm_index}
 use Rattle.pdo_handler.specs.Consume.{consume_of}
@@ -119,7 +117,7 @@ restore_ignores d w s first last =
     (rw (rangeless_well_formed d w)
     (rw (sym h.rows.number)
     (rw (rows_fit_same d b h s first last n 0)
-    (either_way (rows_fit (rangeless d) s first last n 0) (after_restore Done (rows_restored d s first last n 0)) (after_restore (Refused TooLong) d) (after_restore Done (rows_restored (rangeless d) s first last n 0)) (after_restore (Refused TooLong) (rangeless d)) b (refl, rows_restored-same d b h s first last n 0) (refl, refl)))))
+    (either_way (rows_fit (rangeless d) s first last n 0) (after_restore (Ok tt) (rows_restored d s first last n 0)) (after_restore (Err TooLong) d) (after_restore (Ok tt) (rows_restored (rangeless d) s first last n 0)) (after_restore (Err TooLong) (rangeless d)) b (refl, rows_restored-same d b h s first last n 0) (refl, refl)))))
 
 -- ---- the check
 pub check_ignores : (d : Dict) → well_formed d ≡ true → (i : ℕ) → check_of d i ≡ check_of (rangeless d) i
@@ -130,9 +128,9 @@ check_ignores d w i =
     (rw (rangeless_well_formed d w)
     (rw (sender_same h d.slots d.words d.bytes i) (rw (checked_list_same h d.slots d.words d.bytes (0x1600 + i)) refl)))
 
-line_ignores : (d : Dict) → well_formed d ≡ true → (i : ℕ) (rest : List ℕ) (f : Found) → on_comm d i rest f ≡ on_comm (rangeless d) i rest f
-line_ignores d w i rest (At r) = rw (check_ignores d w i) refl
-line_ignores d w i rest Nothing = refl
+line_ignores : (d : Dict) → well_formed d ≡ true → (i : ℕ) (rest : List ℕ) (f : Option ℕ) → on_comm d i rest f ≡ on_comm (rangeless d) i rest f
+line_ignores d w i rest (Some r) = rw (check_ignores d w i) refl
+line_ignores d w i rest None = refl
 
 lines_ignore : (d : Dict) → well_formed d ≡ true → (n i : ℕ) → lines_from d n i ≡ lines_from (rangeless d) n i
 unfolding lines_from

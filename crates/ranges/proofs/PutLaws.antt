@@ -1,5 +1,6 @@
 -- Where a write puts a value of the range's type, the value lies between the ends; so where the call changes a word.
 -- Assumes nothing.
+use Rattle.std.specs.Prelude.{Some}
 use Prim.Native.Nat.{ℕ, ◌≤◌}
 use mathlib.Core.Path.{◌≡◌, refl, sym, ap, ◌∙◌}
 use mathlib.Core.Bool.{Bool, true, false, cond, not, ◌&&◌, ◌||◌}
@@ -15,7 +16,6 @@ use Rattle.entry.specs.declared.Extra.{Extra}
 use Rattle.entry.specs.Table.{Dict, extra_at}
 use Rattle.entry.specs.Find.{find_row}
 use Rattle.entry.specs.Judge.{well_formed}
-use Rattle.entry.specs.declared.Found.TheVariants.{At}
 use Rattle.entry.proofs.JudgeLaws.{and_true}
 use Rattle.writing.specs.declared.Judged.{Judged}
 use Rattle.writing.specs.declared.Judged.TheVariants.{Put, Accepted, Keep, Save, Restore, NoValue, Refused}
@@ -33,14 +33,14 @@ within e t w one r o =
     let q = and_true (ordered t e.low w) (ordered t w e.high) (not-false (ordered t e.low w && ordered t w e.high) (sym (outside_of e t w held).test ∙ o)) in
     record { above = q.0; below = q.1 }
 
-pub put_in_range : (d : Dict) (n x sub t : ℕ) (s : List ℕ) (p i : ℕ) → judge_of d n x sub t s ≡ Put p → find_row d.objects x ≡ At i → 1 ≤ t → (extra_at d.objects i).ranged ≡ t → Between t (number s) (extra_at d.objects i)
+pub put_in_range : (d : Dict) (n x sub t : ℕ) (s : List ℕ) (p i : ℕ) → judge_of d n x sub t s ≡ Put p → find_row d.objects x ≡ Some i → 1 ≤ t → (extra_at d.objects i).ranged ≡ t → Between t (number s) (extra_at d.objects i)
 put_in_range d n x sub t s p i e f one r =
     let j = (judged_put d n x sub t s p e).1 in
     let row : j.row ≡ i = cc in
     within (extra_at d.objects i) t (number s) one r (sym (ap (λ k. outside (extra_at d.objects k) t (number s)) row) ∙ j.inside)
 
 -- so where the call changes a word
-pub written_in_range : (d : Dict) (store : List ℕ) (x sub t : ℕ) (s : List ℕ) (i : ℕ) → find_row d.objects x ≡ At i → 1 ≤ t → (extra_at d.objects i).ranged ≡ t
+pub written_in_range : (d : Dict) (store : List ℕ) (x sub t : ℕ) (s : List ℕ) (i : ℕ) → find_row d.objects x ≡ Some i → 1 ≤ t → (extra_at d.objects i).ranged ≡ t
     → ((write_of d store x sub t s).words ≡ d.words → ⊥) → Between t (number s) (extra_at d.objects i)
 unfolding write_of write_act_of
 written_in_range d store x sub t s i f one r changed = go (well_formed d) (judge_of d (length store) x sub t s) refl changed

@@ -1,12 +1,11 @@
 -- What a save offers and what a restore puts, on rows that are alike.
 -- Assumes nothing.
+use Rattle.std.specs.Prelude.{Option, Some, None}
 use Prim.Native.Nat.{ℕ, zero, suc}
 use mathlib.Core.Path.{◌≡◌, refl, ap, ◌∙◌}
 use mathlib.Core.Bool.{Bool, true, false, cond}
 use mathlib.Core.List.{List}
 use Rattle.entry.specs.Table.{Dict, dict, number_of, index_at, count_at}
-use Rattle.entry.specs.declared.Found.{Found}
-use Rattle.entry.specs.declared.Found.TheVariants.{At, Nothing}
 use Rattle.image.specs.Image.{to_store, offers, recs_in, offered_from, offered_in}
 use Rattle.fitting.specs.Fit.{slot_in, key_at, choice_of, chosen_at, fits_room, values_fit, in_range, rows_fit}
 use Rattle.fitting.specs.Records.{record_of}
@@ -37,9 +36,9 @@ offered-same {a} {b} h s w y first last =
     from_offered h s w y first last (number_of a) 0 ∙ ap (λ n. offered_from (dict b s w y) first last n 0) h.rows.number
 
 -- ---- a restore: what is chosen, and whether it fits
-choice_same : (d : Dict) (b : List ℕ) → Alike d.objects b → (i k : ℕ) (f : Found) → choice_of d i k f ≡ choice_of (rowed d b) i k f
-choice_same d b h i k (At a) = refl
-choice_same d b h i k Nothing = rw (default_same h.rows i) (rw (kind-same h.rows i) (rw (first_same h.rows i) (rw (count_same h.rows i) refl)))
+choice_same : (d : Dict) (b : List ℕ) → Alike d.objects b → (i k : ℕ) (f : Option ℕ) → choice_of d i k f ≡ choice_of (rowed d b) i k f
+choice_same d b h i k (Some a) = refl
+choice_same d b h i k None = rw (default_same h.rows i) (rw (kind-same h.rows i) (rw (first_same h.rows i) (rw (count_same h.rows i) refl)))
 
 chosen_same : (d : Dict) (b : List ℕ) → Alike d.objects b → (s : List ℕ) (i k : ℕ) → chosen_at d s i k ≡ chosen_at (rowed d b) s i k
 unfolding chosen_at

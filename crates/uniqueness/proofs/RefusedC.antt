@@ -1,5 +1,8 @@
 -- The same of each call for C: where its answer is a refusal's number, all that was lent is as it was. `loomfinch_to_u64` and
 -- `loomfinch_validate_pdo_mapping` are lent nothing to change. Assumes nothing.
+use Rattle.std.specs.Prelude.{Result, Ok, Err}
+use Rattle.pdo_cycle.specs.declared.Cycle.{Cycle}
+use Rattle.od.specs.declared.Stored.{Stored}
 use mathlib.Core.Logic.{◌≢◌}
 use mathlib.Core.Path.{◌≡◌, refl, ap, ◌∙◌}
 use mathlib.Core.Bool.{Bool, true, false, cond}
@@ -8,54 +11,34 @@ use Prim.Native.Nat.{ℕ, ◌<◌}
 use native.Mathlib.Omega.{arith}
 use lib.Dec.{ltb}
 use lib.ListN.{length}
-use Rattle.answers.specs.declared.Answer.{Answer}
-use Rattle.answers.specs.declared.Answer.TheVariants as answer
 use Rattle.lists.specs.Lists.{over}
 use Rattle.answers.specs.Numbers.{refusal_number}
 use Rattle.answers.specs.declared.Refusal.{Refusal}
 use Rattle.answers.specs.declared.Refusal.TheVariants.{Malformed, BadValue, ObjectNotFound, SubObjectNotFound, TypeMismatch, ReadOnly, BadSignature, NoStorage, CountNotWritable, MissingEntries, PdoMapOverrun, BufferTooShort, TooLong, PayloadTooLong, NoEventRoom, Occupied, Full, StoreFull, OutOfRange}
 use Rattle.value.specs.declared.Decoded.{Decoded}
 use Rattle.value.specs.declared.Decoded.TheVariants as decoded
-use Rattle.value.specs.declared.Encoded.{Encoded}
-use Rattle.value.specs.declared.Encoded.TheVariants as encoded
 use Rattle.value.specs.Meaning.{word_of, fields_of}
 use Rattle.value.specs.Codec as codec
 use Rattle.value.specs.Codec.{decode_of, encode_of}
 use Rattle.entry.specs.Table.{Dict}
 use Rattle.entry.specs.Put.{Contents, contents}
 use Rattle.given.specs.declared.Head.{Head}
-use Rattle.insertion.specs.declared.Inserted.{Inserted}
-use Rattle.insertion.specs.declared.Inserted.TheVariants as inserted
 use Rattle.insertion.specs.Insert.{answer_of, memory_of}
-use Rattle.od.specs.declared.Stored.{Stored}
-use Rattle.od.specs.declared.Stored.TheVariants as stored
-use Rattle.od.specs.declared.Number.{Number}
-use Rattle.od.specs.declared.Number.TheVariants as number
 use Rattle.od.specs.New.{Made, new_of}
 use Rattle.od.specs.Read.{read_of, of_type}
-use Rattle.names.specs.declared.ByName.{ByName}
-use Rattle.names.specs.declared.ByName.TheVariants as byName
 use Rattle.names.specs.Names.{by_name_of}
-use Rattle.nodes.specs.declared.Listed.{Listed}
-use Rattle.nodes.specs.declared.Listed.TheVariants as listing
 use Rattle.nodes.specs.Nodes.{AfterListing, cns_of}
 use Rattle.counter.specs.Counter.{AfterIncrement, counter_of}
 use Rattle.writing.specs.declared.Wrote.{Wrote}
 use Rattle.writing.specs.declared.Wrote.TheVariants as wrote
 use Rattle.writing.specs.Writing as writing
 use Rattle.writing.specs.Writing.{write_of}
-use Rattle.restoring.specs.declared.Restored.{Restored}
-use Rattle.restoring.specs.declared.Restored.TheVariants as restored
 use Rattle.restoring.specs.Restore as restoring
 use Rattle.restoring.specs.Restore.{restore_of}
-use Rattle.pdo_handler.specs.declared.Consumed.{Consumed}
-use Rattle.pdo_handler.specs.declared.Consumed.TheVariants as consumed
 use Rattle.pdo_handler.specs.Consume as consume
 use Rattle.pdo_handler.specs.Consume.{consume_of}
 use Rattle.pdo_handler.specs.Errors as errors
 use Rattle.pdo_handler.specs.Errors.{update_of}
-use Rattle.pdo_cycle.specs.declared.Cycle.{Cycle}
-use Rattle.pdo_cycle.specs.declared.Cycle.TheVariants as cycles
 use Rattle.pdo_cycle.specs.Cycle as cycle
 use Rattle.pdo_cycle.specs.Cycle.{cycle_of}
 use Rattle.element.specs.declared.Fault.{Fault}
@@ -66,8 +49,6 @@ use Rattle.element.specs.Explain.{explain_of}
 use Rattle.element.specs.Numbers.{fault_number, explained_numbers}
 use Rattle.channel.specs.declared.Checked.{Checked}
 use Rattle.channel.specs.declared.Checked.TheVariants as checked
-use Rattle.channel.specs.declared.CheckedAll.{CheckedAll}
-use Rattle.channel.specs.declared.CheckedAll.TheVariants as all
 use Rattle.channel.specs.Check.{check_of}
 use Rattle.channel.specs.All as checking
 use Rattle.channel.specs.All.{check_all_of}
@@ -136,17 +117,17 @@ pub c_encode_refused : (t w : ℕ) (part out : List ℕ) (m : ℕ) → RefusedWr
 unfolding encode_numbers
 c_encode_refused t w part out m = go (encode_of t w part out).answer refl
   where
-    go : (x : Encoded) → (encode_of t w part out).answer ≡ x → RefusedWritten out m (encoded_numbers x (encode_of t w part out).out m)
-    go (encoded.Wrote n) q r e = no_refusal r e
-    go (encoded.Refused k) q r e = rw (ap (λ (y : codec.AfterEncode). y.out) (encode_refused t w part out k q)) (ap (λ a. wrote a out m) e)
+    go : (x : Result ℕ Refusal) → (encode_of t w part out).answer ≡ x → RefusedWritten out m (encoded_numbers x (encode_of t w part out).out m)
+    go (Ok n) q r e = no_refusal r e
+    go (Err k) q r e = rw (ap (λ (y : codec.AfterEncode). y.out) (encode_refused t w part out k q)) (ap (λ a. wrote a out m) e)
 
 pub c_from_u64_refused : (word : ℕ) (ns : List ℕ) → RefusedLent ns (results (entry_numbers word) ns)
 c_from_u64_refused word ns = results_refused (entry_numbers word) ns
 
 -- ---- the dictionary
-refused_answer : (a : Answer) (r : Refusal) → answer_number a ≡ refusal_number r → (k : Refusal) × (a ≡ answer.Refused k)
-refused_answer answer.Done r e = no_refusal r e
-refused_answer (answer.Refused k) r e = (k, refl)
+refused_answer : (a : Result (Unit {0}) Refusal) (r : Refusal) → answer_number a ≡ refusal_number r → (k : Refusal) × (a ≡ Err k)
+refused_answer (Ok _) r e = no_refusal r e
+refused_answer (Err k) r e = (k, refl)
 
 pub c-new_refused : (edition : ℕ) (objects : List ℕ) (r : Refusal) → answer_number (new_of edition objects).answer ≡ refusal_number r → (new_of edition objects).objects ≡ objects
 c-new_refused edition objects r e = let k = refused_answer (new_of edition objects).answer r e in ap (λ (y : Made). y.objects) (new_refused edition objects k.0 k.1)
@@ -154,42 +135,42 @@ c-new_refused edition objects r e = let k = refused_answer (new_of edition objec
 pub c_insert_refused : (h : Head) (name vals encodings : List ℕ) (d : Dict) (r : Refusal) → inserted_number (answer_of h name vals encodings d) ≡ refusal_number r → memory_of h name vals encodings d ≡ d
 c_insert_refused h name vals encodings d r e = go (answer_of h name vals encodings d) refl e
   where
-    go : (a : Inserted) → answer_of h name vals encodings d ≡ a → inserted_number a ≡ refusal_number r → memory_of h name vals encodings d ≡ d
-    go inserted.Done q e = no_refusal r e
-    go (inserted.Refused k) q e = insert_refused h name vals encodings d k q
+    go : (a : Result (Unit {0}) Refusal) → answer_of h name vals encodings d ≡ a → inserted_number a ≡ refusal_number r → memory_of h name vals encodings d ≡ d
+    go (Ok _) q e = no_refusal r e
+    go (Err k) q e = insert_refused h name vals encodings d k q
 
 pub c_read_refused : (d : Dict) (x sub : ℕ) (ns : List ℕ) → RefusedLent ns (read_numbers d x sub ns)
 unfolding read_numbers
 c_read_refused d x sub ns = go (read_of d x sub)
   where
-    go : (a : Stored) → RefusedLent ns (stored_numbers a ns)
-    go (stored.Is kind word start) r e = results_refused (kind ∷ word ∷ start ∷ []) ns r e
-    go (stored.Refused k) r e = ap (λ a. lent a ns) e
+    go : (a : Result Stored Refusal) → RefusedLent ns (stored_numbers a ns)
+    go (Ok v) r e = results_refused (v.value_type ∷ v.word ∷ v.start ∷ []) ns r e
+    go (Err k) r e = ap (λ a. lent a ns) e
 
 -- `loomfinch_read_u8`, `_u16`, `_u32` and `_u64`: of type 5, 6, 7 and 8
 pub c_read_typed_refused : (t : ℕ) (d : Dict) (x sub m : ℕ) → RefusedTold m (typed_told t d x sub m)
 unfolding typed_told
 c_read_typed_refused t d x sub m = go (of_type t (read_of d x sub))
   where
-    go : (a : Number) → RefusedTold m (number_told a m)
-    go (number.Is n) r e = no_refusal r e
-    go (number.Refused k) r e = ap (λ a. told a m) e
+    go : (a : Result ℕ Refusal) → RefusedTold m (number_told a m)
+    go (Ok n) r e = no_refusal r e
+    go (Err k) r e = ap (λ a. told a m) e
 
 pub c_find_by_name_refused : (d : Dict) (name : List ℕ) (m : ℕ) → RefusedTold m (named_told d name m)
 unfolding named_told
 c_find_by_name_refused d name m = go (by_name_of d name)
   where
-    go : (a : ByName) → RefusedTold m (name_told a m)
-    go (byName.At x) r e = no_refusal r e
-    go (byName.Refused k) r e = ap (λ a. told a m) e
+    go : (a : Result ℕ Refusal) → RefusedTold m (name_told a m)
+    go (Ok x) r e = no_refusal r e
+    go (Err k) r e = ap (λ a. told a m) e
 
 pub c_get_configured_cns_refused : (d : Dict) (out : List ℕ) (m : ℕ) → RefusedWritten out m (node_numbers d out m)
 unfolding node_numbers
 c_get_configured_cns_refused d out m = go (cns_of d out).answer refl
   where
-    go : (a : Listed) → (cns_of d out).answer ≡ a → RefusedWritten out m (listed_numbers a (cns_of d out).out m)
-    go (listing.Numbers n) q r e = no_refusal r e
-    go (listing.Refused k) q r e = rw (ap (λ (y : AfterListing). y.out) (cns_refused d out k q)) (ap (λ a. wrote a out m) e)
+    go : (a : Result ℕ Refusal) → (cns_of d out).answer ≡ a → RefusedWritten out m (listed_numbers a (cns_of d out).out m)
+    go (Ok n) q r e = no_refusal r e
+    go (Err k) q r e = rw (ap (λ (y : AfterListing). y.out) (cns_refused d out k q)) (ap (λ a. wrote a out m) e)
 
 pub c_increment_counter_refused : (d : Dict) (x sub : ℕ) (r : Refusal) → answer_number (counter_of d x sub).answer ≡ refusal_number r → (counter_of d x sub).words ≡ d.words
 c_increment_counter_refused d x sub r e = let k = refused_answer (counter_of d x sub).answer r e in ap (λ (y : AfterIncrement). y.words) (counter_refused d x sub k.0 k.1)
@@ -211,9 +192,9 @@ c_write_refused d store x sub t s r e = go (write_of d store x sub t s).answer r
 pub c_restore_refused : (d : Dict) (s : List ℕ) (first last : ℕ) (r : Refusal) → restored_number (restore_of d s first last).answer ≡ refusal_number r → (restore_of d s first last).memory ≡ d
 c_restore_refused d s first last r e = go (restore_of d s first last).answer refl e
   where
-    go : (a : Restored) → (restore_of d s first last).answer ≡ a → restored_number a ≡ refusal_number r → (restore_of d s first last).memory ≡ d
-    go restored.Done q e = no_refusal r e
-    go (restored.Refused k) q e = ap (λ (y : restoring.AfterRestore). y.memory) (restore_refused d s first last k q)
+    go : (a : Result (Unit {0}) Refusal) → (restore_of d s first last).answer ≡ a → restored_number a ≡ refusal_number r → (restore_of d s first last).memory ≡ d
+    go (Ok _) q e = no_refusal r e
+    go (Err k) q e = ap (λ (y : restoring.AfterRestore). y.memory) (restore_refused d s first last k q)
 
 -- ---- payloads and error bits
 abbrev RefusedHeard : Contents → List ℕ → ℕ → ℕ → Heard → Type 0
@@ -230,9 +211,9 @@ c_consume_refused d payload sender version ready log m r e = go x.answer refl e
     x : consume.AfterConsume
     x = consume_of d payload sender version ready (length log) log
 
-    go : (a : Consumed) → x.answer ≡ a → (consume_numbers (consume.after_consume a c log) m).answer ≡ refusal_number r → consume_numbers x m ≡ heard (refusal_number r) c log 0 m
-    go (consumed.Done n) q e = no_refusal r e
-    go (consumed.Refused k) q e = ap (λ (y : consume.AfterConsume). consume_numbers y m) (consume_refused d payload sender version ready (length log) log k q) ∙ ap (λ a. heard a c log 0 m) e
+    go : (a : Result ℕ Refusal) → x.answer ≡ a → (consume_numbers (consume.after_consume a c log) m).answer ≡ refusal_number r → consume_numbers x m ≡ heard (refusal_number r) c log 0 m
+    go (Ok n) q e = no_refusal r e
+    go (Err k) q e = ap (λ (y : consume.AfterConsume). consume_numbers y m) (consume_refused d payload sender version ready (length log) log k q) ∙ ap (λ a. heard a c log 0 m) e
 
 pub c_consume_cycle_refused : (d : Dict) (delivered ps log : List ℕ) (j m : ℕ) → RefusedHeard (contents d.words d.bytes) log j m (cycle_numbers (cycle_of d delivered ps log) j m)
 unfolding cycle_numbers
@@ -244,9 +225,9 @@ c_consume_cycle_refused d delivered ps log j m r e = go x.answer refl e
     x : cycle.AfterCycle
     x = cycle_of d delivered ps log
 
-    go : (a : Cycle) → x.answer ≡ a → (cycle_numbers (cycle.after_cycle a c log) j m).answer ≡ refusal_number r → cycle_numbers x j m ≡ heard (refusal_number r) c log j m
-    go (cycles.Done i n) q e = no_refusal r e
-    go (cycles.Refused k) q e = ap (λ (y : cycle.AfterCycle). cycle_numbers y j m) (cycle_refused d delivered ps log k q) ∙ ap (λ a. heard a c log j m) e
+    go : (a : Result Cycle Refusal) → x.answer ≡ a → (cycle_numbers (cycle.after_cycle a c log) j m).answer ≡ refusal_number r → cycle_numbers x j m ≡ heard (refusal_number r) c log j m
+    go (Ok v) q e = no_refusal r e
+    go (Err k) q e = ap (λ (y : cycle.AfterCycle). cycle_numbers y j m) (cycle_refused d delivered ps log k q) ∙ ap (λ a. heard a c log j m) e
 
 pub c_update_refused : (d : Dict) (x n : ℕ) (r : Refusal) → answer_number (update_of d x n).answer ≡ refusal_number r → (update_of d x n).bytes ≡ d.bytes
 c_update_refused d x n r e = let k = refused_answer (update_of d x n).answer r e in ap (λ (y : errors.AfterUpdate). y.bytes) (update_refused d x n k.0 k.1)
@@ -275,9 +256,9 @@ pub c_check_all_refused : (d : Dict) (out : List ℕ) (m : ℕ) → RefusedWritt
 unfolding check_all_numbers
 c_check_all_refused d out m = go (check_all_of d out).answer refl
   where
-    go : (a : CheckedAll) → (check_all_of d out).answer ≡ a → RefusedWritten out m (all_numbers a (check_all_of d out).out m)
-    go (all.Done n) q r e = no_refusal r e
-    go (all.Refused k) q r e = rw (ap (λ (y : checking.AfterCheckAll). y.out) (check_all_refused d out k q)) (ap (λ a. wrote a out m) e)
+    go : (a : Result ℕ Refusal) → (check_all_of d out).answer ≡ a → RefusedWritten out m (all_numbers a (check_all_of d out).out m)
+    go (Ok n) q r e = no_refusal r e
+    go (Err k) q r e = rw (ap (λ (y : checking.AfterCheckAll). y.out) (check_all_refused d out k q)) (ap (λ a. wrote a out m) e)
 
 pub c_explain_refused : (d : Dict) (i k : ℕ) (ns : List ℕ) → RefusedLent ns (explain_numbers (explain_of d i k) ns)
 unfolding explain_numbers

@@ -1,6 +1,8 @@
 -- `consume_pdo_payload` and `consume_by_value` lend a slice of records, and `read_part` returns a part of what was lent. Of each, here is the claim
 -- in full, equal to the contract that Rattle reads off the source, and that it leaves one outcome; of the first two also that the plain reading
 -- that Rattle makes of the contract does, as of the calls in Unique.antt. Assumes nothing.
+use Rattle.std.specs.Prelude.{Result, ℕ}
+use Rattle.answers.specs.declared.Refusal.{Refusal}
 use mathlib.Core.Path.{◌≡◌, refl, ◌∙◌, sym}
 use mathlib.Core.List.{List}
 use contract.Lifetimes.{Lfts}
@@ -8,7 +10,6 @@ use denote.Triple.Entry.{Args, Res}
 use denote.Triple.Clauses.{Lasts, at_exit}
 use Rattle.entry.specs.Table.{dict}
 use Rattle.entry.specs.Put.{contents}
-use Rattle.pdo_handler.specs.declared.Consumed.{Consumed}
 use Rattle.event.specs.declared.EventRecord.{EventRecord}
 use Rattle.events.specs.declared.Heard.{Heard}
 use Rattle.events.specs.Receive.{Received, received, received_of}
@@ -45,7 +46,7 @@ consume_unique κs a z₁ z₂ w₁ w₂ p q =
 pub consume_pdo_payload_unique : Unique 6 consume-kinds.ps consume-kinds.r consume-reads.Post
 consume_pdo_payload_unique κs a z₁ z₂ w₁ w₂ p q = consume_unique κs a z₁ z₂ w₁ w₂ p q
 
-abbrev heard : Consumed → List EventRecord → Heard
+abbrev heard : Result ℕ Refusal → List EventRecord → Heard
 heard a es = record { answer = a; events = es }
 
 -- ---- consume_by_value: the records come and go by value
