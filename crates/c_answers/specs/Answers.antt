@@ -1,16 +1,15 @@
 -- What the calls for C answer, and what they leave in what was lent for their results. RULES.md 13. Assumes nothing.
-use Rattle.std.specs.Prelude.{ℕ, cond, List, ltb, length}
-use Rattle.answers.specs.declared.Answer.{Answer}
-use Rattle.answers.specs.declared.Answer.TheVariants as answer
+use Rattle.answers.specs.declared.Refusal.{Refusal}
+use Rattle.std.specs.Prelude.{ℕ, cond, List, ltb, length, Result, Ok, Err}
 use Rattle.lists.specs.Lists.{over}
 use Rattle.answers.specs.Numbers.{refusal_number}
 use Rattle.answers.specs.declared.Refusal.TheVariants.{BufferTooShort}
 use Rattle.value.specs.declared.CodecFault.{CodecFault}
 use Rattle.value.specs.declared.CodecFault.TheVariants.{Value, Text, Odd}
 
-abbrev pub answer_number : Answer → ℕ
-answer_number answer.Done = 0
-answer_number (answer.Refused r) = refusal_number r
+abbrev pub answer_number : Result (Unit {0}) Refusal → ℕ
+answer_number (Ok _) = 0
+answer_number (Err r) = refusal_number r
 
 -- R13.5: the two numbers that are lent for a fault's, after it: the bytes needed or the place of the byte, and the bytes had
 abbrev pub place_after : CodecFault → ℕ → ℕ

@@ -4,15 +4,15 @@
 ghost use Rattle.std.specs.Prelude.{◌≡◌};
 ghost use Rattle.c_answers.specs.Answers.{answer_number, place_after, had_after};
 
-use answers::Answer;
+use answers::Refusal;
 use value::CodecFault;
 
-pub fn number_of(a: Answer) -> u64
+pub fn number_of(a: Result<(), Refusal>) -> u64
     ensures { result ≡ answer_number a }
 {
     match a {
-        Answer::Done => 0,
-        Answer::Refused(r) => answers::number(r),
+        Ok(()) => 0,
+        Err(r) => answers::number(r),
     }
 }
 

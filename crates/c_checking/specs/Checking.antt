@@ -1,10 +1,9 @@
 -- What the channel check answers for C: RULES.md R12.12, R12.13 and R12.15. Assumes nothing.
-use Rattle.std.specs.Prelude.{ℕ, List}
+use Rattle.answers.specs.declared.Refusal.{Refusal}
+use Rattle.std.specs.Prelude.{ℕ, List, Result, Ok, Err}
 use Rattle.answers.specs.Numbers.{refusal_number}
 use Rattle.channel.specs.declared.Checked.{Checked}
 use Rattle.channel.specs.declared.Checked.TheVariants as checked
-use Rattle.channel.specs.declared.CheckedAll.{CheckedAll}
-use Rattle.channel.specs.declared.CheckedAll.TheVariants as all
 use Rattle.element.specs.declared.Explained.{Explained}
 use Rattle.element.specs.declared.Explained.TheVariants as explained
 use Rattle.element.specs.Numbers.{explained_numbers}
@@ -25,9 +24,9 @@ abbrev pub checked_told : Checked → ℕ → Told
 checked_told a m = told (answer_number a) (checked_element a m)
 
 -- the answer, the lent numbers, and how many were laid
-abbrev pub all_numbers : CheckedAll → List ℕ → ℕ → Written
-all_numbers (all.Done n) out m = wrote 0 out n
-all_numbers (all.Refused r) out m = wrote (refusal_number r) out m
+abbrev pub all_numbers : Result ℕ Refusal → List ℕ → ℕ → Written
+all_numbers (Ok n) out m = wrote 0 out n
+all_numbers (Err r) out m = wrote (refusal_number r) out m
 
 unfoldable pub check_all_numbers : AfterCheckAll → ℕ → Written
 check_all_numbers a m = all_numbers a.answer a.out m

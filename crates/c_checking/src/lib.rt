@@ -9,7 +9,7 @@ ghost use Rattle.element.specs.Explain.{explain_of};
 ghost use Rattle.c_answers.specs.Answers.{lent, wrote, told};
 ghost use Rattle.c_checking.specs.Checking.{checked_element, checked_told, check_all_numbers, explain_numbers};
 
-use channel::{Checked, CheckedAll};
+use channel::Checked;
 use element::Explained;
 
 // The element that an answer names; a refusal leaves what was lent.
@@ -55,11 +55,11 @@ pub fn loomfinch_check_all(
     ensures { wrote result numbers.new count.new ≡ check_all_numbers (check_all_of (dict objects.now slots.now words.now bytes.now) numbers.old) count.old }
 {
     match channel::check_all(objects, slots, words, bytes, numbers) {
-        CheckedAll::Done(n) => {
+        Ok(n) => {
             *count = n as u64;
             0
         }
-        CheckedAll::Refused(r) => answers::number(r),
+        Err(r) => answers::number(r),
     }
 }
 
@@ -83,6 +83,6 @@ pub fn loomfinch_explain(
         return 12;
     }
     let all = element::explained_numbers(e);
-    lists::lay_words(numbers, 0, &all);
+    lists::lay(numbers, 0, &all);
     0
 }

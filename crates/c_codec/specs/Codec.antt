@@ -1,16 +1,13 @@
 -- What the calls for C answer of values and mapping words, and what they leave in what was lent. RULES.md 13. Assumes nothing.
-use Rattle.std.specs.Prelude.{ℕ, List, [], ◌∷◌}
+use Rattle.answers.specs.declared.Refusal.{Refusal}
+use Rattle.std.specs.Prelude.{ℕ, List, [], ◌∷◌, Option, Some, None, Result, Ok, Err}
 use Rattle.answers.specs.Numbers.{refusal_number}
 use Rattle.answers.specs.declared.Refusal.TheVariants.{BadValue}
 use Rattle.value.specs.declared.ObjectValue.{ObjectValue}
 use Rattle.value.specs.declared.Decoded.{Decoded}
 use Rattle.value.specs.declared.Decoded.TheVariants.{Value, Fails, NoType}
 use Rattle.value.specs.Meaning.{word_of, fields_of}
-use Rattle.value.specs.declared.Encoded.{Encoded}
-use Rattle.value.specs.declared.Encoded.TheVariants.{Wrote, Refused}
 use Rattle.value.specs.Codec.{decode_of, refusal_of, encode_of}
-use Rattle.mapping.specs.declared.Aligned.{Aligned}
-use Rattle.mapping.specs.declared.Aligned.TheVariants.{Bytes, Misaligned}
 use Rattle.mapping.specs.declared.PdoMappingEntry.{PdoMappingEntry}
 use Rattle.mapping.specs.Word.{entry_of, aligned_of, end_of}
 use Rattle.c_answers.specs.Answers.{place_after, had_after, Lent, results, Written, wrote}
@@ -36,21 +33,21 @@ decoded_numbers NoType ns p h = after_decode (refusal_number BadValue) ns p h
 unfoldable pub decode_numbers : ℕ → List ℕ → List ℕ → ℕ → ℕ → AfterDecode
 decode_numbers t s ns p h = decoded_numbers (decode_of t s) ns p h
 
-abbrev pub encoded_numbers : Encoded → List ℕ → ℕ → Written
-encoded_numbers (Wrote n) out m = wrote 0 out n
-encoded_numbers (Refused r) out m = wrote (refusal_number r) out m
+abbrev pub encoded_numbers : Result ℕ Refusal → List ℕ → ℕ → Written
+encoded_numbers (Ok n) out m = wrote 0 out n
+encoded_numbers (Err r) out m = wrote (refusal_number r) out m
 
 unfoldable pub encode_numbers : ℕ → ℕ → List ℕ → List ℕ → ℕ → Written
 encode_numbers t w part out m = let a = encode_of t w part out in encoded_numbers a.answer a.out m
 
 -- 1 and the number of bytes, where bits are whole bytes; else 0 and 0
-abbrev pub whole_of : Aligned → ℕ
-whole_of (Bytes n) = 1
-whole_of Misaligned = 0
+abbrev pub whole_of : Option ℕ → ℕ
+whole_of (Some n) = 1
+whole_of None = 0
 
-abbrev pub bytes_in : Aligned → ℕ
-bytes_in (Bytes n) = n
-bytes_in Misaligned = 0
+abbrev pub bytes_in : Option ℕ → ℕ
+bytes_in (Some n) = n
+bytes_in None = 0
 
 -- a mapping word's parts; its offset and its length in bytes; its end in bytes
 abbrev pub parts_of : PdoMappingEntry → List ℕ

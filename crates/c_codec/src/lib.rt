@@ -7,8 +7,8 @@ ghost use Rattle.mapping.specs.Word.{word_of};
 ghost use Rattle.c_answers.specs.Answers.{lent, wrote, results};
 ghost use Rattle.c_codec.specs.Codec.{value_numbers, after_decode, decode_numbers, encode_numbers, entry_numbers, whole_of, bytes_in};
 
-use mapping::{Aligned, PdoMappingEntry};
-use value::{Decoded, Encoded, ObjectValue};
+use mapping::PdoMappingEntry;
+use value::{Decoded, ObjectValue};
 
 // A value's word and its parts.
 fn give(v: ObjectValue, numbers: &mut [u64]) -> u64
@@ -19,7 +19,7 @@ fn give(v: ObjectValue, numbers: &mut [u64]) -> u64
     }
     let parts = object_value::fields(v);
     numbers[0] = object_value::to_word(v);
-    lists::lay_words(numbers, 1, &parts);
+    lists::lay(numbers, 1, &parts);
     0
 }
 
@@ -52,31 +52,31 @@ pub fn loomfinch_encode(
     ensures { wrote result out.new written.new ≡ encode_numbers type_number word part.now out.old written.old }
 {
     match value::encode_word(type_number, word, part, out) {
-        Encoded::Wrote(n) => {
+        Ok(n) => {
             *written = n as u64;
             0
         }
-        Encoded::Refused(r) => answers::number(r),
+        Err(r) => answers::number(r),
     }
 }
 
 // 1 where it is whole bytes, else 0.
-fn whole(a: Aligned) -> u64
+fn whole(a: Option<usize>) -> u64
     ensures { result ≡ whole_of a }
 {
     match a {
-        Aligned::Bytes(_) => 1,
-        Aligned::Misaligned => 0,
+        Some(_) => 1,
+        None => 0,
     }
 }
 
 // The bytes, where they are whole, else 0.
-fn count(a: Aligned) -> u64
+fn count(a: Option<usize>) -> u64
     ensures { result ≡ bytes_in a }
 {
     match a {
-        Aligned::Bytes(n) => n as u64,
-        Aligned::Misaligned => 0,
+        Some(n) => n as u64,
+        None => 0,
     }
 }
 
@@ -107,7 +107,7 @@ pub fn loomfinch_from_u64(word: u64, numbers: &mut [u64]) -> u64
         return 12;
     }
     let all = entry_numbers(word);
-    lists::lay_words(numbers, 0, &all);
+    lists::lay(numbers, 0, &all);
     0
 }
 

@@ -10,26 +10,15 @@ ghost use Rattle.insertion.specs.Replace.{replace_answer_of, replace_memory_of};
 ghost use Rattle.c_answers.specs.Answers.{lent, wrote, answer_number, told};
 ghost use Rattle.c_dictionary.specs.Dictionary.{inserted_number, head_of, read_numbers, typed_told, named_told, node_numbers};
 
+use answers::Refusal;
 use c_answers::number_of;
-use insertion::{Head, Inserted};
-use names::ByName;
-use nodes::Listed;
-use od::{Number, Stored};
+use insertion::Head;
 
 pub fn loomfinch_new(objects: &mut [u64], edition: u64) -> u64
     ensures answer { result ≡ answer_number (new_of edition objects.old).answer }
     ensures memory { objects.new ≡ (new_of edition objects.old).objects }
 {
     number_of(od::new(objects, edition))
-}
-
-fn inserted(a: Inserted) -> u64
-    ensures { result ≡ inserted_number a }
-{
-    match a {
-        Inserted::Done => 0,
-        Inserted::Refused(r) => answers::number(r),
-    }
 }
 
 fn head_of(
@@ -86,7 +75,7 @@ pub fn loomfinch_insert(
         high_type,
         high,
     );
-    inserted(insertion::insert(objects, slots, words, bytes, head, name, vals, encodings))
+    number_of(insertion::insert(objects, slots, words, bytes, head, name, vals, encodings))
 }
 
 pub fn loomfinch_replace(
@@ -119,7 +108,7 @@ pub fn loomfinch_replace(
         high_type,
         high,
     );
-    inserted(insertion::replace(objects, slots, words, bytes, head, name, vals, encodings))
+    number_of(insertion::replace(objects, slots, words, bytes, head, name, vals, encodings))
 }
 
 pub fn loomfinch_read(
@@ -134,19 +123,15 @@ pub fn loomfinch_read(
     ensures { lent result numbers.new ≡ read_numbers (dict objects.now slots.now words.now bytes.now) index sub_index numbers.old }
 {
     match od::read(objects, slots, words, bytes, index, sub_index) {
-        Stored::Is {
-            value_type,
-            word,
-            start,
-        } => {
+        Ok(v) => {
             if numbers.len() < 3 {
                 return 12;
             }
-            let all = [value_type, word, start];
-            lists::lay_words(numbers, 0, &all);
+            let all = [v.value_type, v.word, v.start];
+            lists::lay(numbers, 0, &all);
             0
         }
-        Stored::Refused(r) => answers::number(r),
+        Err(r) => answers::number(r),
     }
 }
 
@@ -164,11 +149,11 @@ fn typed(
     ensures { told result number.new ≡ typed_told t (dict objects.now slots.now words.now bytes.now) index sub_index number.old }
 {
     match od::read_number(objects, slots, words, bytes, index, sub_index, t) {
-        Number::Is(w) => {
+        Ok(w) => {
             *number = w;
             0
         }
-        Number::Refused(r) => answers::number(r),
+        Err(r) => answers::number(r),
     }
 }
 
@@ -239,11 +224,11 @@ pub fn loomfinch_find_by_name(
     ensures { told result index.new ≡ named_told (dict objects.now slots.now words.now bytes.now) name.now index.old }
 {
     match names::find_by_name(objects, slots, words, bytes, name) {
-        ByName::At(x) => {
+        Ok(x) => {
             *index = x as u64;
             0
         }
-        ByName::Refused(r) => answers::number(r),
+        Err(r) => answers::number(r),
     }
 }
 
@@ -258,11 +243,11 @@ pub fn loomfinch_get_configured_cns(
     ensures { wrote result out.new count.new ≡ node_numbers (dict objects.now slots.now words.now bytes.now) out.old count.old }
 {
     match nodes::get_configured_cns(objects, slots, words, bytes, out) {
-        Listed::Numbers(n) => {
+        Ok(n) => {
             *count = n as u64;
             0
         }
-        Listed::Refused(r) => answers::number(r),
+        Err(refusal) => answers::number(refusal),
     }
 }
 

@@ -1,19 +1,17 @@
 -- What consuming answers and leaves for C: RULES.md 11 and 13. Assumes nothing.
-use Rattle.std.specs.Prelude.{ℕ, List}
+use Rattle.pdo_cycle.specs.declared.Cycle.{Cycle}
+use Rattle.answers.specs.declared.Refusal.{Refusal}
+use Rattle.std.specs.Prelude.{ℕ, List, Result, Ok, Err}
 use Rattle.answers.specs.Numbers.{refusal_number}
 use Rattle.entry.specs.Put.{Contents}
-use Rattle.pdo_handler.specs.declared.Consumed.{Consumed}
-use Rattle.pdo_handler.specs.declared.Consumed.TheVariants as consumed
 use Rattle.pdo_handler.specs.Consume.{AfterConsume}
-use Rattle.pdo_cycle.specs.declared.Cycle.{Cycle}
-use Rattle.pdo_cycle.specs.declared.Cycle.TheVariants as cycle
 use Rattle.pdo_cycle.specs.Cycle.{AfterCycle}
 use Rattle.c_answers.specs.Answers.{Told, told}
 
 -- an answer's number, and the count of events after it
-abbrev pub consumed_told : Consumed → ℕ → Told
-consumed_told (consumed.Done n) m = told 0 n
-consumed_told (consumed.Refused r) m = told (refusal_number r) m
+abbrev pub consumed_told : Result ℕ Refusal → ℕ → Told
+consumed_told (Ok n) m = told 0 n
+consumed_told (Err r) m = told (refusal_number r) m
 
 -- an answer's number, the counts of payloads and events, and what was lent after it
 pub record Heard : Type 0 where
@@ -39,9 +37,9 @@ pub record Counted : Type 0 where
 abbrev pub counted : ℕ → ℕ → ℕ → Counted
 counted a i n = record { answer = a; consumed = i; count = n }
 
-abbrev pub cycle_counted : Cycle → ℕ → ℕ → Counted
-cycle_counted (cycle.Done i n) j m = counted 0 i n
-cycle_counted (cycle.Refused r) j m = counted (refusal_number r) j m
+abbrev pub cycle_counted : Result Cycle Refusal → ℕ → ℕ → Counted
+cycle_counted (Ok v) j m = counted 0 v.consumed v.events
+cycle_counted (Err r) j m = counted (refusal_number r) j m
 
 unfoldable pub cycle_numbers : AfterCycle → ℕ → ℕ → Heard
 cycle_numbers a j m = let t = cycle_counted a.answer j m in heard t.answer a.contents a.log t.consumed t.count

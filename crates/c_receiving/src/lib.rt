@@ -10,19 +10,19 @@ ghost use Rattle.pdo_cycle.specs.Cycle.{cycle_of};
 ghost use Rattle.c_answers.specs.Answers.{answer_number, told};
 ghost use Rattle.c_receiving.specs.Receiving.{consumed_told, heard, consume_numbers, counted, cycle_counted, cycle_numbers};
 
+use answers::Refusal;
 use c_answers::number_of;
 use pdo_cycle::Cycle;
-use pdo_handler::Consumed;
 
-fn consumed(a: Consumed, count: &mut u64) -> u64
+fn consumed(a: Result<usize, Refusal>, count: &mut u64) -> u64
     ensures { told result count.new ≡ consumed_told a count.old }
 {
     match a {
-        Consumed::Done(n) => {
+        Ok(n) => {
             *count = n as u64;
             0
         }
-        Consumed::Refused(r) => answers::number(r),
+        Err(r) => answers::number(r),
     }
 }
 
@@ -56,19 +56,21 @@ pub fn loomfinch_consume_pdo_payload(
     consumed(a, count)
 }
 
-fn cycled(a: Cycle, consumed: &mut u64, count: &mut u64) -> u64
+fn cycled(a: Result<Cycle, Refusal>, consumed: &mut u64, count: &mut u64) -> u64
     ensures { counted result consumed.new count.new ≡ cycle_counted a consumed.old count.old }
 {
     match a {
-        Cycle::Done {
-            consumed: payloads,
-            events,
-        } => {
+        Ok(
+            Cycle {
+                consumed: payloads,
+                events,
+            },
+        ) => {
             *consumed = payloads as u64;
             *count = events as u64;
             0
         }
-        Cycle::Refused(r) => answers::number(r),
+        Err(r) => answers::number(r),
     }
 }
 

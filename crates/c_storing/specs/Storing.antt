@@ -1,12 +1,11 @@
 -- What writing and restoring answer for C: RULES.md 13. Assumes nothing.
-use Rattle.std.specs.Prelude.{ℕ}
+use Rattle.answers.specs.declared.Refusal.{Refusal}
+use Rattle.std.specs.Prelude.{ℕ, Result, Ok, Err}
 use Rattle.answers.specs.Numbers.{refusal_number}
 use Rattle.answers.specs.declared.Refusal.TheVariants.{BadValue}
-use Rattle.restoring.specs.declared.Restored.{Restored}
-use Rattle.restoring.specs.declared.Restored.TheVariants as restored
 use Rattle.writing.specs.declared.Wrote.{Wrote}
 use Rattle.writing.specs.declared.Wrote.TheVariants.{Done, RestoreRequested, NoValue, Refused}
-use Rattle.c_answers.specs.Answers.{place_after, had_after}
+use Rattle.c_answers.specs.Answers.{answer_number, place_after, had_after}
 
 abbrev pub wrote_number : Wrote → ℕ
 wrote_number Done = 0
@@ -27,6 +26,5 @@ wrote_had RestoreRequested h = h
 wrote_had (NoValue f) h = had_after f h
 wrote_had (Refused r) h = h
 
-abbrev pub restored_number : Restored → ℕ
-restored_number restored.Done = 0
-restored_number (restored.Refused r) = refusal_number r
+abbrev pub restored_number : Result (Unit {0}) Refusal → ℕ
+restored_number a = answer_number a

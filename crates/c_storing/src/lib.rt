@@ -9,8 +9,8 @@ ghost use Rattle.writing.specs.Writing.{write_of};
 ghost use Rattle.c_answers.specs.Answers.{answer_number};
 ghost use Rattle.c_storing.specs.Storing.{wrote_number, wrote_place, wrote_had, restored_number};
 
+use answers::Refusal;
 use c_answers::number_of;
-use restoring::Restored;
 use writing::Wrote;
 
 fn wrote(a: Wrote, place: &mut u64, had: &mut u64) -> u64
@@ -77,15 +77,6 @@ pub fn loomfinch_validate_pdo_mapping(
     number_of(pdo_validator::validate_pdo_mapping(objects, slots, words, bytes, index, count))
 }
 
-fn restored(a: Restored) -> u64
-    ensures { result ≡ restored_number a }
-{
-    match a {
-        Restored::Done => 0,
-        Restored::Refused(r) => answers::number(r),
-    }
-}
-
 pub fn loomfinch_restore_power_on_values(
     objects: &[u64],
     slots: &mut [u64],
@@ -98,5 +89,5 @@ pub fn loomfinch_restore_power_on_values(
     ensures answer { result ≡ restored_number (restore_of (dict objects.now slots.old words.old bytes.old) store.now first last).answer }
     ensures memory { dict objects.now slots.new words.new bytes.new ≡ (restore_of (dict objects.now slots.old words.old bytes.old) store.now first last).memory }
 {
-    restored(restoring::restore_power_on_values(objects, slots, words, bytes, store, first, last))
+    number_of(restoring::restore_power_on_values(objects, slots, words, bytes, store, first, last))
 }

@@ -5,15 +5,15 @@ use Rattle.c_answers.specs.Answers.{wrote}
 use Rattle.c_checking.specs.Checking.{all_numbers, check_all_numbers}
 use Rattle.c_checking.proofs.loomfinch_check_all.Goals as goal
 
-pub returns-in-Done : goal.returns-in-Done
+pub returns-in-Ok : goal.returns-in-Ok
 unfolding check_all_numbers
-returns-in-Done c =
+returns-in-Ok c =
     let m = c.args.count.now in
-    ap (λ a. all_numbers a c.check_all.new.out m) (sym c.in-Done.is) ∙ ap (λ (a : AfterCheckAll). check_all_numbers a m) c.check_all.ensures
+    ap (λ a. all_numbers a c.check_all.new.out m) (sym c.in-Ok.is) ∙ ap (λ (a : AfterCheckAll). check_all_numbers a m) c.check_all.ensures
 
-pub returns-in-Refused : goal.returns-in-Refused
+pub returns-in-Err : goal.returns-in-Err
 unfolding check_all_numbers
-returns-in-Refused c =
+returns-in-Err c =
     let m = c.args.count.now in
     let out = c.check_all.new.out in
-    ap (λ n. wrote n out m) c.number.ensures ∙ ap (λ a. all_numbers a out m) (sym c.in-Refused.is) ∙ ap (λ (a : AfterCheckAll). check_all_numbers a m) c.check_all.ensures
+    ap (λ n. wrote n out m) c.number.ensures ∙ ap (λ a. all_numbers a out m) (sym c.in-Err.is) ∙ ap (λ (a : AfterCheckAll). check_all_numbers a m) c.check_all.ensures

@@ -18,8 +18,8 @@ returns-then-numbers-lt7 c =
     let a = c.args in
     sym (results_short (word_of a.v ∷ fields_of a.v) a.numbers.now (omega (arith, length_fields a.v)))
 
-pub lay_words-requires : goal.lay_words-requires
-lay_words-requires c =
+pub lay-requires : goal.lay-requires
+lay-requires c =
     simp length-set (omega (arith, ap length c.fields-parts.ensures, length_fields c.args.v))
 
 pub returns : goal.returns
@@ -31,4 +31,4 @@ returns c =
     let h = length_fields a.v in
     let o : over (set ns 0 w.result) 1 c.fields-parts.result ≡ over ns 0 (word_of a.v ∷ fields_of a.v) =
     ap₂ (λ x p. over (set ns 0 x) 1 p) w.ensures c.fields-parts.ensures ∙ sym (over_first ns 0 (word_of a.v) (fields_of a.v) (omega arith)) in
-    ap (lent 0) (c.lay_words.ensures ∙ o) ∙ sym (results_done (word_of a.v ∷ fields_of a.v) ns (omega arith))
+    ap (lent 0) (c.lay.ensures ∙ o) ∙ sym (results_done (word_of a.v ∷ fields_of a.v) ns (omega arith))

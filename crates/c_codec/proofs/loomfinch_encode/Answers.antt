@@ -5,18 +5,18 @@ use Rattle.c_answers.specs.Answers.{wrote}
 use Rattle.c_codec.specs.Codec.{encode_numbers, encoded_numbers}
 use Rattle.c_codec.proofs.loomfinch_encode.Goals as goal
 
-pub returns-in-Wrote : goal.returns-in-Wrote
+pub returns-in-Ok : goal.returns-in-Ok
 unfolding encode_numbers
-returns-in-Wrote c =
+returns-in-Ok c =
     let m = c.args.written.now in
-    ap (λ r. encoded_numbers r c.encode_word.new.out m) (sym c.in-Wrote.is)
+    ap (λ r. encoded_numbers r c.encode_word.new.out m) (sym c.in-Ok.is)
     ∙ ap (λ (a : AfterEncode). encoded_numbers a.answer a.out m) c.encode_word.ensures
 
-pub returns-in-Refused : goal.returns-in-Refused
+pub returns-in-Err : goal.returns-in-Err
 unfolding encode_numbers
-returns-in-Refused c =
+returns-in-Err c =
     let m = c.args.written.now in
     let o = c.encode_word.new.out in
     ap (λ n. wrote n o m) c.number.ensures
-    ∙ ap (λ r. encoded_numbers r o m) (sym c.in-Refused.is)
+    ∙ ap (λ r. encoded_numbers r o m) (sym c.in-Err.is)
     ∙ ap (λ (a : AfterEncode). encoded_numbers a.answer a.out m) c.encode_word.ensures

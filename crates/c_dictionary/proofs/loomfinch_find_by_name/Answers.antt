@@ -4,12 +4,12 @@ use Rattle.c_answers.specs.Answers.{told}
 use Rattle.c_dictionary.specs.Dictionary.{name_told, named_told}
 use Rattle.c_dictionary.proofs.loomfinch_find_by_name.Goals as goal
 
-pub returns-in-At : goal.returns-in-At
+pub returns-in-Ok : goal.returns-in-Ok
 unfolding named_told
-returns-in-At c = ap (λ a. name_told a c.args.index.now) (sym c.in-At.is ∙ c.find_by_name.ensures)
+returns-in-Ok c = ap (λ a. name_told a c.args.index.now) (sym c.in-Ok.is ∙ c.find_by_name.ensures)
 
-pub returns-in-Refused : goal.returns-in-Refused
+pub returns-in-Err : goal.returns-in-Err
 unfolding named_told
-returns-in-Refused c =
+returns-in-Err c =
     let m = c.args.index.now in
-    ap (λ n. told n m) c.number.ensures ∙ ap (λ a. name_told a m) (sym c.in-Refused.is ∙ c.find_by_name.ensures)
+    ap (λ n. told n m) c.number.ensures ∙ ap (λ a. name_told a m) (sym c.in-Err.is ∙ c.find_by_name.ensures)

@@ -5,18 +5,18 @@ use Rattle.c_answers.specs.Answers.{wrote}
 use Rattle.c_dictionary.specs.Dictionary.{listed_numbers, node_numbers}
 use Rattle.c_dictionary.proofs.loomfinch_get_configured_cns.Goals as goal
 
-pub returns-in-Numbers : goal.returns-in-Numbers
+pub returns-in-Ok : goal.returns-in-Ok
 unfolding node_numbers
-returns-in-Numbers c =
+returns-in-Ok c =
     let m = c.args.count.now in
-    ap (λ a. listed_numbers a c.get_configured_cns.new.out m) (sym c.in-Numbers.is)
+    ap (λ a. listed_numbers a c.get_configured_cns.new.out m) (sym c.in-Ok.is)
     ∙ ap (λ (a : AfterListing). listed_numbers a.answer a.out m) c.get_configured_cns.ensures
 
-pub returns-in-Refused : goal.returns-in-Refused
+pub returns-in-Err : goal.returns-in-Err
 unfolding node_numbers
-returns-in-Refused c =
+returns-in-Err c =
     let m = c.args.count.now in
     let o = c.get_configured_cns.new.out in
     ap (λ n. wrote n o m) c.number.ensures
-    ∙ ap (λ a. listed_numbers a o m) (sym c.in-Refused.is)
+    ∙ ap (λ a. listed_numbers a o m) (sym c.in-Err.is)
     ∙ ap (λ (a : AfterListing). listed_numbers a.answer a.out m) c.get_configured_cns.ensures

@@ -4,12 +4,12 @@ use Rattle.c_answers.specs.Answers.{told}
 use Rattle.c_dictionary.specs.Dictionary.{number_told, typed_told}
 use Rattle.c_dictionary.proofs.typed.Goals as goal
 
-pub returns-in-Is : goal.returns-in-Is
+pub returns-in-Ok : goal.returns-in-Ok
 unfolding typed_told
-returns-in-Is c = ap (λ a. number_told a c.args.number.now) (sym c.in-Is.is ∙ c.read_number.ensures)
+returns-in-Ok c = ap (λ a. number_told a c.args.number.now) (sym c.in-Ok.is ∙ c.read_number.ensures)
 
-pub returns-in-Refused : goal.returns-in-Refused
+pub returns-in-Err : goal.returns-in-Err
 unfolding typed_told
-returns-in-Refused c =
+returns-in-Err c =
     let m = c.args.number.now in
-    ap (λ x. told x m) c.number.ensures ∙ ap (λ a. number_told a m) (sym c.in-Refused.is ∙ c.read_number.ensures)
+    ap (λ x. told x m) c.number.ensures ∙ ap (λ a. number_told a m) (sym c.in-Err.is ∙ c.read_number.ensures)
