@@ -1,18 +1,14 @@
 // The sum over the memory.
 use memory::Memory;
-use tokens::{sum_of, sum_of_bytes};
+use tokens::sum_of;
 
 // Over the dictionary.
-pub fn sum(m: Memory) -> u64 {
-    let objects = m.objects;
-    let slots = m.slots;
-    let words = m.words;
-    let bytes = m.bytes;
-    sum_of_bytes(&bytes, sum_of(&words, sum_of(&slots, sum_of(&objects, 0))))
+pub fn sum(m: &Memory) -> u64 {
+    let rows = sum_of(&m.slots, sum_of(&m.objects, 0));
+    sum_of(&m.bytes, sum_of(&m.words, rows))
 }
 
 // Over the dictionary and the store.
-pub fn sum_with_store(m: Memory) -> u64 {
-    let store = m.store;
-    sum_of_bytes(&store, sum(m))
+pub fn sum_with_store(m: &Memory) -> u64 {
+    sum_of(&m.store, sum(m))
 }

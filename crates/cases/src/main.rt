@@ -14,6 +14,7 @@ use tables::State;
 fn read_full(file: &mut impl Read, buffer: &mut [u8]) -> io::Result<usize>
     ensures { IfOk result (λ n. n ≤ length buffer.new) }
 {
+    // A read may give fewer bytes than there are, and `read_exact` takes a file that ends before the buffer for an error.
     let mut done = 0;
     while done < buffer.len() {
         let n = file.read(&mut buffer[done..])?;
@@ -26,49 +27,56 @@ fn read_full(file: &mut impl Read, buffer: &mut [u8]) -> io::Result<usize>
 }
 
 // The lines of a table, on the memory that the one before left: a table in parts goes on where its last part ended.
-fn part(rt: &impl Files, name: &str, before: State) -> io::Result<State> {
+fn part(rt: &impl Files, name: &str, state: &mut State) -> io::Result<()> {
     let Ok(mut file) = fs::open(rt, name) else {
-        return Ok(tables::missing(before));
+        tables::missing(state);
+        return Ok(());
     };
     let mut buffer = [0u8; 65536];
     let n = read_full(&mut file, &mut buffer)?;
-    Ok(tables::run(&buffer[..n], before))
+    tables::run(&buffer[..n], state);
+    Ok(())
 }
 
-// The same on memory of zeros.
-fn table(rt: &impl Files, name: &str, before: State) -> io::Result<State> {
-    let mut state = tables::fresh();
-    state.run = before.run;
-    state.differ = before.differ;
-    part(rt, name, state)
+// A table in parts, the first of them on memory of zeros.
+fn table(rt: &impl Files, parts: &[&str], state: &mut State) -> io::Result<()> {
+    state.memory = memory::zeros();
+    for name in parts {
+        part(rt, name, state)?;
+    }
+    Ok(())
 }
 
-// Our own.
-fn ours(rt: &impl Files, before: State) -> io::Result<State> {
-    let codec = table(rt, "codec.txt", before)?;
-    let dictionary = table(rt, "dictionary.txt", codec)?;
-    let halving = table(rt, "halving.txt", dictionary)?;
-    let faults = table(rt, "faults.txt", halving)?;
-    let ranges = table(rt, "ranges.txt", faults)?;
-    table(rt, "editions.txt", ranges)
+fn ours(rt: &impl Files, state: &mut State) -> io::Result<()> {
+    for name in [
+        "codec.txt",
+        "dictionary.txt",
+        "halving.txt",
+        "faults.txt",
+        "ranges.txt",
+        "editions.txt",
+    ] {
+        table(rt, &[name], state)?;
+    }
+    Ok(())
 }
 
-fn of_the_rust(rt: &impl Files, before: State) -> io::Result<State> {
-    let sampled = table(rt, "rust_1.txt", before)?;
-    let sampled = part(rt, "rust_2.txt", sampled)?;
-    let told = table(rt, "histories_1.txt", sampled)?;
-    let told = part(rt, "histories_2.txt", told)?;
-    let kept = table(rt, "stores_1.txt", told)?;
-    let kept = part(rt, "stores_2.txt", kept)?;
-    let consumed = table(rt, "payloads_1.txt", kept)?;
-    let consumed = part(rt, "payloads_2.txt", consumed)?;
-    let checked = table(rt, "checks_1.txt", consumed)?;
-    part(rt, "checks_2.txt", checked)
+fn of_the_rust(rt: &impl Files, state: &mut State) -> io::Result<()> {
+    for parts in [
+        ["rust_1.txt", "rust_2.txt"],
+        ["histories_1.txt", "histories_2.txt"],
+        ["stores_1.txt", "stores_2.txt"],
+        ["payloads_1.txt", "payloads_2.txt"],
+        ["checks_1.txt", "checks_2.txt"],
+    ] {
+        table(rt, &parts, state)?;
+    }
+    Ok(())
 }
 
 fn main(rt: HostRuntime) -> io::Result<()> {
-    let all = of_the_rust(&rt, ours(&rt, tables::fresh())?)?;
-    let run = all.run;
-    let differ = all.differ;
-    println!(rt; "{run} {differ}")
+    let mut state = tables::fresh();
+    ours(&rt, &mut state)?;
+    of_the_rust(&rt, &mut state)?;
+    println!(rt; "{} {}", state.run, state.differ)
 }

@@ -1,7 +1,7 @@
-// Lines that insert and count.
+// Lines that insert and count: each answers the number of the call's answer.
 use loomfinch::Head;
-use memory::{Called, Memory};
-use tokens::{bytes, index_at, next, number, numbers, pairs, room, sub_at};
+use memory::Memory;
+use tokens::{NUMBERS, ROOM, bytes, index_at, next, number, pairs, sub_at};
 
 // Without a range.
 fn head_at(s: &[u8], at: usize) -> Head {
@@ -21,16 +21,16 @@ fn head_at(s: &[u8], at: usize) -> Head {
 }
 
 // The insertion whose name starts at `at`.
-fn inserted(s: &[u8], at: usize, head: Head, m: Memory) -> Called {
+fn inserted(s: &[u8], at: usize, head: Head, m: &mut Memory) -> u64 {
     let vals_at = next(s, at);
     let encodings_at = next(s, vals_at);
-    let mut name = room();
+    let mut name = [0; ROOM];
     let n = bytes(s, at, &mut name);
-    let mut digits = room();
+    let mut digits = [0; ROOM];
     let d = bytes(s, vals_at, &mut digits);
-    let mut vals = numbers();
+    let mut vals = [0; NUMBERS];
     let v = pairs(&digits[..d], &mut vals);
-    let mut encodings = room();
+    let mut encodings = [0; ROOM];
     let e = bytes(s, encodings_at, &mut encodings);
     m.insert(head, &name[..n], &vals[..v], &encodings[..e])
 }
@@ -40,12 +40,12 @@ fn name_after(s: &[u8], at: usize) -> usize {
     next(s, next(s, next(s, next(s, at))))
 }
 
-pub fn insert_line(s: &[u8], at: usize, m: Memory) -> Called {
+pub fn insert_line(s: &[u8], at: usize, m: &mut Memory) -> u64 {
     inserted(s, name_after(s, at), head_at(s, at), m)
 }
 
 // The range's four numbers, then what a line without one has.
-pub fn ranged_line(s: &[u8], at: usize, m: Memory) -> Called {
+pub fn ranged_line(s: &[u8], at: usize, m: &mut Memory) -> u64 {
     let low = next(s, at);
     let high_type = next(s, low);
     let high = next(s, high_type);
@@ -58,6 +58,6 @@ pub fn ranged_line(s: &[u8], at: usize, m: Memory) -> Called {
     inserted(s, name_after(s, head_starts), head, m)
 }
 
-pub fn counter_line(s: &[u8], at: usize, m: Memory) -> Called {
+pub fn counter_line(s: &[u8], at: usize, m: &mut Memory) -> u64 {
     m.increment_counter(index_at(s, at), sub_at(s, next(s, at)))
 }

@@ -1,11 +1,10 @@
 // Lines that write, save, restore and set an error bit. A line says how many bytes of the store it lends.
 ghost use Rattle.std.specs.Prelude.{◌≤◌};
 
-use crate::Told;
 use codec_lines::tells;
 use loomfinch::{Wrote, refusal_number};
-use memory::{Called, Memory};
-use tokens::{bytes, has_next, index_at, next, number, room, sub_at};
+use memory::Memory;
+use tokens::{ROOM, bytes, has_next, index_at, next, number, sub_at};
 
 // The store has 1,000 bytes.
 fn size_at(s: &[u8], at: usize) -> usize
@@ -32,33 +31,30 @@ fn is_told(a: Wrote, s: &[u8], answer: usize) -> bool {
     }
 }
 
-pub fn write_line(s: &[u8], at: usize, m: Memory) -> Told {
+pub fn write_line(s: &[u8], at: usize, m: &mut Memory) -> bool {
     let index = next(s, at);
     let sub = next(s, index);
     let kind = next(s, sub);
     let data_at = next(s, kind);
     let answer = next(s, data_at);
-    let mut data = room();
+    let mut data = [0; ROOM];
     let n = bytes(s, data_at, &mut data);
-    let written = m.write(
+    let a = m.write(
         size_at(s, at),
         index_at(s, index),
         sub_at(s, sub),
         number(s, kind),
         &data[..n],
     );
-    let memory = written.memory;
-    let a = written.answer;
-    let right = (wrote_number(a) == number(s, answer)) & is_told(a, s, answer);
-    Told { memory, right }
+    wrote_number(a) == number(s, answer) && is_told(a, s, answer)
 }
 
-pub fn restore_line(s: &[u8], at: usize, m: Memory) -> Called {
+pub fn restore_line(s: &[u8], at: usize, m: &mut Memory) -> u64 {
     let first = next(s, at);
     let last = next(s, first);
     m.restore_power_on_values(size_at(s, at), index_at(s, first), index_at(s, last))
 }
 
-pub fn bit_line(s: &[u8], at: usize, m: Memory) -> Called {
+pub fn bit_line(s: &[u8], at: usize, m: &mut Memory) -> u64 {
     m.update_pdo_error_object(index_at(s, at), sub_at(s, next(s, at)))
 }

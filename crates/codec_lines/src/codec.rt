@@ -8,10 +8,10 @@
 //   v NUMBER EVENT                               1 for the number of an event, else 0
 //   t DATA PLACE                                 no text: the place of the first byte at which none goes on
 use crate::records::says;
-use loomfinch::{CodecFault, Decoded, Encoded, ObjectValue, PdoMappingEntry};
-use mapping::{Aligned, Field};
-use text::Text;
-use tokens::{bytes, has_next, next, number, room, same};
+use answers::Refusal;
+use loomfinch::{CodecFault, Decoded, ObjectValue, PdoMappingEntry};
+use mapping::Field;
+use tokens::{ROOM, are, bytes, has_next, next, number};
 
 fn word_line(s: &[u8], at: usize) -> bool {
     let e = PdoMappingEntry::from_u64(number(s, at));
@@ -20,31 +20,33 @@ fn word_line(s: &[u8], at: usize) -> bool {
     let offset = next(s, sub);
     let length = next(s, offset);
     let encoded = next(s, length);
-    (e.index as u64 == number(s, index))
-        & (e.sub_index as u64 == number(s, sub))
-        & (e.offset_bits as u64 == number(s, offset))
-        & (e.length_bits as u64 == number(s, length))
-        & (e.to_u64() == number(s, encoded))
+    u64::from(e.index) == number(s, index)
+        && u64::from(e.sub_index) == number(s, sub)
+        && u64::from(e.offset_bits) == number(s, offset)
+        && u64::from(e.length_bits) == number(s, length)
+        && e.to_u64() == number(s, encoded)
 }
 
 // A number that no count of bytes is: it stands for what is not whole bytes.
 const MISALIGNED: u64 = 0x1_0000;
 
-fn aligned(a: Aligned) -> u64 {
+fn aligned(a: Option<usize>) -> u64 {
     match a {
-        Aligned::Bytes(n) => n as u64,
-        Aligned::Misaligned => MISALIGNED,
+        Some(n) => n as u64,
+        None => MISALIGNED,
     }
 }
 
 // The field is whole where both its numbers are, and then has them.
-fn is_field(f: Field, start: u64, length: u64) -> bool {
+fn is_field(f: Option<Field>, start: u64, length: u64) -> bool {
     match f {
-        Field::Whole {
-            start: s,
-            length: n,
-        } => (s as u64 == start) & (n as u64 == length),
-        Field::Misaligned => (start == MISALIGNED) | (length == MISALIGNED),
+        Some(
+            Field {
+                start: s,
+                length: n,
+            },
+        ) => s as u64 == start && n as u64 == length,
+        None => start == MISALIGNED || length == MISALIGNED,
     }
 }
 
@@ -54,28 +56,15 @@ fn field_line(s: &[u8], at: usize) -> bool {
     let length_at = next(s, start_at);
     let start = number(s, start_at);
     let length = number(s, length_at);
-    (aligned(e.byte_offset()) == start)
-        & (aligned(e.byte_length()) == length)
-        & (e.end() as u64 == number(s, next(s, length_at)))
-        & is_field(e.field(), start, length)
+    aligned(e.byte_offset()) == start
+        && aligned(e.byte_length()) == length
+        && e.end() as u64 == number(s, next(s, length_at))
+        && is_field(e.field(), start, length)
 }
 
 // The word and the six parts that start at `at`.
 fn value_is(v: ObjectValue, s: &[u8], at: usize) -> bool {
-    let parts = object_value::fields(v);
-    if object_value::to_word(v) != number(s, at) {
-        return false;
-    }
-    let mut p = at;
-    let mut i = 0;
-    while i < 6 {
-        p = next(s, p);
-        if parts[i] != number(s, p) {
-            return false;
-        }
-        i += 1;
-    }
-    true
+    object_value::to_word(v) == number(s, at) && are(s, next(s, at), &object_value::fields(v), 6)
 }
 
 // Are the numbers behind the answer at `answer` what a fault says, and are there no more?
@@ -85,59 +74,47 @@ pub fn tells(f: CodecFault, s: &[u8], answer: usize) -> bool {
         CodecFault::Value { needed, had } => {
             let second = next(s, first);
             has_next(s, first)
-                & (number(s, first) == needed as u64)
-                & (number(s, second) == had as u64)
-                & !has_next(s, second)
+                && number(s, first) == needed as u64
+                && number(s, second) == had as u64
+                && !has_next(s, second)
         }
         CodecFault::Text { at } => {
-            has_next(s, answer) & (number(s, first) == at as u64) & !has_next(s, first)
+            has_next(s, answer) && number(s, first) == at as u64 && !has_next(s, first)
         }
         CodecFault::Odd => !has_next(s, answer),
     }
 }
 
 fn decode_line(s: &[u8], at: usize) -> bool {
-    let mut data = room();
+    let mut data = [0; ROOM];
     let from = next(s, at);
     let n = bytes(s, from, &mut data);
     let answer = next(s, from);
     let expected = number(s, answer);
     match loomfinch::decode(number(s, at), &data[..n]) {
-        Decoded::Value(v) => {
-            if expected == 0 {
-                value_is(v, s, next(s, answer))
-            } else {
-                false
-            }
-        }
+        Decoded::Value(v) => { expected == 0 && value_is(v, s, next(s, answer)) }
         Decoded::Fails(f) => {
-            (expected == answers::number(value::refusal(f))) & tells(f, s, answer)
+            expected == answers::number(value::refusal(f)) && tells(f, s, answer)
         }
-        Decoded::NoType => (expected == 2) & !has_next(s, answer),
+        Decoded::NoType => expected == 2 && !has_next(s, answer),
     }
 }
 
 // Are the first bytes of the output, as many as were written, those that start at `at`?
-fn wrote(s: &[u8], at: usize, a: Encoded, out: &[u8]) -> bool {
-    let mut expected = room();
+fn wrote(s: &[u8], at: usize, a: Result<usize, Refusal>, out: &[u8]) -> bool {
+    let mut expected = [0; ROOM];
     let e = bytes(s, at, &mut expected);
     match a {
-        Encoded::Wrote(n) => {
-            if n <= out.len() {
-                same(&out[..n], &expected[..e])
-            } else {
-                false
-            }
-        }
-        Encoded::Refused(_) => false,
+        Ok(n) => out.get(..n) == Some(&expected[..e]),
+        Err(_) => false,
     }
 }
 
 // By the type's number and the word, and as a value.
 fn encode_line(s: &[u8], at: usize) -> bool {
-    let mut part = room();
-    let mut of_word = room();
-    let mut of_value = room();
+    let mut part = [0; ROOM];
+    let mut of_word = [0; ROOM];
+    let mut of_value = [0; ROOM];
     let word_at = next(s, at);
     let part_at = next(s, word_at);
     let behind = next(s, part_at);
@@ -147,12 +124,12 @@ fn encode_line(s: &[u8], at: usize) -> bool {
     let v = object_value::from_word(t, word);
     let by_word = value::encode_word(t, word, &part[..p], &mut of_word);
     let by_value = loomfinch::encode(v, &part[..p], &mut of_value);
-    wrote(s, behind, by_word, &of_word) & wrote(s, behind, by_value, &of_value)
+    wrote(s, behind, by_word, &of_word) && wrote(s, behind, by_value, &of_value)
 }
 
 fn refused_line(s: &[u8], at: usize) -> bool {
-    let mut part = room();
-    let mut out = room();
+    let mut part = [0; ROOM];
+    let mut out = [0; ROOM];
     let word = next(s, at);
     let from = next(s, word);
     let p = bytes(s, from, &mut part);
@@ -160,25 +137,21 @@ fn refused_line(s: &[u8], at: usize) -> bool {
     let answer = next(s, size);
     let n = (number(s, size) % 2048) as usize;
     match value::encode_word(number(s, at), number(s, word), &part[..p], &mut out[..n]) {
-        Encoded::Wrote(_) => false,
-        Encoded::Refused(r) => number(s, answer) == answers::number(r),
+        Ok(_) => false,
+        Err(r) => number(s, answer) == answers::number(r),
     }
 }
 
 fn event_line(s: &[u8], at: usize) -> bool {
-    let is_event = says(number(s, at));
-    if number(s, next(s, at)) == 1 {
-        return is_event;
-    }
-    !is_event
+    says(number(s, at)) == (number(s, next(s, at)) == 1)
 }
 
 fn text_line(s: &[u8], at: usize) -> bool {
-    let mut data = room();
+    let mut data = [0; ROOM];
     let n = bytes(s, at, &mut data);
     match text::text_ok(&data[..n]) {
-        Text::Good => false,
-        Text::Bad(k) => k as u64 == number(s, next(s, at)),
+        Ok(()) => false,
+        Err(k) => k as u64 == number(s, next(s, at)),
     }
 }
 

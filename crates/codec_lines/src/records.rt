@@ -1,6 +1,5 @@
 // Event records held against the numbers of events.
-use loomfinch::{Cause, Event, EventRecord, Recorded, Unwritten};
-use std::num::wrapping_add_u64;
+use loomfinch::{Cause, Event, EventRecord, Unwritten};
 
 // No payload of a single call has this number, so a record that was written differs from it.
 pub fn blank() -> EventRecord {
@@ -29,11 +28,8 @@ fn unwritten_number(u: Unwritten) -> u64 {
 
 // A kind with its index, start and length, in the places that a number has for them.
 fn detailed(kind: u64, index: u16, start: u16, len: u16) -> u64 {
-    let place = wrapping_add_u64(
-        268435456 * (start as u64 % 8192),
-        2199023255552 * (len as u64 % 8192),
-    );
-    wrapping_add_u64(kind, wrapping_add_u64(4096 * index as u64, place))
+    let place = u64::from(start % 8192) << 28 | u64::from(len % 8192) << 41;
+    kind | u64::from(index) << 12 | place
 }
 
 fn event_number(e: Event) -> u64 {
@@ -48,38 +44,28 @@ fn event_number(e: Event) -> u64 {
 
 // The number that says the record, by R11.14.
 pub fn record_number(r: EventRecord) -> u64 {
-    let event = r.event;
-    let of = wrapping_add_u64(
-        16 * r.element as u64,
-        18014398509481984 * (r.payload as u64 % 1024),
-    );
-    wrapping_add_u64(event_number(event), of)
+    event_number(r.event) | u64::from(r.element) << 4 | u64::from(r.payload % 1024) << 54
 }
 
 // Is it an event's number, and does its record have that number?
 pub fn says(e: u64) -> bool {
     match loomfinch::event_record(e) {
-        Recorded::Is(r) => record_number(r) == e,
-        Recorded::Nothing => false,
+        Some(r) => record_number(r) == e,
+        None => false,
     }
 }
 
 // Do the first n records say the first n numbers, and are all behind them blank? The record of each number says it too.
-pub fn say(records: [EventRecord; 254], log: [u64; 1024], n: usize) -> bool {
-    let mut i = 0;
-    while i < 254 {
-        let mut expected = record_number(blank());
-        if i < n {
-            expected = log[i];
-        }
-        let record = records[i];
-        if record_number(record) != expected {
+pub fn say(records: &[EventRecord; 254], log: &[u64; 1024], n: usize) -> bool {
+    for (i, record) in records.iter().enumerate() {
+        let expected = if i < n {
+            log[i]
+        } else {
+            record_number(blank())
+        };
+        if record_number(*record) != expected || !says(expected) {
             return false;
         }
-        if !says(expected) {
-            return false;
-        }
-        i += 1;
     }
     n <= 254
 }

@@ -2,25 +2,19 @@
 ghost use Rattle.std.specs.Prelude.{◌<◌, ◌≤◌};
 
 use crate::Spread;
+use answers::Refusal;
 
-#[derive(Clone, Copy)]
+#[derive(Drop)]
 pub struct Laid {
-    pub objects: [u64; 12300],
-    pub slots: [u64; 3072],
-    pub words: [u64; 1024],
+    objects: [u64; 12300],
+    slots: [u64; 3072],
+    words: [u64; 1024],
 }
 
-fn zeros() -> Laid {
-    Laid {
-        objects: [0; 12300],
-        slots: [0; 3072],
-        words: [0; 1024],
-    }
-}
-
-fn set(xs: &mut [u64], place: usize, x: u64) {
-    if place < xs.len() {
-        xs[place] = x;
+impl Laid {
+    // The number of the row at an index, or the refusal.
+    pub fn number_at(&self, index: u16) -> Result<u64, Refusal> {
+        od::read_u16(&self.objects, &self.slots, &self.words, b"", index, 0)
     }
 }
 
@@ -28,68 +22,44 @@ fn set(xs: &mut [u64], place: usize, x: u64) {
 pub fn bounded(count: u16) -> usize
     ensures { result ≤ 1024 }
 {
-    if count < 1024 {
-        return count as usize;
-    }
-    1024
+    usize::from(count).min(1024)
 }
 
-// How many rows are behind the first; 1 where there are none, since it divides.
-fn steps(count: u16) -> u64
-    ensures { 0 < result }
-{
-    if count < 2 {
-        return 1;
-    }
-    (count - 1) as u64
-}
-
-fn product(i: u64, width: u64) -> u64
-    requires { (i ≤ 1024) × (width ≤ 65535) }
-{
-    i * width
-}
-
-// The index of row i.
+// The index of row i. A first row without one behind it divides by 1.
 pub fn index_of(spread: Spread, i: usize) -> u16
     requires { i ≤ 1024 }
 {
-    let width = spread.width as u64 % 0x1_0000;
-    let behind = product(i as u64, width) / steps(spread.count);
-    ((spread.first as u64 % 0x1_0000 + behind % 0x1_0000) % 0x1_0000) as u16
+    let steps = u64::from(spread.count.max(2)) - 1;
+    let behind = i as u64 * u64::from(spread.width) / steps;
+    spread.first.wrapping_add((behind % 0x1_0000) as u16)
 }
 
-fn lay_header(objects: &mut [u64], count: u64) {
-    set(objects, 0, count);
-    set(objects, 1, count);
-    set(objects, 3, 1);
+fn lay_header(objects: &mut [u64; 12300], count: u64) {
+    objects[0] = count;
+    objects[1] = count;
+    objects[3] = 1;
 }
 
 // Row i: its index, ReadWrite, one value, which is value i.
-fn lay_row(objects: &mut [u64], i: usize, index: u64)
-    requires { i ≤ 1024 }
+fn lay_row(objects: &mut [u64; 12300], i: usize, index: u16)
+    requires { i < 1024 }
 {
     let at = 12 * i + 12;
-    set(objects, at, index);
-    set(objects, at + 2, 3);
-    set(objects, at + 3, 1);
-    set(objects, at + 4, i as u64);
+    objects[at] = u64::from(index);
+    objects[at + 2] = 3;
+    objects[at + 3] = 1;
+    objects[at + 4] = i as u64;
 }
 
 pub fn many(spread: Spread) -> Laid {
-    let none = zeros();
-    let mut objects = none.objects;
-    let mut slots = none.slots;
-    let mut words = none.words;
-    lay_header(&mut objects, spread.count as u64);
-    let n = bounded(spread.count);
-    let mut i = 0;
-    while i < n {
-        let index = index_of(spread, i);
-        lay_row(&mut objects, i, index as u64);
-        set(&mut slots, 3 * i, 6);
-        set(&mut words, i, i as u64);
-        i += 1;
+    let mut objects = [0; 12300];
+    let mut slots = [0; 3072];
+    let mut words = [0; 1024];
+    lay_header(&mut objects, u64::from(spread.count));
+    for i in 0..bounded(spread.count) {
+        lay_row(&mut objects, i, index_of(spread, i));
+        slots[3 * i] = 6;
+        words[i] = i as u64;
     }
     Laid {
         objects,

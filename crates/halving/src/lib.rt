@@ -3,8 +3,8 @@
 
 mod laying;
 
+use answers::Refusal;
 use laying::{bounded, index_of, many};
-use od::Number;
 
 // So many rows, from an index on; the last is `width` behind the first, and those between lie evenly. Row i holds i.
 #[derive(Clone, Copy)]
@@ -16,7 +16,7 @@ pub struct Spread {
 
 // How often a row was found and how often none, and a sum over all answers in turn. Each has an odd factor there, modulo 2^32, so
 // that no single wrong answer leaves the sum as it was.
-#[derive(Clone, Copy)]
+#[derive(Clone, Copy, Default)]
 pub struct Swept {
     pub found: u64,
     pub missing: u64,
@@ -24,67 +24,36 @@ pub struct Swept {
 }
 
 // The row's number at an index, or the refusal.
-pub fn looked_up(spread: Spread, index: u16) -> Number {
-    let rows = many(spread);
-    let objects = rows.objects;
-    let slots = rows.slots;
-    let words = rows.words;
-    od::read_u16(&objects, &slots, &words, b"", index, 0)
+pub fn looked_up(spread: Spread, index: u16) -> Result<u64, Refusal> {
+    many(spread).number_at(index)
 }
 
 // One answer more: a row's number, or a refusal's above all of these.
-fn told(before: Swept, answer: Number) -> Swept {
+fn told(before: Swept, answer: Result<u64, Refusal>) -> Swept {
     let sum = before.sum % 0x1_0000_0000 * 65599;
     match answer {
-        Number::Is(row) => Swept {
-            found: std::num::wrapping_add_u64(before.found, 1),
-            missing: before.missing,
-            sum: std::num::wrapping_add_u64(sum, row),
+        Ok(row) => Swept {
+            found: before.found.wrapping_add(1),
+            sum: sum.wrapping_add(row),
+            ..before
         },
-        Number::Refused(r) => Swept {
-            found: before.found,
-            missing: std::num::wrapping_add_u64(before.missing, 1),
-            sum: std::num::wrapping_add_u64(sum + 0x1_0000, answers::number(r)),
+        Err(r) => Swept {
+            missing: before.missing.wrapping_add(1),
+            sum: (sum + 0x1_0000).wrapping_add(answers::number(r)),
+            ..before
         },
     }
 }
 
-// At an index, below it and above it.
-fn about(objects: &[u64], slots: &[u64], words: &[u64], index: u16, before: Swept) -> Swept {
-    let mut swept = before;
-    if 0 < index {
-        swept = told(
-            swept,
-            od::read_u16(objects, slots, words, b"", index - 1, 0),
-        );
-    }
-    swept = told(swept, od::read_u16(objects, slots, words, b"", index, 0));
-    if index < 0xFFFF {
-        swept = told(
-            swept,
-            od::read_u16(objects, slots, words, b"", index + 1, 0),
-        );
-    }
-    swept
-}
-
-// At each row and beside each.
+// At each row and beside each, below it and above it.
 pub fn sweep(spread: Spread) -> Swept {
     let rows = many(spread);
-    let objects = rows.objects;
-    let slots = rows.slots;
-    let words = rows.words;
-    let n = bounded(spread.count);
-    let mut swept = Swept {
-        found: 0,
-        missing: 0,
-        sum: 0,
-    };
-    let mut i = 0;
-    while i < n {
+    let mut swept = Swept::default();
+    for i in 0..bounded(spread.count) {
         let index = index_of(spread, i);
-        swept = about(&objects, &slots, &words, index, swept);
-        i += 1;
+        for near in index.saturating_sub(1)..=index.saturating_add(1) {
+            swept = told(swept, rows.number_at(near));
+        }
     }
     swept
 }

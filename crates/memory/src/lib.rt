@@ -1,11 +1,9 @@
-// A dictionary and a store in one struct by value, and the public calls on it: for programs, which would otherwise hand five lent
-// slices from function to function. There is room for 8 objects, 300 values and 1,200 bytes, so that each of these can be full.
+// A dictionary and a store in one struct, and the public calls on it: for programs, which would otherwise hand five lent slices from
+// function to function. There is room for 8 objects, 300 values and 1,200 bytes, so that each of these can be full.
 #![tactic(auto)]
 
 mod asking;
 mod changing;
-
-use loomfinch::Wrote;
 
 #[derive(Clone, Copy)]
 pub struct Memory {
@@ -14,20 +12,6 @@ pub struct Memory {
     pub words: [u64; 300],
     pub bytes: [u8; 1200],
     pub store: [u8; 1000],
-}
-
-// The memory after a call, and the number of its answer.
-#[derive(Clone, Copy)]
-pub struct Called {
-    pub memory: Memory,
-    pub answer: u64,
-}
-
-// The memory after a write, and its answer.
-#[derive(Clone, Copy)]
-pub struct Written {
-    pub memory: Memory,
-    pub answer: Wrote,
 }
 
 // Nothing was called on it yet.

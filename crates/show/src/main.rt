@@ -5,14 +5,10 @@ mod rig;
 mod words;
 
 use std::io;
-use words::say;
 
 fn main(rt: HostRuntime) -> io::Result<()> {
-    say(
-        &rt,
-        "A ramp time of four bytes, mapped onto 6000h, an Unsigned16:\n",
-    )?;
+    println!(rt; "A ramp time of four bytes, mapped onto 6000h, an Unsigned16:")?;
     rig::show(&rt, 0x0020_0000_0000_6000, b"\x90\x5F\x01\x00", 90_000)?;
-    say(&rt, "The same rig with a mapping of two bytes:\n")?;
+    println!(rt; "The same rig with a mapping of two bytes:")?;
     rig::show(&rt, 0x0010_0000_0000_6000, b"\xC4\x09", 2_500)
 }

@@ -1,99 +1,71 @@
-// What the program says, and the words for each answer of the check.
+// The words for each answer of the check.
 use loomfinch::{Checked, Explained, Fault, Target};
 use std::io;
 
-pub fn say(rt: &impl Print, text: &str) -> io::Result<()> {
-    print!(rt; "{text}")
-}
-
-pub fn number(rt: &impl Print, n: u64) -> io::Result<()> {
-    print!(rt; "{n}")
-}
-
-fn reason(rt: &impl Print, fault: Fault) -> io::Result<()> {
+fn reason(fault: Fault) -> &'static str {
     match fault {
-        Fault::NotMapping => say(rt, "it is no mapping word"),
-        Fault::Misaligned => say(rt, "its offset or length is not whole bytes"),
-        Fault::HandOff => say(rt, "its target belongs to SDO"),
-        Fault::NoTarget => say(rt, "its target is missing"),
-        Fault::CountTarget => say(rt, "its target is a list's count"),
-        Fault::WrongLength => say(rt, "its length is not the target's size"),
+        Fault::NotMapping => "it is no mapping word",
+        Fault::Misaligned => "its offset or length is not whole bytes",
+        Fault::HandOff => "its target belongs to SDO",
+        Fault::NoTarget => "its target is missing",
+        Fault::CountTarget => "its target is a list's count",
+        Fault::WrongLength => "its length is not the target's size",
     }
-}
-
-fn place(rt: &impl Print, index: u16, sub_index: u8) -> io::Result<()> {
-    print!(rt; "{index:04x}")?;
-    say(rt, "h/")?;
-    number(rt, sub_index as u64)
 }
 
 fn holding(rt: &impl Print, target: Target) -> io::Result<()> {
     match target {
-        Target::NoObject => say(rt, "which is not there"),
-        Target::NoSub => say(rt, "which is not there"),
-        Target::Count => say(rt, "the count of a list"),
-        Target::Value {
-            value_type: _,
-            holds,
-        } => {
-            say(rt, "which holds ")?;
-            number(rt, holds)
-        }
+        Target::NoObject | Target::NoSub => print!(rt; "which is not there"),
+        Target::Count => print!(rt; "the count of a list"),
+        Target::Value { holds, .. } => print!(rt; "which holds {holds}"),
     }
+}
+
+fn mapped(
+    rt: &impl Print,
+    length: u16,
+    unit: &str,
+    index: u16,
+    sub_index: u8,
+    target: Target,
+) -> io::Result<()> {
+    print!(rt; "    it maps {length} {unit} onto {index:04x}h/{sub_index}, ")?;
+    holding(rt, target)?;
+    println!(rt)
 }
 
 // What an element maps, and onto what.
 pub fn explanation(rt: &impl Print, e: Explained) -> io::Result<()> {
     match e {
-        Explained::Other(_) => say(rt, "    it maps nothing\n"),
+        Explained::Other(_) => println!(rt; "    it maps nothing"),
         Explained::Misaligned {
             index,
             sub_index,
-            offset_bits: _,
             length_bits,
             target,
-        } => {
-            say(rt, "    it maps ")?;
-            number(rt, length_bits as u64)?;
-            say(rt, " bits onto ")?;
-            place(rt, index, sub_index)?;
-            say(rt, ", ")?;
-            holding(rt, target)?;
-            say(rt, "\n")
-        }
+            ..
+        } => mapped(rt, length_bits, "bits", index, sub_index, target),
         Explained::Field {
             index,
             sub_index,
-            start: _,
             length,
             target,
-        } => {
-            say(rt, "    it maps ")?;
-            number(rt, length as u64)?;
-            say(rt, " bytes onto ")?;
-            place(rt, index, sub_index)?;
-            say(rt, ", ")?;
-            holding(rt, target)?;
-            say(rt, "\n")
-        }
-        Explained::Refused(_) => say(rt, "    there is no such element\n"),
+            ..
+        } => mapped(rt, length, "bytes", index, sub_index, target),
+        Explained::Refused(_) => println!(rt; "    there is no such element"),
     }
 }
 
 pub fn answer(rt: &impl Print, a: Checked) -> io::Result<()> {
-    say(rt, "  the check: ")?;
+    print!(rt; "  the check: ")?;
     match a {
-        Checked::Pass => say(rt, "channel 0 passes")?,
-        Checked::NoSender => say(rt, "channel 0 has no sender")?,
-        Checked::NoList => say(rt, "channel 0 maps nothing")?,
+        Checked::Pass => println!(rt; "channel 0 passes"),
+        Checked::NoSender => println!(rt; "channel 0 has no sender"),
+        Checked::NoList => println!(rt; "channel 0 maps nothing"),
         Checked::Element { element, fault } => {
-            say(rt, "channel 0, element ")?;
-            number(rt, element as u64)?;
-            say(rt, ": ")?;
-            reason(rt, fault)?;
+            println!(rt; "channel 0, element {element}: {}", reason(fault))
         }
-        Checked::TooFar => say(rt, "channel 0 reaches past 1490 bytes")?,
-        Checked::Refused(_) => say(rt, "no dictionary")?,
+        Checked::TooFar => println!(rt; "channel 0 reaches past 1490 bytes"),
+        Checked::Refused(_) => println!(rt; "no dictionary"),
     }
-    say(rt, "\n")
 }

@@ -35,36 +35,20 @@ use asking_lines::{
     sum_with_store, typed_line,
 };
 use changing_lines::{
-    Told, bit_line, counter_line, damage, insert_line, ranged_line, restore_line, write_line,
+    bit_line, counter_line, damage, insert_line, ranged_line, restore_line, write_line,
 };
-use consuming_lines::{Turn, consume_line, cycle_line};
-use memory::{Called, Memory};
+use consuming_lines::{consume_line, cycle_line};
+use memory::Memory;
 use tokens::{last, next, number};
 
-fn damage_line(s: &[u8], at: usize, m: Memory) -> Turn {
+fn damage_line(s: &[u8], at: usize, m: &mut Memory) -> bool {
     let place = next(s, at);
     let value = number(s, next(s, place));
-    let damaged = damage(m, number(s, at), number(s, place) as usize, value);
-    let memory = damaged.memory;
-    let right = damaged.is_there;
-    Turn { memory, right }
-}
-
-// A call that changes memory; its answer is the line's last number.
-fn turned(s: &[u8], at: usize, called: Called) -> Turn {
-    let memory = called.memory;
-    let right = called.answer == last(s, at);
-    Turn { memory, right }
-}
-
-fn told(t: Told) -> Turn {
-    let memory = t.memory;
-    let right = t.right;
-    Turn { memory, right }
+    damage(m, number(s, at), number(s, place) as usize, value)
 }
 
 // A line that asks of the memory as it is, or of the codec.
-fn asked(kind: u8, s: &[u8], at: usize, m: Memory) -> bool {
+fn asked(kind: u8, s: &[u8], at: usize, m: &Memory) -> bool {
     match kind {
         b'R' => read_line(s, at, m),
         b'U' => typed_line(s, at, m),
@@ -83,23 +67,21 @@ fn asked(kind: u8, s: &[u8], at: usize, m: Memory) -> bool {
     }
 }
 
-// Does the call of the line that starts at `at`, behind its letter, give its answer?
-pub fn take_turn(kind: u8, s: &[u8], at: usize, m: Memory) -> Turn {
+// Does the call of the line that starts at `at`, behind its letter, give its answer? Of a call that only changes memory, this is the
+// line's last number.
+pub fn take_turn(kind: u8, s: &[u8], at: usize, m: &mut Memory) -> bool {
     match kind {
-        b'N' => turned(s, at, m.new(1)),
-        b'E' => turned(s, at, m.new(number(s, at))),
-        b'I' => turned(s, at, insert_line(s, at, m)),
-        b'J' => turned(s, at, ranged_line(s, at, m)),
-        b'P' => turned(s, at, counter_line(s, at, m)),
-        b'W' => told(write_line(s, at, m)),
-        b'O' => turned(s, at, restore_line(s, at, m)),
-        b'B' => turned(s, at, bit_line(s, at, m)),
+        b'N' => m.new(1) == last(s, at),
+        b'E' => m.new(number(s, at)) == last(s, at),
+        b'I' => insert_line(s, at, m) == last(s, at),
+        b'J' => ranged_line(s, at, m) == last(s, at),
+        b'P' => counter_line(s, at, m) == last(s, at),
+        b'W' => write_line(s, at, m),
+        b'O' => restore_line(s, at, m) == last(s, at),
+        b'B' => bit_line(s, at, m) == last(s, at),
         b'A' => consume_line(s, at, m),
         b'Y' => cycle_line(s, at, m),
         b'D' => damage_line(s, at, m),
-        _ => {
-            let right = asked(kind, s, at, m);
-            Turn { memory: m, right }
-        }
+        _ => asked(kind, s, at, m),
     }
 }

@@ -1,6 +1,5 @@
 // The lines that look rows up in a dictionary of their own (crate halving).
 use halving::Spread;
-use loomfinch::Number;
 use tokens::{index_at, next, number};
 
 fn spread_at(s: &[u8], at: usize) -> Spread {
@@ -22,8 +21,8 @@ pub fn lookup_line(s: &[u8], at: usize) -> bool {
     let answer = next(s, index);
     let expected = number(s, answer);
     match halving::looked_up(spread_at(s, at), index_at(s, index)) {
-        Number::Is(row) => (expected == 0) & (row == number(s, next(s, answer))),
-        Number::Refused(r) => expected == answers::number(r),
+        Ok(row) => expected == 0 && row == number(s, next(s, answer)),
+        Err(r) => expected == answers::number(r),
     }
 }
 
@@ -31,7 +30,7 @@ pub fn sweep_line(s: &[u8], at: usize) -> bool {
     let found = behind(s, at);
     let missing = next(s, found);
     let swept = halving::sweep(spread_at(s, at));
-    (swept.found == number(s, found))
-        & (swept.missing == number(s, missing))
-        & (swept.sum == number(s, next(s, missing)))
+    swept.found == number(s, found)
+        && swept.missing == number(s, missing)
+        && swept.sum == number(s, next(s, missing))
 }

@@ -1,5 +1,5 @@
 // How many lines of the tables were run, and how many differ.
-ghost use Rattle.tables.specs.Lines.{LineEnd};
+ghost use Rattle.std.specs.Prelude.{◌<◌, length};
 
 use crate::history::take_turn;
 use memory::Memory;
@@ -22,61 +22,34 @@ pub fn fresh() -> State {
 }
 
 // A table that can't be read counts as a line that differs.
-pub fn missing(before: State) -> State {
-    let memory = before.memory;
-    let run = std::num::wrapping_add_u64(before.run, 1);
-    let differ = std::num::wrapping_add_u64(before.differ, 1);
-    State {
-        memory,
-        run,
-        differ,
-    }
+pub fn missing(state: &mut State) {
+    state.run = state.run.wrapping_add(1);
+    state.differ = state.differ.wrapping_add(1);
 }
 
-// Where the next line starts.
-fn line_end(s: &[u8], at: usize) -> usize
-    ensures { LineEnd s.now at result }
+// What stands behind the first line.
+fn behind_line(s: &[u8]) -> &[u8]
+    ensures { 0 < length s.now → length result.now < length s.now }
 {
-    let mut i = at;
-    while i < s.len() {
-        if s[i] == b'\n' {
-            return i + 1;
-        }
-        i += 1;
+    match s.iter().position(|b| *b == b'\n') {
+        Some(end) => &s[end + 1..],
+        None => &[],
     }
-    s.len()
 }
 
 // Does a line of this letter ask for an answer? Damage and comments don't.
 fn asks(kind: u8) -> bool {
-    (kind != b'D') & (kind != b'#')
+    !matches!(kind, b'D' | b'#')
 }
 
-fn more(n: u64, one: bool) -> u64 {
-    if one {
-        return std::num::wrapping_add_u64(n, 1);
-    }
-    n
-}
-
-// Runs the lines of a table on the memory that the tables before left.
-pub fn run(table: &[u8], before: State) -> State {
-    let mut memory = before.memory;
-    let mut run = before.run;
-    let mut differ = before.differ;
-    let mut at = 0;
-    while at < table.len() {
-        let kind = table[at];
-        let after = take_turn(kind, table, next(table, at), memory);
-        run = more(run, asks(kind));
-        differ = more(differ, !after.right);
-        let left = after.memory;
-        memory = left;
-        at = line_end(table, at);
-    }
-    State {
-        memory,
-        run,
-        differ,
+// Runs the lines of a table on the memory that the tables before left. A line that lacks a token reads on in the next one, so each is given
+// the whole rest.
+pub fn run(table: &[u8], state: &mut State) {
+    let mut rest = table;
+    while let Some(kind) = rest.first() {
+        let right = take_turn(*kind, rest, next(rest, 0), &mut state.memory);
+        state.run = state.run.wrapping_add(u64::from(asks(*kind)));
+        state.differ = state.differ.wrapping_add(u64::from(!right));
+        rest = behind_line(rest);
     }
 }

@@ -1,43 +1,37 @@
 // Tokens of a line: numbers and bytes in hexadecimal digits, a space between two of them.
-ghost use Rattle.std.specs.Prelude.{◌≤◌, ◌<◌, length};
+ghost use Rattle.std.specs.Prelude.{◌≤◌, ◌<◌, length, IfSome};
 ghost use Rattle.tokens.specs.Tokens.{Counts};
 
-// The digit's number; 16 for what is no digit.
-fn digit(b: u8) -> u8
-    ensures { result ≤ 16 }
+// The number of a digit; its letters are those of the upper case alone.
+fn digit(b: u8) -> Option<u32>
+    ensures { IfSome result (λ d. d < 16) }
 {
-    match b {
-        b'0'..=b'9' => b - b'0',
-        b'A'..=b'F' => b - b'A' + 10,
-        _ => 16,
+    if b.is_ascii_lowercase() {
+        return None;
     }
+    char::from(b).to_digit(16)
+}
+
+// What is there from `at` on.
+fn rest(s: &[u8], at: usize) -> &[u8]
+    ensures { length result.now ≤ length s.now }
+{
+    s.get(at..).unwrap_or(&[])
 }
 
 // The number that starts at `at`.
 pub fn number(s: &[u8], at: usize) -> u64 {
-    let mut n: u64 = 0;
-    let mut i = at;
-    while i < s.len() {
-        let d = digit(s[i]);
-        if d == 16 {
-            return n;
-        }
-        n = n % 0x1000_0000_0000_0000 * 16 + d as u64;
-        i += 1;
-    }
-    n
+    let digits = rest(s, at).iter().map_while(|b| digit(*b));
+    digits.fold(0, |n, d| n << 4 | u64::from(d))
 }
 
 // Where the next token starts: behind the next space or line end.
 pub fn next(s: &[u8], at: usize) -> usize
     ensures { result ≤ length s.now }
 {
-    let mut i = at;
-    while i < s.len() {
-        let b = s[i];
-        i += 1;
-        if (b == b' ') | (b == b'\n') {
-            return i;
+    for i in at..s.len() {
+        if matches!(s[i], b' ' | b'\n') {
+            return i + 1;
         }
     }
     s.len()
@@ -45,61 +39,39 @@ pub fn next(s: &[u8], at: usize) -> usize
 
 // Does the token that starts at `at` have another behind it in its line?
 pub fn has_next(s: &[u8], at: usize) -> bool {
-    let mut i = at;
-    while i < s.len() {
-        if s[i] == b' ' {
-            return true;
-        }
-        if s[i] == b'\n' {
-            return false;
-        }
-        i += 1;
-    }
-    false
+    let end = rest(s, at).iter().find(|b| matches!(**b, b' ' | b'\n'));
+    matches!(end, Some(b' '))
 }
 
 // Puts the bytes that start at `at` into `out`, as many as it has room for, and answers how many.
 pub fn bytes(s: &[u8], at: usize, out: &mut [u8]) -> usize
     ensures { Counts result out.new }
 {
-    let mut n = 0;
-    let mut i = at;
-    while n < out.len() {
-        if s.len() < 2 {
+    let digits = rest(s, at);
+    let most = out.len().min(digits.len() / 2);
+    for n in 0..most {
+        let (Some(high), Some(low)) = (digit(digits[2 * n]), digit(digits[2 * n + 1])) else {
             return n;
-        }
-        if s.len() - 2 < i {
-            return n;
-        }
-        let high = digit(s[i]);
-        let low = digit(s[i + 1]);
-        if (high == 16) | (low == 16) {
-            return n;
-        }
-        out[n] = high % 16 * 16 + low % 16;
-        n += 1;
-        i += 2;
+        };
+        out[n] = (high * 16 + low) as u8;
     }
-    n
+    most
 }
 
 // The last number of the line in which `at` lies.
 pub fn last(s: &[u8], at: usize) -> u64 {
     let mut start = at;
-    let mut i = at;
-    while i < s.len() {
-        if s[i] == b'\n' {
-            return number(s, start);
+    for i in at..s.len() {
+        match s[i] {
+            b'\n' => break,
+            b' ' => start = i + 1,
+            _ => {}
         }
-        if s[i] == b' ' {
-            start = i + 1;
-        }
-        i += 1;
     }
     number(s, start)
 }
 
-// The number that starts at `at` as an index, or a sub-index.
+// The number that starts at `at` as an index, or a sub-index: two widths, which a generic function would say no shorter.
 pub fn index_at(s: &[u8], at: usize) -> u16 {
     (number(s, at) % 0x1_0000) as u16
 }

@@ -4,5 +4,5 @@
 mod cells;
 mod hex;
 
-pub use cells::{are, listed, numbers, pairs, room, same, sum_of, sum_of_bytes};
+pub use cells::{NUMBERS, ROOM, are, listed, pairs, sum_of};
 pub use hex::{bytes, has_next, index_at, last, next, number, sub_at};

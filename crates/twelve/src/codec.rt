@@ -3,7 +3,7 @@ use loomfinch::{Decoded, ObjectValue, PdoMappingEntry};
 
 pub fn case_1() -> bool {
     let e = PdoMappingEntry::from_u64(0x0020_0010_AB03_6200);
-    (e.index == 0x6200) & (e.sub_index == 3) & (e.offset_bits == 16) & (e.length_bits == 32)
+    e.index == 0x6200 && e.sub_index == 3 && e.offset_bits == 16 && e.length_bits == 32
 }
 
 pub fn case_2() -> bool {
@@ -13,13 +13,7 @@ pub fn case_2() -> bool {
 
 // Is it an Integer16 of this value?
 fn is_integer_16(data: &[u8], wanted: i16) -> bool {
-    let Decoded::Value(v) = loomfinch::decode(2, data) else {
-        return false;
-    };
-    let ObjectValue::Integer16(n) = v else {
-        return false;
-    };
-    n == wanted
+    matches!(loomfinch::decode(2, data), Decoded::Value(ObjectValue::Integer16(n)) if n == wanted)
 }
 
 pub fn case_3() -> bool {

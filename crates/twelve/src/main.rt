@@ -7,43 +7,22 @@ mod rig;
 
 use std::io;
 
-#[derive(Clone, Copy)]
-struct Tally {
-    run: u64,
-    differ: u64,
-}
-
-// One case more.
-fn case(before: Tally, right: bool) -> Tally {
-    let mut differ = before.differ;
-    if !right {
-        differ = std::num::wrapping_add_u64(differ, 1);
-    }
-    let run = std::num::wrapping_add_u64(before.run, 1);
-    Tally { run, differ }
-}
-
-fn codec_cases(before: Tally) -> Tally {
-    let t = case(before, codec::case_1());
-    let t = case(t, codec::case_2());
-    let t = case(t, codec::case_3());
-    case(t, codec::case_4())
-}
-
-fn rig_cases(before: Tally) -> Tally {
-    let t = case(before, rig::case_5());
-    let t = case(t, rig::case_6());
-    let t = case(t, rig::case_7());
-    let t = case(t, rig::case_8());
-    let t = case(t, rig::case_9());
-    let t = case(t, rig::case_10());
-    let t = case(t, rig::case_11());
-    case(t, rig::case_12())
-}
-
 fn main(rt: HostRuntime) -> io::Result<()> {
-    let all = rig_cases(codec_cases(Tally { run: 0, differ: 0 }));
-    let run = all.run;
-    let differ = all.differ;
+    let cases = [
+        codec::case_1(),
+        codec::case_2(),
+        codec::case_3(),
+        codec::case_4(),
+        rig::case_5(),
+        rig::case_6(),
+        rig::case_7(),
+        rig::case_8(),
+        rig::case_9(),
+        rig::case_10(),
+        rig::case_11(),
+        rig::case_12(),
+    ];
+    let run = cases.len();
+    let differ = cases.iter().filter(|right| !**right).count();
     println!(rt; "{run} {differ}")
 }
