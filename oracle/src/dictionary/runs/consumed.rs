@@ -14,13 +14,14 @@ use crate::dictionary::model::image;
 use crate::dictionary::model::insertion::Insertion;
 use crate::dictionary::model::layout::*;
 use crate::dictionary::model::memory::Lent;
-use crate::dictionary::model::step::{Call, Cycle, History, Step};
+use crate::dictionary::model::step::{Call, Cycle, History, Received, Step};
 use crate::dictionary::shown::tally::{Goal, Tally};
 use crate::random::Random;
 use crate::sorts::BAD_TEXTS;
 
 const UNSIGNED8: u64 = 5;
 const UNSIGNED64: u64 = 8;
+const VISIBLE_STRING: u64 = 11;
 const OCTET_STRING: u64 = 12;
 
 /// Bytes of a store, for the saves and restores between payloads.
@@ -54,6 +55,7 @@ pub fn compare(trial: &mut Trial, random: &mut Random) {
     for object in error_objects(random) {
         trial.compare(every_node(object));
     }
+    trial.compare(far_text(random));
     trial.demand(lacking);
 }
 
@@ -260,6 +262,30 @@ fn many_events(random: &mut Random) -> History {
             calls.push(Call::ConsumeCycle(Cycle { data, payloads: numbers, room }));
         }
     }
+    history(random, objects, calls)
+}
+
+/// A text that something breaks behind its first 256 bytes, for both calls.
+pub fn far_text(random: &mut Random) -> History {
+    const LENGTH: usize = 300;
+    let number = |byte: u8| Value::new(UNSIGNED8, 0, &[byte]);
+    let word = ((8 * LENGTH as u64) << 48) | 0x6000;
+    let text = Value::new(VISIBLE_STRING, LENGTH, b"as it was");
+    let objects = vec![
+        list(0x1400, vec![number(5), number(0)]),
+        list(0x1600, vec![Value::new(UNSIGNED64, 0, &word.to_le_bytes())]),
+        Object { shape: VARIABLE, ..list(0x6000, vec![text]) },
+    ];
+    let mut broken = || {
+        let mut payload = vec![b'a'; LENGTH];
+        payload[256 + random.below(LENGTH - 256)] = 0xFF;
+        payload
+    };
+    let (alone, in_cycle) = (broken(), broken());
+    let arrival = Arrival { payload: in_cycle, sender: 5, version: 0, ready: 1 };
+    let received = Received { payload: alone, sender: 5, version: 0, ready: 1, room: LEAST_ROOM };
+    let cycle = payloads::cycle_of(random, &[arrival], LEAST_ROOM);
+    let calls = vec![Call::ConsumePdoPayload(received), Call::ConsumeCycle(cycle)];
     history(random, objects, calls)
 }
 

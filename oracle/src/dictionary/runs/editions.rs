@@ -53,6 +53,7 @@ pub fn compare(trial: &mut Trial, random: &mut Random) {
         trial.compare(in_edition(SECOND, consumed::history(random, objects, calls)));
     }
     damaged(trial, random);
+    trial.compare(in_edition(SECOND, consumed::far_text(random)));
 }
 
 /// The same with what is laid in another edition.
