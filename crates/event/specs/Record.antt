@@ -6,6 +6,7 @@ use Rattle.event.specs.declared.Unwritten.TheVariants.{CountNotWritable, TooLong
 use Rattle.event.specs.declared.Event.{Event}
 use Rattle.event.specs.declared.Event.TheVariants.{MapVersion, PayloadShort, Server, Client, WriteRefused}
 use Rattle.event.specs.declared.EventRecord.{EventRecord}
+use Rattle.event.specs.declared.records.Parts.{Parts}
 
 -- R11.14: "Kinds: 1 MapVersion; 2 to 5 PayloadShort, cause Frame, Value, Text, Odd; 6 Server; 7 Client; 8 WriteRefused(CountNotWritable);
 -- 9 WriteRefused(TooLong)"
@@ -61,6 +62,10 @@ event_of kind x start n =
     (cond (eqb kind 8) (WriteRefused CountNotWritable)
     (cond (eqb kind 9) (WriteRefused TooLong)
     (PayloadShort (cause_of kind start n))))))
+
+-- what a number says of its event, its payload and its element aside
+abbrev pub parts_of : ℕ → Parts
+parts_of e = record { kind = e % 16; index = e / 4096 % 65536; start = e / 268435456 % 8192; len = e / 2199023255552 % 8192 }
 
 -- kind in bits 0 to 3, element in 4 to 11, index in 12 to 27, start in 28 to 40, length in 41 to 53, the payload's number from 54 on
 unfoldable pub record_of : ℕ → EventRecord

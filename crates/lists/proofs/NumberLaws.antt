@@ -200,7 +200,7 @@ sum_more b t (suc k) =
     let e : 256 ^ suc (suc k) ≡ 256 * 256 ^ suc k = omega (arith, pow-suc 256 (suc k)) in
     rw e (omega (arith, sum_more b t k, m))
 
-sum_number : (k : ℕ) (s : List ℕ) → length s ≡ suc k → sum_through (λ i. byte_worth i (get_or s i 0)) k ≡ number s
+pub sum_number : (k : ℕ) (s : List ℕ) → length s ≡ suc k → sum_through (λ i. byte_worth i (get_or s i 0)) k ≡ number s
 unfolding number
 sum_number k [] h = absurd (omega (arith, h))
 sum_number zero (b ∷ []) h = omega arith

@@ -6,7 +6,8 @@ ghost use Rattle.std.proofs.Math.Seq.{slice};
 ghost use Rattle.lists.specs.Lists.{over, grown, fallen};
 ghost use Rattle.lists.specs.Numbers.{number, bytes_of};
 
-// The number of the two, four and eight bytes from `at` on, by one load.
+// The number of the two, four and eight bytes from `at` on, by one load. Three functions, as a const parameter could not choose the
+// number's type; and by place, as callers count theirs: of `first_chunk` each would have an Option to unwrap.
 #[tactic(auto, using(crate::proofs::NumberLaws::read_2))]
 fn two(s: &[u8], at: usize) -> u64
     requires { at + 2 ≤ length s.now }
@@ -36,7 +37,8 @@ fn each(s: &[u8], at: usize, n: usize) -> u64
     requires { (n ≤ 8) × (at + n ≤ length s.now) }
     ensures { result ≡ number (take n (drop at s.now)) }
 {
-    // In a fold's closure it would not be known that the sum fits.
+    // By hand, for speed: an array of eight, laid by `copy_from_slice` and read by `from_le_bytes`, proves, and took 10.0 ns for 6.9, as
+    // measured at five and six bytes in turn. In a fold's closure it would not be known that the sum fits.
     let mut sum = 0;
     for i in (0..n).rev() {
         sum = sum * 256 + s[at + i] as u64;

@@ -1,9 +1,9 @@
 -- Laws of the mapping word: decoding and encoding undo each other, and what a whole field says.
 -- Assumes nothing.
-use Rattle.std.specs.Prelude.{Option, Some, None}
+use Rattle.std.specs.Prelude.{None}
 use Rattle.mapping.specs.declared.Field.{Field}
 use Rattle.std.proofs.lemmas.Option.{same_Some}
-use mathlib.Core.Path.{◌≡◌, refl, sym, ap, ap₂, ◌∙◌}
+use mathlib.Core.Path.{◌≡◌, refl, sym, ap, ◌∙◌}
 use mathlib.Core.Bool.{Bool, true, false, cond, ◌&&◌}
 use Prim.Native.Nat.{ℕ, ◌+◌, ◌-◌, ◌*◌, ◌/◌, ◌%◌, ◌^◌, ◌<◌, ◌≤◌}
 use native.Mathlib.Nat.{mod-lt, mod-eq_of_lt, div-one}
@@ -13,7 +13,7 @@ use lib.Pow.{pow_pos, high, low, mod-pow-add}
 use borrow.Author.Tests.{eqb-true, eq-eqb}
 use Rattle.lists.specs.Numbers.{bits}
 use Rattle.mapping.specs.declared.PdoMappingEntry.{PdoMappingEntry}
-use Rattle.mapping.specs.Word.{InRange, entry_of, word_of, aligned_of, end_of, field_of, field_at}
+use Rattle.mapping.specs.Word.{InRange, entry_of, word_of, end_of, field_of, field_at}
 
 -- ---- n bits of a number, from bit a on
 pub bits_lt : (a n w : ℕ) → bits a n w < 2 ^ n
@@ -70,18 +70,6 @@ module _ (e : PdoMappingEntry) (r : InRange e) where
       rw (i, s, o, l)
 
 -- ---- the field in bytes
--- a whole offset and a whole length make a whole field
-abbrev pub joined : Option ℕ → Option ℕ → Option Field
-joined (Some s) (Some l) = field_at s l
-joined (Some s) None = None
-joined None a = None
-
-both : (p q : Bool) (s l : ℕ)
-    → joined (cond p (Some s) None) (cond q (Some l) None) ≡ cond (p && q) (field_at s l) None
-both true true s l = refl
-both true false s l = refl
-both false q s l = refl
-
 pub same_field : (s l s' l' : ℕ) → field_at s l ≡ field_at s' l' → (s ≡ s') × (l ≡ l')
 same_field s l s' l' h =
     let e = same_Some _ _ h in
@@ -102,11 +90,6 @@ pub record WholeField (e : PdoMappingEntry) (s l : ℕ) : Type 0 where
   pub end_small : s + l ≤ 16382
 
 module _ (e : PdoMappingEntry) where
-  pub joined-field : {a b : Option ℕ} → a ≡ aligned_of e.offset_bits → b ≡ aligned_of e.length_bits → joined a b ≡ field_of e
-  unfolding field_of
-  joined-field p q =
-      ap₂ joined p q ∙ both (eqb (e.offset_bits % 8) 0) (eqb (e.length_bits % 8) 0) (e.offset_bits / 8) (e.length_bits / 8)
-
   pub whole_field : InRange e → (s l : ℕ) → field_of e ≡ field_at s l → WholeField e s l
   unfolding field_of
   whole_field r s l h =

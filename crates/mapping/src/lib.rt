@@ -19,35 +19,28 @@ pub struct Field {
     pub length: usize,
 }
 
-// Bit 16, the sub-index's first.
-const SUB_INDEX: u64 = 0x1_0000;
-
-// Bit 32, the offset's first.
-const OFFSET: u64 = 0x1_0000_0000;
-
-// Bit 48, the length's first.
-const LENGTH: u64 = 0x1_0000_0000_0000;
-
 impl PdoMappingEntry {
     // Drops bits 24 to 31. No `From`, which drops nothing; and the two have the Rust's names.
+    #[tactic(auto, unfolding(crate::specs::Word::entry_of))]
     pub fn from_u64(value: u64) -> Self
         ensures { result ≡ entry_of value }
     {
+        let b = value.to_le_bytes();
         Self {
-            index: (value % 0x1_0000) as u16,
-            sub_index: (value / SUB_INDEX % 0x100) as u8,
-            offset_bits: (value / OFFSET % 0x1_0000) as u16,
-            length_bits: (value / LENGTH % 0x1_0000) as u16,
+            index: u16::from_le_bytes([b[0], b[1]]),
+            sub_index: b[2],
+            offset_bits: u16::from_le_bytes([b[4], b[5]]),
+            length_bits: u16::from_le_bytes([b[6], b[7]]),
         }
     }
 
     pub fn to_u64(self) -> u64
         ensures { result ≡ word_of self }
     {
-        self.index as u64
-            + self.sub_index as u64 * SUB_INDEX
-            + self.offset_bits as u64 * OFFSET
-            + self.length_bits as u64 * LENGTH
+        let i = self.index.to_le_bytes();
+        let o = self.offset_bits.to_le_bytes();
+        let n = self.length_bits.to_le_bytes();
+        u64::from_le_bytes([i[0], i[1], self.sub_index, 0, o[0], o[1], n[0], n[1]])
     }
 
     pub fn byte_offset(self) -> Option<usize>
@@ -66,18 +59,15 @@ impl PdoMappingEntry {
     pub fn end(self) -> usize
         ensures { result ≡ end_of self }
     {
-        (self.offset_bits as usize + self.length_bits as usize + 7) / 8
+        (self.offset_bits as usize + self.length_bits as usize).div_ceil(8)
     }
 
+    #[tactic(auto, unfolding(crate::specs::Word::field_of))]
     pub fn field(self) -> Option<Field>
         ensures { result ≡ field_of self }
     {
-        let Some(start) = self.byte_offset() else {
-            return None;
-        };
-        let Some(length) = self.byte_length() else {
-            return None;
-        };
+        let start = self.byte_offset()?;
+        let length = self.byte_length()?;
         Some(Field { start, length })
     }
 }

@@ -10,20 +10,19 @@ ghost use Rattle.value.specs.Meaning.{type_of, word_of};
 
 use answers::Refusal;
 pub use parts::fields;
-use value::{Decoded, ObjectValue};
+use value::{DecodeFault, ObjectValue};
 pub use words::{from_word, to_word, type_number};
 
 // The value of type t that the data begins with. Of a text, and of bytes, it is the whole data.
-pub fn decode(t: u64, data: &[u8]) -> Decoded
+#[tactic(auto, unfolding(value::specs::Codec::decode_of))]
+pub fn decode(t: u64, data: &[u8]) -> Result<ObjectValue, DecodeFault>
     ensures { result ≡ decode_of t «data».now }
 {
     if 20 < t {
-        return Decoded::NoType;
+        return Err(DecodeFault::NoType);
     }
-    match value::decode_word(t, data) {
-        Ok(x) => Decoded::Value(from_word(t, x)),
-        Err(f) => Decoded::Fails(f),
-    }
+    let x = value::decode_word(t, data).map_err(DecodeFault::Fails)?;
+    Ok(from_word(t, x))
 }
 
 // Lays the value's bytes over `out` from its start on. The part is the text or the bytes of a value that has a room.

@@ -4,7 +4,8 @@ ghost use Rattle.value.specs.Meaning.{reading, net_time, mac_address, ip_address
 
 use value::{IpAddress, MacAddress, NetTime, ObjectValue, RelativeTime, TimeDifference, TimeOfDay};
 
-// The low bits of x, as many as the type has. `as` may lose none, and one function for the three types would need a trait for this line.
+// The low bits of x, as many as the type has, since `as` may lose none. A const parameter could not choose the type, and a trait for the
+// three, with an impl and a law of each, would be longer than they are.
 fn low8(x: u64) -> u8
     ensures { result ≡ x % 2 ^ 8 }
 {
@@ -53,7 +54,7 @@ fn ip_address(x: u64) -> IpAddress
     IpAddress(b[0], b[1], b[2], b[3])
 }
 
-// The value that type t and its word say.
+// The value that type t and its word say. A table by the type's number, as the definition is: a `From` has no second number to choose by.
 #[tactic(auto, unfolding(value::specs::Meaning::readings))]
 pub fn from_word(t: u64, x: u64) -> ObjectValue
     ensures { result ≡ reading t x }
@@ -89,7 +90,7 @@ pub fn from_word(t: u64, x: u64) -> ObjectValue
     }
 }
 
-// The type's number.
+// The type's number: the same table backwards, named beside `from_word`.
 #[tactic(auto, unfolding(value::specs::Meaning::type_of))]
 pub fn type_number(v: ObjectValue) -> u64
     ensures { result ≡ type_of v }
@@ -140,7 +141,7 @@ fn mac_word(a: MacAddress) -> u64
     u64::from_le_bytes([a.0, a.1, a.2, a.3, a.4, a.5, 0, 0])
 }
 
-// The word that says the value, beside its type.
+// The word that says the value, beside its type. No `From`: without its type the word is not the value.
 #[tactic(auto, unfolding(value::specs::Meaning::word_of))]
 pub fn to_word(v: ObjectValue) -> u64
     ensures { result ≡ word_of v }

@@ -3,14 +3,16 @@
 use Rattle.std.specs.Prelude.{Option, Some, None, Ok, Err}
 use Prim.Native.Nat.{ℕ, zero, suc, ◌+◌, ◌≤◌, ◌<◌, zero-le}
 use mathlib.Core.Path.{◌≡◌, refl, sym, ap, ap₂, ◌∙◌}
-use mathlib.Core.Bool.{Bool, true, false, ◌&&◌}
+use mathlib.Core.Bool.{Bool, true, false, cond, ◌&&◌}
 use mathlib.Core.List.{List, [], ◌∷◌}
 use native.Mathlib.Numerals.{add-one}
 use native.Mathlib.Omega.{arith}
-use borrow.Author.Tests.{lt-ltb, le-ltb, le-leb, lt-leb}
+use borrow.Author.Tests.{le-leb, lt-leb}
 use lib.Dec.{T, eqb, eqb→eq, ltb, ltb→lt}
 use lib.ListN.{length, get_or, drop, drop_of_length-le}
 use lib.Seq.{drop-cons}
+use Rattle.std.specs.Bool.{then_some}
+use Rattle.std.specs.Option.{option_map}
 use Rattle.lists.specs.Tests.{and_left, and_right, below, below_at}
 use Rattle.text.specs.Utf8.{Range, ◌to◌}
 use Rattle.text.specs.Machine.{step, onward, judge_at, Skipped}
@@ -71,14 +73,14 @@ unfolding asks below asking
 early s i zero h n l = absurd (n refl)
 early s i (suc q) h n l = rw (drop_of_length-le s h) (cut i (asks (suc q)) (below_at 7 (λ p. asking (asks (suc p))) tt q (omega arith)))
 
--- ---- the numbers of the states
-pub reach_some : (n : ℕ) → n ≤ 7 → reach n ≡ Some (asks n)
+-- ---- an entry's state, where its number is below 8
+pub reached : (n : ℕ) → option_map asks (then_some (ltb n 8) n) ≡ reach n
 unfolding reach
-reach_some n h = simp (lt-ltb n 8 (omega arith))
-
-pub reach_none : (n : ℕ) → 7 < n → reach n ≡ None
-unfolding reach
-reach_none n h = simp (le-ltb n 8 h)
+reached n = go (ltb n 8)
+  where
+    go : (b : Bool) → option_map asks (then_some b n) ≡ cond b (Some (asks n)) None
+    go true = refl
+    go false = refl
 
 -- ---- the tables
 same_eq : (rs ts : List Range) → T (same rs ts) → rs ≡ ts

@@ -1,6 +1,6 @@
 -- Laws on sizes, on what can be said, and on what decoding and encoding answer.
 -- Assumes nothing.
-use Rattle.std.specs.Prelude.{Result, Ok, Err}
+use Rattle.std.specs.Prelude.{Result, Ok, Err, is_ok}
 use mathlib.Core.Path.{◌≡◌, refl, sym, ap, subst, ◌∙◌}
 use mathlib.Core.Logic.{inl, inr}
 use mathlib.Core.Bool.{Bool, true, false, cond, ◌&&◌, ◌||◌, and-eq-true_iff}
@@ -24,10 +24,11 @@ use Rattle.answers.specs.declared.Refusal.TheVariants.{BadValue, BufferTooShort}
 use Rattle.text.specs.Machine.{judge}
 use Rattle.value.specs.declared.CodecFault.{CodecFault}
 use Rattle.value.specs.declared.CodecFault.TheVariants.{Odd}
-use Rattle.value.specs.declared.Decoded.TheVariants.{Value, NoType}
+use Rattle.value.specs.declared.DecodeFault.{DecodeFault}
+use Rattle.value.specs.declared.DecodeFault.TheVariants.{NoType}
 use Rattle.value.specs.declared.ObjectValue.{ObjectValue}
 use Rattle.value.specs.Meaning.{reading}
-use Rattle.value.specs.Codec.{sizes, size_of, is_text, fits_type, takes, text_is, text_word, word_at, meant, decode_of, sayable, exact_word, exactly_of, is_exact, exact, encoding, after_encode, encode_of}
+use Rattle.value.specs.Codec.{sizes, size_of, is_text, fits_type, takes, text_is, text_word, word_at, meant, decode_of, sayable, exact_word, exactly_of, exact, encoding, after_encode, encode_of}
 
 -- ---- a match on t whose arms 0, 1, .. up to k - 1 did not fit
 abbrev Rest : ℕ → ℕ → Type 0
@@ -234,11 +235,11 @@ pub record Taken (t : ℕ) (s : List ℕ) (v : ObjectValue) : Type 0 where
   pub taken : word_at t s ≡ Ok word
   pub value : v ≡ reading t word
 
-pub decoded : (t : ℕ) (s : List ℕ) (v : ObjectValue) → decode_of t s ≡ Value v → Taken t s v
+pub decoded : (t : ℕ) (s : List ℕ) (v : ObjectValue) → decode_of t s ≡ Ok v → Taken t s v
 unfolding decode_of
 decoded t s v h = go (ltb 20 t) (word_at t s) refl refl h
   where
-    go : (a : Bool) (x : Result ℕ CodecFault) → ltb 20 t ≡ a → word_at t s ≡ x → cond a NoType (meant t x) ≡ Value v → Taken t s v
+    go : (a : Bool) (x : Result ℕ CodecFault) → ltb 20 t ≡ a → word_at t s ≡ x → ◌≡◌ {A = Result ObjectValue DecodeFault} (cond a (Err NoType) (meant t x)) (Ok v) → Taken t s v
     go true x e f h = let z : ◌≡◌ {A = ℕ} 0 1 = cc in absurd (omega arith)
     go false (Ok w) e f h = record { type_le = ltb-false 20 t e; word = w; taken = f; value = cc }
     go false (Err g) e f h = let z : ◌≡◌ {A = ℕ} 0 1 = cc in absurd (omega arith)
@@ -252,7 +253,7 @@ pub exact_text : (t : ℕ) (s : List ℕ) → t ≤ 20 → is_text t ≡ true �
 unfolding exact exactly_of word_at
 exact_text t s h e = rw (le-ltb 20 t h, e) (go (text_word t s))
   where
-    go : (w : Result ℕ CodecFault) → is_exact (exact_word t s w) ≡ takes w
+    go : (w : Result ℕ CodecFault) → is_ok (exact_word t s w) ≡ takes w
     go (Ok w) = rw e
     go (Err f) = refl
 
@@ -261,7 +262,7 @@ unfolding exact exactly_of word_at
 exact_fixed t s h e = rw (le-ltb 20 t h, e) (go (dec_lt (length s) (size_of t)) (dec_lt (size_of t) (length s)))
   where
     go : Dec (length s < size_of t) → Dec (size_of t < length s)
-        → is_exact (exact_word t s (cond (ltb (length s) (size_of t)) (Err (CodecFault.Value (size_of t) (length s))) (Ok (number (take (size_of t) s))))) ≡ eqb (length s) (size_of t)
+        → is_ok (exact_word t s (cond (ltb (length s) (size_of t)) (Err (CodecFault.Value (size_of t) (length s))) (Ok (number (take (size_of t) s))))) ≡ eqb (length s) (size_of t)
     go (yes a) b = rw (lt-ltb (length s) (size_of t) a, ne_eqb (length s) (size_of t) (λ z. omega arith))
     go (no a) (yes b) = rw (le-ltb (length s) (size_of t) (omega arith), e, lt-leb (length s) (size_of t) b, ne_eqb (length s) (size_of t) (λ z. omega arith))
     go (no a) (no b) = rw (le-ltb (length s) (size_of t) (omega arith), e, le-leb (length s) (size_of t) (omega arith), eq-eqb (length s) (size_of t) (omega arith))

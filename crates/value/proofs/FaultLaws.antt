@@ -1,7 +1,7 @@
 -- R3.9: what a fault says of the data is so. Once over `word_at`, and said of decoding and of what is handed in.
 -- Assumes nothing.
 use Rattle.std.specs.Prelude.{Result, Ok, Err}
-use mathlib.Core.Path.{◌≡◌, refl, sym, ap, subst, ◌∙◌}
+use mathlib.Core.Path.{◌≡◌, refl, ap, subst, ◌∙◌}
 use mathlib.Core.Bool.{Bool, true, false, cond, ◌&&◌, ◌||◌, and-eq-true_iff}
 use mathlib.Core.List.{List}
 use Prim.Native.Nat.{ℕ, ◌+◌, ◌%◌, ◌≤◌}
@@ -15,9 +15,11 @@ use Rattle.text.specs.Machine.{judge}
 use Rattle.text.proofs.Agree.{means}
 use Rattle.value.specs.declared.CodecFault.{CodecFault}
 use Rattle.value.specs.declared.CodecFault.TheVariants.{Value, Text, Odd}
-use Rattle.value.specs.declared.Decoded.TheVariants as decoded
-use Rattle.value.specs.declared.Exactness.{Exactness}
-use Rattle.value.specs.declared.Exactness.TheVariants as exactly
+use Rattle.value.specs.declared.ObjectValue.{ObjectValue}
+use Rattle.value.specs.declared.DecodeFault.{DecodeFault}
+use Rattle.value.specs.declared.DecodeFault.TheVariants as decode-fault
+use Rattle.value.specs.declared.Inexact.{Inexact}
+use Rattle.value.specs.declared.Inexact.TheVariants as inexact
 use Rattle.value.specs.Codec.{size_of, is_text, text_is, text_word, word_at, meant, decode_of, exact_word, exactly_of}
 use Rattle.value.specs.Fault.{Tells, first_told, second_told}
 use Rattle.value.proofs.CodecLaws.{size_le}
@@ -52,24 +54,24 @@ word_tells t s f h = typed (is_text t) refl h
     typed false e k = short (ltb (length s) (size_of t)) e refl k
 
 -- ---- the theorem, of decoding and of what is handed in
-pub decode_tells : (t : ℕ) (s : List ℕ) (f : CodecFault) → decode_of t s ≡ decoded.Fails f → Tells t s f
+pub decode_tells : (t : ℕ) (s : List ℕ) (f : CodecFault) → decode_of t s ≡ Err (decode-fault.Fails f) → Tells t s f
 unfolding decode_of
 decode_tells t s f h = go (ltb 20 t) (word_at t s) refl h
   where
-    go : (a : Bool) (x : Result ℕ CodecFault) → word_at t s ≡ x → cond a decoded.NoType (meant t x) ≡ decoded.Fails f → Tells t s f
+    go : (a : Bool) (x : Result ℕ CodecFault) → word_at t s ≡ x → ◌≡◌ {A = Result ObjectValue DecodeFault} (cond a (Err decode-fault.NoType) (meant t x)) (Err (decode-fault.Fails f)) → Tells t s f
     go true x q k = let z : ◌≡◌ {A = ℕ} 0 1 = cc in absurd (omega arith)
     go false (Ok w) q k = let z : ◌≡◌ {A = ℕ} 0 1 = cc in absurd (omega arith)
     go false (Err g) q k = let z : g ≡ f = cc in word_tells t s f (q ∙ ap Err z)
 
-pub exactly_tells : (t : ℕ) (s : List ℕ) (f : CodecFault) → exactly_of t s ≡ exactly.Fails f → Tells t s f
+pub exactly_tells : (t : ℕ) (s : List ℕ) (f : CodecFault) → exactly_of t s ≡ Err (inexact.Fails f) → Tells t s f
 unfolding exactly_of
 exactly_tells t s f h = go (ltb 20 t) (word_at t s) refl h
   where
-    left : (b : Bool) → ◌≡◌ {A = Exactness} (cond b exactly.Value exactly.Many) (exactly.Fails f) → Tells t s f
+    left : (b : Bool) → ◌≡◌ {A = Result (Unit {0}) Inexact} (cond b (Ok tt) (Err inexact.Many)) (Err (inexact.Fails f)) → Tells t s f
     left true k = let z : ◌≡◌ {A = ℕ} 0 1 = cc in absurd (omega arith)
     left false k = let z : ◌≡◌ {A = ℕ} 0 1 = cc in absurd (omega arith)
 
-    go : (a : Bool) (x : Result ℕ CodecFault) → word_at t s ≡ x → cond a exactly.NoType (exact_word t s x) ≡ exactly.Fails f → Tells t s f
+    go : (a : Bool) (x : Result ℕ CodecFault) → word_at t s ≡ x → ◌≡◌ {A = Result (Unit {0}) Inexact} (cond a (Err inexact.NoType) (exact_word t s x)) (Err (inexact.Fails f)) → Tells t s f
     go true x q k = let z : ◌≡◌ {A = ℕ} 0 1 = cc in absurd (omega arith)
     go false (Ok w) q k = left (is_text t || leb (length s) (size_of t)) k
     go false (Err g) q k = let z : g ≡ f = cc in word_tells t s f (q ∙ ap Err z)

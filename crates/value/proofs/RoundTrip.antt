@@ -13,7 +13,6 @@ use Rattle.lists.specs.Lists.{over}
 use Rattle.lists.specs.Numbers.{number, bytes_of, Bytes}
 use Rattle.lists.proofs.ListLaws.{over_read}
 use Rattle.lists.proofs.NumberLaws.{number_lt, length-bytes_of, number-bytes_of, bytes_of-number}
-use Rattle.value.specs.declared.Decoded.TheVariants.{Value}
 use Rattle.value.specs.declared.ObjectValue.{ObjectValue}
 use Rattle.value.specs.Meaning.{type_of, word_of}
 use Rattle.value.specs.Range.{InRange}
@@ -54,10 +53,10 @@ encode_decode t w s b k h n = go (is_text t) refl
 
 -- ---- values
 -- what decoding gives is of the type asked for, and fits its bits
-pub type_decode : (t : ℕ) (s : List ℕ) (v : ObjectValue) → decode_of t s ≡ Value v → type_of v ≡ t
+pub type_decode : (t : ℕ) (s : List ℕ) (v : ObjectValue) → decode_of t s ≡ Ok v → type_of v ≡ t
 type_decode t s v h = let d = decoded t s v h in rw d.value (type_reading t d.word d.type_le)
 
-pub in_range_decode : (t : ℕ) (s : List ℕ) (v : ObjectValue) → Bytes s → length s < 2 ^ 64 → decode_of t s ≡ Value v → InRange v
+pub in_range_decode : (t : ℕ) (s : List ℕ) (v : ObjectValue) → Bytes s → length s < 2 ^ 64 → decode_of t s ≡ Ok v → InRange v
 in_range_decode t s v b l h =
     let d = decoded t s v h in
     rw d.value (in_range-reading t d.word d.type_le (word_lt64 t d.word s d.taken b l))
@@ -67,11 +66,11 @@ pub sayable_fixed_value : (v : ObjectValue) (part : List ℕ) → InRange v → 
 sayable_fixed_value v part r e = sayable_fixed (type_of v) (word_of v) part (type_le v r) e ∙ lt-ltb _ _ (word_lt v r e)
 
 pub decode_encode_value : (v : ObjectValue) (part : List ℕ) → InRange v → sayable (type_of v) (word_of v) part ≡ true
-    → decode_of (type_of v) (encoding (type_of v) (word_of v) part) ≡ Value v
+    → decode_of (type_of v) (encoding (type_of v) (word_of v) part) ≡ Ok v
 unfolding decode_of
-decode_encode_value v part r h = rw (le-ltb 20 (type_of v) (type_le v r), decode_encode (type_of v) (word_of v) part h) (ap Value (reading-word v r))
+decode_encode_value v part r h = rw (le-ltb 20 (type_of v) (type_le v r), decode_encode (type_of v) (word_of v) part h) (ap Ok (reading-word v r))
 
-pub encode_decode_value : (t : ℕ) (s : List ℕ) (v : ObjectValue) → Bytes s → decode_of t s ≡ Value v → (is_text t ≡ false → length s ≡ size_of t)
+pub encode_decode_value : (t : ℕ) (s : List ℕ) (v : ObjectValue) → Bytes s → decode_of t s ≡ Ok v → (is_text t ≡ false → length s ≡ size_of t)
     → (sayable (type_of v) (word_of v) s ≡ true) × (encoding (type_of v) (word_of v) s ≡ s)
 encode_decode_value t s v b h n =
     let d = decoded t s v h in
@@ -82,14 +81,14 @@ encode_decode_value t s v b h n =
 -- "Decoding what encoding wrote gives the value"
 pub decode_written : (v : ObjectValue) (part out : List ℕ) (n : ℕ) (out' : List ℕ) → InRange v
     → encode_of (type_of v) (word_of v) part out ≡ after_encode (Ok n) out'
-    → decode_of (type_of v) (take n out') ≡ Value v
+    → decode_of (type_of v) (take n out') ≡ Ok v
 decode_written v part out n out' r h =
     let w = written (type_of v) (word_of v) part out n out' h in
     rw (w.count, w.laid, over_read out 0 (encoding (type_of v) (word_of v) part) (omega arith)) (decode_encode_value v part r w.said)
 
 -- "encoding what was decoded from data of exactly the type's size gives the data"
 pub encode_decoded : (t : ℕ) (s : List ℕ) (v : ObjectValue) (out : List ℕ) → Bytes s → (is_text t ≡ false → length s ≡ size_of t) → length s ≤ length out
-    → decode_of t s ≡ Value v
+    → decode_of t s ≡ Ok v
     → encode_of (type_of v) (word_of v) s out ≡ after_encode (Ok (length s)) (over out 0 s)
 encode_decoded t s v out b n l h =
     let e = encode_decode_value t s v b h n in

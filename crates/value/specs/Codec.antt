@@ -1,18 +1,19 @@
 -- Decoding and encoding: RULES.md R3.1 and R3.4 to R3.7.
 -- Assumes nothing.
-use Rattle.std.specs.Prelude.{ℕ, ◌*◌, ◌%◌, ◌^◌, Bool, true, false, cond, ◌&&◌, ◌||◌, List, [], ◌∷◌, eqb, leb, ltb, get_or, length, take, Result, Ok, Err}
+use Rattle.std.specs.Prelude.{ℕ, ◌*◌, ◌%◌, ◌^◌, Bool, true, false, cond, ◌&&◌, ◌||◌, List, [], ◌∷◌, eqb, leb, ltb, get_or, length, take, Result, Ok, Err, is_ok}
 use Rattle.lists.specs.Lists.{over}
 use Rattle.lists.specs.Numbers.{number, bytes_of}
 use Rattle.text.specs.Machine.{judge}
 use Rattle.value.specs.declared.CodecFault.{CodecFault}
 use Rattle.value.specs.declared.CodecFault.TheVariants.{Value, Text, Odd}
-use Rattle.value.specs.declared.Decoded.{Decoded}
-use Rattle.value.specs.declared.Decoded.TheVariants as decoded
+use Rattle.value.specs.declared.DecodeFault.{DecodeFault}
+use Rattle.value.specs.declared.DecodeFault.TheVariants as decode-fault
+use Rattle.value.specs.declared.ObjectValue.{ObjectValue}
 use Rattle.value.specs.Meaning.{reading}
 use Rattle.answers.specs.declared.Refusal.{Refusal}
 use Rattle.answers.specs.declared.Refusal.TheVariants.{BadValue, BufferTooShort, TypeMismatch}
-use Rattle.value.specs.declared.Exactness.{Exactness}
-use Rattle.value.specs.declared.Exactness.TheVariants as exactly
+use Rattle.value.specs.declared.Inexact.{Inexact}
+use Rattle.value.specs.declared.Inexact.TheVariants as inexact
 
 -- R3.1: "the size of their encoding in bytes"; 0 for the four types that have a room
 abbrev pub sizes : List ℕ
@@ -24,6 +25,10 @@ size_of t = get_or sizes t 0
 -- VisibleString, OctetString, UnicodeString, Domain
 abbrev pub is_text : ℕ → Bool
 is_text t = leb 11 t && leb t 14
+
+-- how many bytes a value has: its type's size or, of a type that has a room, so many as are held
+abbrev pub length_of : ℕ → ℕ → ℕ
+length_of t held = cond (is_text t) held (size_of t)
 
 -- a number of as many bytes as the type has
 abbrev pub fits_type : ℕ → ℕ → Bool
@@ -59,13 +64,13 @@ refusal_of (Value needed had) = BufferTooShort
 refusal_of (Text at) = TypeMismatch
 refusal_of Odd = TypeMismatch
 
-abbrev pub meant : ℕ → Result ℕ CodecFault → Decoded
-meant t (Ok x) = decoded.Value (reading t x)
-meant t (Err f) = decoded.Fails f
+abbrev pub meant : ℕ → Result ℕ CodecFault → Result ObjectValue DecodeFault
+meant t (Ok x) = Ok (reading t x)
+meant t (Err f) = Err (decode-fault.Fails f)
 
 -- a type's number over 20 names no type
-unfoldable pub decode_of : ℕ → List ℕ → Decoded
-decode_of t s = cond (ltb 20 t) decoded.NoType (meant t (word_at t s))
+unfoldable pub decode_of : ℕ → List ℕ → Result ObjectValue DecodeFault
+decode_of t s = cond (ltb 20 t) (Err decode-fault.NoType) (meant t (word_at t s))
 
 -- ---- encoding
 abbrev pub takes : Result ℕ CodecFault → Bool
@@ -82,21 +87,15 @@ sayable t w part =
 
 -- ---- R3.4: whether data that is handed in, or stored, is a value of type t and nothing else, or why it is none
 -- it decodes, and of a fixed type nothing is left behind it
-abbrev pub exact_word : ℕ → List ℕ → Result ℕ CodecFault → Exactness
-exact_word t s (Err f) = exactly.Fails f
-exact_word t s (Ok w) = cond (is_text t || leb (length s) (size_of t)) exactly.Value exactly.Many
+abbrev pub exact_word : ℕ → List ℕ → Result ℕ CodecFault → Result (Unit {0}) Inexact
+exact_word t s (Err f) = Err (inexact.Fails f)
+exact_word t s (Ok w) = cond (is_text t || leb (length s) (size_of t)) (Ok tt) (Err inexact.Many)
 
-unfoldable pub exactly_of : ℕ → List ℕ → Exactness
-exactly_of t s = cond (ltb 20 t) exactly.NoType (exact_word t s (word_at t s))
-
-abbrev pub is_exact : Exactness → Bool
-is_exact exactly.Value = true
-is_exact exactly.NoType = false
-is_exact (exactly.Fails f) = false
-is_exact exactly.Many = false
+unfoldable pub exactly_of : ℕ → List ℕ → Result (Unit {0}) Inexact
+exactly_of t s = cond (ltb 20 t) (Err inexact.NoType) (exact_word t s (word_at t s))
 
 unfoldable pub exact : ℕ → List ℕ → Bool
-exact t s = is_exact (exactly_of t s)
+exact t s = is_ok (exactly_of t s)
 
 -- its bytes: those beside it, or the word as little-endian bytes, as many as the type has
 unfoldable pub encoding : ℕ → ℕ → List ℕ → List ℕ

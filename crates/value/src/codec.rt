@@ -1,8 +1,8 @@
 // Values as words: the little-endian number of a fixed type's bytes, or the length of a text or of bytes.
 ghost use Rattle.std.specs.Prelude.{◌≡◌, true, false, [], ◌-◌, ◌*◌, ◌^◌, ◌≤◌};
-ghost use Rattle.value.specs.Codec.{size_of, is_text, fits_type, text_word, word_at, exactly_of, is_exact, encode_of, after_encode};
+ghost use Rattle.value.specs.Codec.{size_of, is_text, length_of, fits_type, text_word, word_at, exactly_of, encode_of, after_encode};
 
-use crate::{CodecFault, Exactness};
+use crate::{CodecFault, Inexact};
 use answers::Refusal;
 
 // The bytes that a fixed type has; 0 for the four types that have a room, and for no type.
@@ -53,6 +53,13 @@ pub fn is_text(t: u64) -> bool
     (11 <= t) & (t <= 14)
 }
 
+// How many bytes a value has: its type's size or, of a type that has a room, so many as are held.
+pub fn length_of(t: u64, held: u64) -> u64
+    ensures { result ≡ length_of t held }
+{
+    if is_text(t) { held } else { size_of(t) as u64 }
+}
+
 // The word is a number of as many bytes as the type has.
 pub fn fits(t: u64, word: u64) -> bool
     ensures { result ≡ fits_type t word }
@@ -94,25 +101,18 @@ pub fn decode_word(t: u64, data: &[u8]) -> Result<u64, CodecFault>
 }
 
 // Whether the data is a value of type t and nothing else, or why it is none.
-pub fn exactly(t: u64, data: &[u8]) -> Exactness
+#[tactic(auto, unfolding(crate::specs::Codec::exactly_of))]
+pub fn exactly(t: u64, data: &[u8]) -> Result<(), Inexact>
     ensures { result ≡ exactly_of t «data».now }
 {
     if 20 < t {
-        return Exactness::NoType;
+        return Err(Inexact::NoType);
     }
-    if let Err(f) = decode_word(t, data) {
-        return Exactness::Fails(f);
-    }
+    decode_word(t, data).map_err(Inexact::Fails)?;
     if is_text(t) | (data.len() <= size_of(t)) {
-        return Exactness::Value;
+        return Ok(());
     }
-    Exactness::Many
-}
-
-pub fn is_exact(e: Exactness) -> bool
-    ensures { result ≡ is_exact e }
-{
-    matches!(e, Exactness::Value)
+    Err(Inexact::Many)
 }
 
 fn encode_text(t: u64, word: u64, part: &[u8], out: &mut [u8]) -> Result<usize, Refusal>

@@ -8,9 +8,10 @@ ghost use Rattle.std.specs.Prelude.{◌≡◌};
 ghost use Rattle.value.specs.Codec.{refusal_of};
 
 use answers::Refusal;
-pub use codec::{decode_word, encode_word, exactly, fits, is_exact, is_text, size_of};
+pub use codec::{decode_word, encode_word, exactly, fits, is_text, length_of, size_of};
 pub use order::is_ordered;
 
+// A moment, and a span between two. They have the same parts, and are two types as in the Rust, so that neither passes for the other.
 #[derive(Clone, Copy)]
 pub struct TimeOfDay {
     pub ms: u32,
@@ -32,6 +33,7 @@ pub struct NetTime {
 #[derive(Clone, Copy)]
 pub struct RelativeTime(pub u64);
 
+// The addresses have the Rust's names, and a place for each byte: structs of six and of four bytes (docs/DECISIONS.md, 5).
 #[derive(Clone, Copy)]
 pub struct MacAddress(pub u8, pub u8, pub u8, pub u8, pub u8, pub u8);
 
@@ -72,31 +74,28 @@ pub enum CodecFault {
     Odd,
 }
 
-// The value, why there is none, or a number that names no type.
+// Why data has no value of a type: a number that names no type, or bytes that do not decode.
 #[derive(Clone, Copy)]
-pub enum Decoded {
-    Value(ObjectValue),
-    Fails(CodecFault),
+pub enum DecodeFault {
     NoType,
+    Fails(CodecFault),
 }
 
-// Whether data is a value of a type and nothing else, or why it is none: a number that names no type, bytes that do not decode, bytes behind
-// the value.
+// Why data is not a value of a type and nothing else: a number that names no type, bytes that do not decode, or bytes behind the value.
 #[derive(Clone, Copy)]
-pub enum Exactness {
-    Value,
+pub enum Inexact {
     NoType,
     Fails(CodecFault),
     Many,
 }
 
-// A function, and no `From`: the calls for C name it.
+// A function, and no `From`: a fault is so refused where bytes are decoded. Encoding and writing refuse it as BadValue, and there a `?` would
+// take the `From`.
 pub fn refusal(f: CodecFault) -> Refusal
     ensures { result ≡ refusal_of f }
 {
     match f {
-        CodecFault::Value { needed: _, had: _ } => Refusal::BufferTooShort,
-        CodecFault::Text { at: _ } => Refusal::TypeMismatch,
-        CodecFault::Odd => Refusal::TypeMismatch,
+        CodecFault::Value { .. } => Refusal::BufferTooShort,
+        CodecFault::Text { .. } | CodecFault::Odd => Refusal::TypeMismatch,
     }
 }

@@ -6,8 +6,9 @@ use mathlib.Core.List.{[]}
 use native.Mathlib.Omega.{arith}
 use native.Mathlib.Nat.{le_refl}
 use borrow.Author.Tests.{ltb-true}
+use Rattle.std.specs.Option.{option_map}
 use Rattle.text.specs.Tables.{asks}
-use Rattle.text.proofs.Laws.{turn, more, whole, early, reach_some, reach_none}
+use Rattle.text.proofs.Laws.{turn, more, whole, early}
 use Rattle.text.proofs.walk.Goals as goal
 
 pub loop-i-init : goal.loop-i-init
@@ -35,11 +36,11 @@ loop-i-preserved-then-b-lt128 c =
     let k = more s l.i l.i (l.i + 1) (record { on = le_refl _; inside = omega arith; same = refl }) refl (omega arith) (omega (arith, ltb-true)) in
     (omega arith, omega arith, cc)
 
-pub returns-then-n-gt7 : goal.returns-then-n-gt7
-returns-then-n-gt7 c =
+pub returns-in_default : goal.returns-in_default
+returns-in_default c =
     let l = c.loop-i in
     let s = c.args.s.now in
-    sym (turn s l.i (omega arith) (asks l.q) (sym c.next-n.ensures ∙ reach_none c.next-n.result (omega arith))) ∙ l.invariant.2
+    sym (turn s l.i (omega arith) (asks l.q) (sym c.next.ensures.state ∙ ap (option_map asks) c.in_default.is)) ∙ l.invariant.2
 
 pub overflow_add-i-else-q-eq0 : goal.overflow_add-i-else-q-eq0
 overflow_add-i-else-q-eq0 c = omega arith
@@ -52,8 +53,8 @@ loop-i-preserved c =
     let l = c.loop-i in
     let s = c.args.s.now in (
       omega arith,
-      omega arith,
-      sym (turn s l.i (omega arith) (asks l.q) (sym c.next-n.ensures ∙ reach_some c.next-n.result (omega arith))) ∙ l.invariant.2,
+      c.in-Some.ensures.bound,
+      sym (turn s l.i (omega arith) (asks l.q) (sym c.next.ensures.state ∙ ap (option_map asks) c.in-Some.is)) ∙ l.invariant.2,
     )
 
 pub returns-then-q-eq0-2 : goal.returns-then-q-eq0-2

@@ -7,15 +7,12 @@ use Rattle.value.proofs.codec.decode_text.Goals as goal
 pub returns-in-Ok : goal.returns-in-Ok
 unfolding text_word
 returns-in-Ok c =
-    let k = c in
-    simp (eq-eqb _ _ k.if-t-eq11.true, sym k.text_ok.ensures ∙ c.in-Ok.is)
+    simp (eq-eqb _ _ c.if-t-eq11.true, sym c.text_ok.ensures ∙ c.in-Ok.is)
 
 pub returns-in-Err : goal.returns-in-Err
 unfolding text_word
 returns-in-Err c =
-    let a = c.before in
-    let k = a in
-    simp (eq-eqb _ _ k.if-t-eq11.true, sym k.text_ok.ensures ∙ a.in-Err.is)
+    simp (eq-eqb _ _ c.if-t-eq11.true, sym c.text_ok.ensures ∙ c.in-Err.is)
 
 pub returns-then-t-odd : goal.returns-then-t-odd
 unfolding text_word

@@ -17,9 +17,8 @@ returns-then-is_text c = simp (sym c.is_text.ensures ∙ c.if-is_text.true) c.de
 pub returns-then-data-n : goal.returns-then-data-n
 unfolding word_at
 returns-then-data-n c =
-    let k = c in
-    simp (sym k.is_text.ensures ∙ k.if-is_text.false, lt-ltb _ _ (rw c.size_of-n.ensures at c.if-data-n.true))
-    (ap (λ n. Err (Value n (length k.args.«data».now))) c.size_of-n.ensures)
+    simp (sym c.is_text.ensures ∙ c.if-is_text.false, lt-ltb _ _ (rw c.size_of-n.ensures at c.if-data-n.true))
+    (ap (λ n. Err (Value n (length c.args.«data».now))) c.size_of-n.ensures)
 
 pub number-requires : goal.number-requires
 number-requires c = (omega (arith, c.size_of-n.ensures, size_le c.args.t), omega arith)
@@ -27,6 +26,5 @@ number-requires c = (omega (arith, c.size_of-n.ensures, size_le c.args.t), omega
 pub returns : goal.returns
 unfolding word_at
 returns c =
-    let k = c in
-    simp (sym k.is_text.ensures ∙ k.if-is_text.false, le-ltb _ _ (rw c.size_of-n.ensures at c.if-data-n.false))
-    (ap Ok (c.number.ensures ∙ ap (λ n. number (take n k.args.«data».now)) c.size_of-n.ensures))
+    simp (sym c.is_text.ensures ∙ c.if-is_text.false, le-ltb _ _ (rw c.size_of-n.ensures at c.if-data-n.false))
+    (ap Ok (c.number.ensures ∙ ap (λ n. number (take n c.args.«data».now)) c.size_of-n.ensures))

@@ -12,20 +12,16 @@ returns-then-t-gt20 c =
 
 pub encode_text-requires : goal.encode_text-requires
 encode_text-requires c =
-    let k = c in
-    (omega arith, sym k.is_text.ensures ∙ c.if-is_text.true)
+    (omega arith, sym c.is_text.ensures ∙ c.if-is_text.true)
 
 pub returns-then-is_text : goal.returns-then-is_text
 returns-then-is_text c = search rules
 
 pub encode_fixed-requires : goal.encode_fixed-requires
 encode_fixed-requires c =
-    let k = c in
-    (omega arith, sym k.is_text.ensures ∙ c.if-is_text.false)
+    (omega arith, sym c.is_text.ensures ∙ c.if-is_text.false)
 
 pub returns : goal.returns
 returns c =
-    let f = c.before.before in
-    let k = f in
-    let a = k.args in
-    f.encode_fixed.ensures ∙ sym (encode_part a.t a.word a.part.now a.out.now (sym k.is_text.ensures ∙ f.if-is_text.false))
+    let a = c.args in
+    c.encode_fixed.ensures ∙ sym (encode_part a.t a.word a.part.now a.out.now (sym c.is_text.ensures ∙ c.if-is_text.false))

@@ -10,6 +10,5 @@ use Rattle.value.proofs.codec.fits.Goals as goal
 
 pub returns : goal.returns
 returns c =
-    let a = c in
-    ap (λ m. eqb (bit_and a.args.word m) 0) c.over.ensures
-    ∙ none_over a.args.word (8 * size_of a.args.t) a.ranges.word.fits (omega (arith, size_le a.args.t))
+    ap (λ m. eqb (bit_and c.args.word m) 0) c.over.ensures
+    ∙ none_over c.args.word (8 * size_of c.args.t) c.ranges.word.fits (omega (arith, size_le c.args.t))
