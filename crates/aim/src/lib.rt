@@ -5,7 +5,7 @@ ghost use Rattle.std.specs.Prelude.{◌≡◌};
 ghost use Rattle.entry.specs.Find.{Rows};
 ghost use Rattle.aim.specs.Aims.{aim_of, class_at, class_of};
 
-use entry::Place;
+use entry::{Missing, Place};
 use mapping::{Field, PdoMappingEntry};
 
 // What a word says, its field, and what there is at its index and sub-index.
@@ -13,10 +13,11 @@ use mapping::{Field, PdoMappingEntry};
 pub struct Aim {
     pub entry: PdoMappingEntry,
     pub field: Option<Field>,
-    pub place: Place,
+    pub place: Result<Place, Missing>,
 }
 
-// What that makes of the word: not whole bytes, a hand-off, no target, a list's count, or a field and the slot of its value.
+// What that makes of the word: not whole bytes, a hand-off, no target, a list's count, or a field and the slot of its value. Start and
+// length stand in each case, and not as a `Field`, since the uses take them apart.
 #[derive(Clone, Copy)]
 pub enum Class {
     Misaligned,
@@ -41,13 +42,13 @@ pub fn aim_of(objects: &[u64], word: u64) -> Aim
     }
 }
 
-fn at_place(start: usize, len: usize, place: Place) -> Class
+fn at_place(start: usize, len: usize, place: Result<Place, Missing>) -> Class
     ensures { result ≡ class_at start len place }
 {
     match place {
-        Place::NoObject | Place::NoSub => Class::NoTarget,
-        Place::Count(_) => Class::Count { start, len },
-        Place::Value(p) => Class::Value { start, len, p },
+        Err(_) => Class::NoTarget,
+        Ok(Place::Count(_)) => Class::Count { start, len },
+        Ok(Place::Value(p)) => Class::Value { start, len, p },
     }
 }
 

@@ -15,7 +15,6 @@ use Rattle.lists.proofs.NumberLaws.{length-bytes_of, number-bytes_of}
 use Rattle.value.specs.Codec.{is_text, size_of, word_at, decode_of, sayable, exact}
 use Rattle.value.specs.Meaning.{reading, type_of, word_of}
 use Rattle.value.specs.declared.ObjectValue.{ObjectValue}
-use Rattle.value.specs.declared.Decoded.TheVariants.{Value}
 use Rattle.value.proofs.CodecLaws.{sayable_text, sayable_fixed, encoding_text, encoding_fixed, exact_text, exact_fixed}
 use Rattle.value.proofs.WordLaws.{type_reading, word-reading}
 use Rattle.value.proofs.RoundTrip.{decode_encode}
@@ -38,7 +37,7 @@ module _ (slots words bytes : List ℕ) (p : ℕ) where
 -- a value of the type and the word that are stored, which the encoding decodes to
 pub record Decodes (d : Dict) (p : ℕ) : Type 0 where
   pub value : ObjectValue
-  pub decoded : decode_of (type_at d.slots p) (encoding_at d p) ≡ Value value
+  pub decoded : decode_of (type_at d.slots p) (encoding_at d p) ≡ Ok value
   pub type : type_of value ≡ type_at d.slots p
   pub word : word_of value ≡ get_or d.words p 0
 

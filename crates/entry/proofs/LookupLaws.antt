@@ -1,6 +1,6 @@
 -- Looking up in the table is looking up in the model: the first object with an index, and its values by sub-index.
 -- Assumes nothing.
-use Rattle.std.specs.Prelude.{Option, Some, None}
+use Rattle.std.specs.Prelude.{Option, Some, None, Ok}
 use mathlib.Core.Path.{◌≡◌, refl, sym, ap, ◌∙◌}
 use mathlib.Core.Bool.{Bool, true, false, cond}
 use Prim.Native.Nat.{ℕ, ◌+◌, ◌-◌, ◌<◌, ◌≤◌}
@@ -11,8 +11,8 @@ use lib.Dec.{eqb, leb}
 use Rattle.entry.specs.Table.{Dict, edition_of, list_count, model_of, obj_at, number_of, kind_at, count_at, first_at}
 use Rattle.entry.specs.Rules.{count}
 use Rattle.entry.specs.Judge.{used_at, well_formed}
-use Rattle.entry.specs.Find.{find_row, sub_at, on_row, place_of, object_of, object_in, nth, no_sub, counts, held_as, sub_of, on_object, named_of, named_at}
-use Rattle.entry.specs.declared.Place.TheVariants.{NoSub, Count, Value}
+use Rattle.entry.specs.Find.{find_row, sub_at, or_no_sub, on_row, place_of, object_of, object_in, nth, no_sub, counts, held_as, sub_of, on_object, named_of, named_at}
+use Rattle.entry.specs.declared.Place.TheVariants.{Count, Value}
 use Rattle.entry.proofs.JudgeLaws.{head_ok_lem, length_vals}
 use Rattle.entry.proofs.FactLaws.{row_facts}
 use Rattle.entry.proofs.FindLaws.{found, found_row, value_there}
@@ -26,11 +26,11 @@ pub lookup_value : (d : Dict) → well_formed d ≡ true → (x sub : ℕ) → n
 unfolding sub_at sub_of list_count
 lookup_value d e x sub = go (find_row d.objects x) refl ∙ ap (on_object (edition_of d.objects) sub) (lookup_object d x)
   where
-    there : (i k : ℕ) → k < used_at d.objects i → held_as (nth (obj_at d i).values k) ≡ named_at d (Value (first_at d.objects i + k))
+    there : (i k : ℕ) → k < used_at d.objects i → held_as (nth (obj_at d i).values k) ≡ named_at d (Ok (Value (first_at d.objects i + k)))
     there i k l = ap held_as (value_there d (used_at d.objects i) (first_at d.objects i) k l)
 
     at : (n i : ℕ) → i < number_of d.objects → (k s l : Bool) → eqb (kind_at d.objects i) 0 ≡ k → eqb sub 0 ≡ s → leb sub (count_at d.objects i) ≡ l
-        → named_at d (cond k (cond s (Value (first_at d.objects i)) NoSub) (cond s (Count n) (cond l (Value (first_at d.objects i + (sub - 1))) NoSub)))
+        → named_at d (or_no_sub (cond k (cond s (Some (Value (first_at d.objects i))) None) (cond s (Some (Count n)) (cond l (Some (Value (first_at d.objects i + (sub - 1)))) None))))
         ≡ cond k (cond s (held_as (nth (obj_at d i).values 0)) no_sub) (cond s (counts n) (cond l (held_as (nth (obj_at d i).values (sub - 1))) no_sub))
     at n i h true true l a b c =
         let one : count_at d.objects i ≡ 1 = (head_ok_lem _ _ _ _ _ _ (row_facts d e i h).head).variable (eqb-true (kind_at d.objects i) 0 a) in

@@ -8,9 +8,9 @@ use mathlib.Core.List.{List}
 use native.Mathlib.Omega.{arith}
 use lib.Dec.{eqb, leb}
 use Rattle.entry.specs.Table.{number_of, index_at, kind_at, access_at, count_at, first_at, name_at, name_len_at, default_at, list_count}
-use Rattle.entry.specs.Find.{find_from, find_row, sub_at, on_row, place_of}
+use Rattle.entry.specs.Find.{find_from, find_row, sub_at, or_no_sub, on_row, place_of}
 use Rattle.entry.specs.Same.{SameRows, uncounted}
-use Rattle.entry.specs.declared.Place.TheVariants.{NoSub, Count, Value}
+use Rattle.entry.specs.declared.Place.TheVariants.{Count, Value}
 
 pub index_same : {a b : List ℕ} → SameRows a b → (i : ℕ) → index_at a i ≡ index_at b i
 index_same h i = h.column i 0 (omega arith)
@@ -44,13 +44,13 @@ from_same h x (suc k) i = rw (index_same h i) (rw (from_same h x k (suc i)) refl
 pub row_same : {a b : List ℕ} → SameRows a b → (x : ℕ) → find_row a x ≡ find_row b x
 row_same {a} {b} h x = from_same h x (number_of a) 0 ∙ ap (λ n. find_from b x n 0) h.number
 
-sub-uncounted : {a b : List ℕ} → SameRows a b → (i sub : ℕ) → uncounted (sub_at a i sub) ≡ uncounted (sub_at b i sub)
+sub-uncounted : {a b : List ℕ} → SameRows a b → (i sub : ℕ) → uncounted (or_no_sub (sub_at a i sub)) ≡ uncounted (or_no_sub (sub_at b i sub))
 unfolding sub_at
 sub-uncounted {a} {b} h i sub =
     rw (kind-same h i) (rw (first_same h i) (rw (count_same h i) (go (eqb (kind_at b i) 0) (eqb sub 0) (leb sub (count_at b i)))))
   where
-    go : (k s l : Bool) → uncounted (cond k (cond s (Value (first_at b i)) NoSub) (cond s (Count (list_count a i)) (cond l (Value (first_at b i + (sub - 1))) NoSub)))
-        ≡ uncounted (cond k (cond s (Value (first_at b i)) NoSub) (cond s (Count (list_count b i)) (cond l (Value (first_at b i + (sub - 1))) NoSub)))
+    go : (k s l : Bool) → uncounted (or_no_sub (cond k (cond s (Some (Value (first_at b i))) None) (cond s (Some (Count (list_count a i))) (cond l (Some (Value (first_at b i + (sub - 1)))) None))))
+        ≡ uncounted (or_no_sub (cond k (cond s (Some (Value (first_at b i))) None) (cond s (Some (Count (list_count b i))) (cond l (Some (Value (first_at b i + (sub - 1)))) None))))
     go true true l = refl
     go true false l = refl
     go false true l = refl

@@ -1,7 +1,7 @@
 -- From a lookup to facts: what `find` and `locate` need holds of a well-formed dictionary, and the place that they answer is an element
 -- of which the judgement has said all that reading and putting need.
 -- Assumes nothing.
-use Rattle.std.specs.Prelude.{Option, Some, None}
+use Rattle.std.specs.Prelude.{Option, Some, None, Ok}
 use mathlib.Core.Path.{◌≡◌, refl, sym, ap, ◌∙◌, subst}
 use mathlib.Core.Bool.{Bool, true, false, cond, ◌&&◌, ◌||◌}
 use mathlib.Core.Logic.{◌⊎◌, inl, inr, ◌≢◌}
@@ -17,8 +17,8 @@ use Rattle.entry.specs.Model.{Obj}
 use Rattle.entry.specs.Table.{list_count, is_mapping, edition_of, kept_at, Dict, model_of, val_at, obj_at, number_of, values_of, used_of, index_at, kind_at, count_at, first_at, type_at, start_at, room_at}
 use Rattle.entry.specs.Rules.{extra_ok, word_ok, val_ok, tight, held_ok}
 use Rattle.entry.specs.Judge.{used_at, well_formed}
-use Rattle.entry.specs.Find.{Rows, Elements, find_row, sub_at, on_row, place_of, object_of, object_in, nth}
-use Rattle.entry.specs.declared.Place.TheVariants.{NoSub, Count, Value}
+use Rattle.entry.specs.Find.{Rows, Elements, find_row, sub_at, or_no_sub, on_row, place_of, object_of, object_in, nth}
+use Rattle.entry.specs.declared.Place.TheVariants.{Count, Value}
 use Rattle.entry.proofs.JudgeLaws.{and_true, head_ok_lem, headed}
 use Rattle.entry.proofs.FactLaws.{row_facts}
 use Rattle.entry.proofs.FindLaws.{found, found_row, value_there}
@@ -80,14 +80,14 @@ pub record Element (d : Dict) (x sub p : ℕ) : Type 0 where
   pub variable : kind_at d.objects row ≡ 0 → (sub ≡ 0) × (k ≡ 0)
   pub list : (kind_at d.objects row ≡ 0 → ⊥) → sub ≡ k + 1
 
-by_sub : (a b c : Bool) (f n m : ℕ) {p : ℕ} → cond a (cond b (Value f) NoSub) (cond b (Count n) (cond c (Value m) NoSub)) ≡ Value p → ((a ≡ true) × (b ≡ true) × (f ≡ p)) ⊎ ((a ≡ false) × (b ≡ false) × (c ≡ true) × (m ≡ p))
+by_sub : (a b c : Bool) (f n m : ℕ) {p : ℕ} → or_no_sub (cond a (cond b (Some (Value f)) None) (cond b (Some (Count n)) (cond c (Some (Value m)) None))) ≡ Ok (Value p) → ((a ≡ true) × (b ≡ true) × (f ≡ p)) ⊎ ((a ≡ false) × (b ≡ false) × (c ≡ true) × (m ≡ p))
 by_sub true true c f n m q = inl (refl, refl, (cc))
 by_sub true false c f n m q = let z : ◌≡◌ {A = ℕ} 0 1 = cc in absurd (omega arith)
 by_sub false true c f n m q = let z : ◌≡◌ {A = ℕ} 0 1 = cc in absurd (omega arith)
 by_sub false false true f n m q = inr (refl, refl, refl, (cc))
 by_sub false false false f n m q = let z : ◌≡◌ {A = ℕ} 0 1 = cc in absurd (omega arith)
 
-pub element_of_lem : (d : Dict) → well_formed d ≡ true → (x sub p : ℕ) → place_of d.objects x sub ≡ Value p → Element d x sub p
+pub element_of_lem : (d : Dict) → well_formed d ≡ true → (x sub p : ℕ) → place_of d.objects x sub ≡ Ok (Value p) → Element d x sub p
 unfolding sub_at
 element_of_lem d e x sub p q = go (find_row d.objects x) refl q
   where
@@ -109,7 +109,7 @@ element_of_lem d e x sub p q = go (find_row d.objects x) refl q
         let l : sub ≤ count_at d.objects i = leb-true sub (count_at d.objects i) h.2 in
         record { row = i; k = sub - 1; below = omega (arith, r.below); inside = omega arith; place = omega (arith, h.3); index = r.index; found = f; variable = λ z. absurd (kind z); list = λ n. omega arith }
 
-    go : (f : Option ℕ) → find_row d.objects x ≡ f → on_row d.objects sub f ≡ Value p → Element d x sub p
+    go : (f : Option ℕ) → find_row d.objects x ≡ f → on_row d.objects sub f ≡ Ok (Value p) → Element d x sub p
     go (Some i) f h =
         at i f (by_sub (eqb (kind_at d.objects i) 0) (eqb sub 0) (leb sub (count_at d.objects i)) (first_at d.objects i) (list_count d.objects i) (first_at d.objects i + (sub - 1)) h)
     go None f h = let z : ◌≡◌ {A = ℕ} 0 1 = cc in absurd (omega arith)
@@ -226,8 +226,8 @@ pub element_facts : (d : Dict) → well_formed d ≡ true → {x sub p : ℕ} �
 element_facts d e o =
     rw o.place (value_facts d e o.row o.k o.below (omega (arith, o.inside)))
 
-pub value_lies : (d : Dict) → well_formed d ≡ true → (x sub i p : ℕ) → find_row d.objects x ≡ Some i → sub_at d.objects i sub ≡ Value p → ValueFacts d p
-value_lies d w x sub i p e q = element_facts d w (element_of_lem d w x sub p (ap (on_row d.objects sub) e ∙ q))
+pub value_lies : (d : Dict) → well_formed d ≡ true → (x sub i p : ℕ) → find_row d.objects x ≡ Some i → sub_at d.objects i sub ≡ Some (Value p) → ValueFacts d p
+value_lies d w x sub i p e q = element_facts d w (element_of_lem d w x sub p (ap (on_row d.objects sub) e ∙ ap or_no_sub q))
 
 -- every value is one of a row's
 pub every_value : (d : Dict) → well_formed d ≡ true → (p : ℕ) → p < values_of d.objects → ValueFacts d p

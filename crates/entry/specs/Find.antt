@@ -1,11 +1,13 @@
 -- Looking an object and a value up: in the table, and in the model.
 -- Assumes nothing.
-use Rattle.std.specs.Prelude.{ℕ, zero, suc, ◌+◌, ◌-◌, ◌≤◌, ◌<◌, cond, List, [], ◌∷◌, eqb, leb, ltb, length, Option, Some, None}
+use Rattle.std.specs.Prelude.{ℕ, zero, suc, ◌+◌, ◌-◌, ◌≤◌, ◌<◌, cond, List, [], ◌∷◌, eqb, leb, ltb, length, Option, Some, None, Result, Ok, Err}
 use Rattle.entry.specs.Model.{Val, Obj}
 use Rattle.entry.specs.Table.{Dict, number_of, row_place, slot_place, index_at, kind_at, count_at, in_use, list_count, first_at, val_at, obj_at}
 use Rattle.entry.specs.Rules.{count}
 use Rattle.entry.specs.declared.Place.{Place}
-use Rattle.entry.specs.declared.Place.TheVariants.{NoObject, NoSub, Count, Value}
+use Rattle.entry.specs.declared.Place.TheVariants.{Count, Value}
+use Rattle.entry.specs.declared.Missing.{Missing}
+use Rattle.entry.specs.declared.Missing.TheVariants.{NoObject, NoSub}
 
 -- the first of the k rows from row i on that has index x
 unfoldable pub find_from : List ℕ → ℕ → ℕ → ℕ → Option ℕ
@@ -18,20 +20,25 @@ find_row objects x = find_from objects x (number_of objects) 0
 
 -- R7.2: "A Variable has sub-index 0 only. A list's sub-index 0 reads as U8 how many of its elements are in use, an empty list's too; k
 -- reads" element k
-unfoldable pub sub_at : List ℕ → ℕ → ℕ → Place
+unfoldable pub sub_at : List ℕ → ℕ → ℕ → Option Place
 sub_at objects i sub =
     cond (eqb (kind_at objects i) 0)
-    (cond (eqb sub 0) (Value (first_at objects i)) NoSub)
+    (cond (eqb sub 0) (Some (Value (first_at objects i))) None)
     (cond (eqb sub 0)
-    (Count (list_count objects i))
-    (cond (leb sub (count_at objects i)) (Value (first_at objects i + (sub - 1))) NoSub))
+    (Some (Count (list_count objects i)))
+    (cond (leb sub (count_at objects i)) (Some (Value (first_at objects i + (sub - 1)))) None))
 
-abbrev pub on_row : List ℕ → ℕ → Option ℕ → Place
-on_row objects sub (Some i) = sub_at objects i sub
-on_row objects sub None = NoObject
+-- what a row has no value for is no sub-index of its object
+abbrev pub or_no_sub : Option Place → Result Place Missing
+or_no_sub (Some q) = Ok q
+or_no_sub None = Err NoSub
+
+abbrev pub on_row : List ℕ → ℕ → Option ℕ → Result Place Missing
+on_row objects sub (Some i) = or_no_sub (sub_at objects i sub)
+on_row objects sub None = Err NoObject
 
 -- what an index and a sub-index name
-abbrev pub place_of : List ℕ → ℕ → ℕ → Place
+abbrev pub place_of : List ℕ → ℕ → ℕ → Result Place Missing
 place_of objects x sub = on_row objects sub (find_row objects x)
 
 -- ---- in the model
@@ -83,11 +90,11 @@ abbrev pub named_of : ℕ → ℕ → ℕ → List Obj → Named
 named_of edition x sub os = on_object edition sub (object_of x os)
 
 -- what stands at a place of the table
-abbrev pub named_at : Dict → Place → Named
-named_at d NoObject = no-object
-named_at d NoSub = no_sub
-named_at d (Count n) = counts n
-named_at d (Value p) = holds (val_at d p)
+abbrev pub named_at : Dict → Result Place Missing → Named
+named_at d (Err NoObject) = no-object
+named_at d (Err NoSub) = no_sub
+named_at d (Ok (Count n)) = counts n
+named_at d (Ok (Value p)) = holds (val_at d p)
 
 -- ---- what looking up needs of the rows
 pub record Rows (objects : List ℕ) : Type 0 where

@@ -110,6 +110,15 @@ start_at slots p = get_or slots (start_place p) 0
 abbrev pub room_at : List ℕ → ℕ → ℕ
 room_at slots p = get_or slots (3 * p + 2) 0
 
+-- row i of some objects, and slot p of some slots
+pub record RowAt : Type 0 where
+  pub objects : List ℕ
+  pub i : ℕ
+
+pub record SlotAt : Type 0 where
+  pub slots : List ℕ
+  pub p : ℕ
+
 -- value p, and the k values from value p on
 abbrev pub val_at : Dict → ℕ → Val
 val_at d p = record { type = type_at d.slots p; word = get_or d.words p 0; room = take (room_at d.slots p) (drop (start_at d.slots p) d.bytes) }

@@ -3,25 +3,28 @@
 
 mod columns;
 mod encoding;
+mod header;
 mod lookup;
 mod put;
 
-pub use columns::{
-    access_at, count_at, default_at, edition_of, extra_at, first_at, index_at, is_mapping, kind_at,
-    list_count, name_at, name_len_at, number_of, room_at, row, row_end, slot, start_at, type_at,
-    used_of, values_of,
-};
+pub use columns::{Row, Slot, is_mapping};
 pub use encoding::lay_encoding;
+pub use header::{edition_of, number_of, row_end, row_place, slot_place, used_of, values_of};
 pub use lookup::{find, locate, lower, sub_at};
 pub use put::{put_new, put_value};
 
 // What an index and a sub-index name: the count of a list's elements, or a value.
 #[derive(Clone, Copy)]
 pub enum Place {
-    NoObject,
-    NoSub,
     Count(u64),
     Value(usize),
+}
+
+// What is missing where they name nothing.
+#[derive(Clone, Copy)]
+pub enum Missing {
+    NoObject,
+    NoSub,
 }
 
 // What a row has beside its object's kind, values and name: a kept count, and a range by its type and its ends.

@@ -3,17 +3,19 @@ ghost use Rattle.std.specs.Prelude.{◌≡◌, ◌<◌, ◌≤◌, length};
 ghost use Rattle.entry.specs.Table.{slot_end};
 ghost use Rattle.entry.specs.Put.{contents, put_in, retyped, Puts};
 
-use crate::columns::{slot, start_at, type_at};
+use crate::columns::Slot;
+use crate::header::slot_place;
 
 // Puts an encoded value as value p.
 pub fn put_value(slots: &[u64], words: &mut [u64], bytes: &mut [u8], p: usize, data: &[u8])
     requires { Puts slots.now words.old bytes.old p «data».now }
     ensures { contents words.new bytes.new ≡ put_in slots.now (contents words.old bytes.old) p «data».now }
 {
-    let t = type_at(slots, p);
+    let slot = Slot(slots, p);
+    let t = slot.value_type();
     if value::is_text(t) {
         words[p] = data.len() as u64;
-        let start = start_at(slots, p) as usize;
+        let start = slot.start() as usize;
         lists::lay(bytes, start, data);
     } else {
         let n = value::size_of(t);
@@ -35,7 +37,7 @@ pub fn put_new(
     ensures shape { slots.new ≡ retyped slots.old p t }
     ensures held { contents words.new bytes.new ≡ put_in (retyped slots.old p t) (contents words.old bytes.old) p «data».now }
 {
-    let place = slot(p);
+    let place = slot_place(p);
     slots[place] = t;
     put_value(slots, words, bytes, p, data);
 }

@@ -8,7 +8,8 @@ ghost use Rattle.given.specs.Given.{type_in, room_in, length_in, extra_in, range
 use entry::Extra;
 
 // What an insertion is given beside its name and its values. With a default (1, else 0) the last of the values is the default. A range has
-// two ends of one integer type; all four numbers are 0 where there is none.
+// two ends of one integer type; all four numbers are 0 where there is none. Kind, access and types are numbers, as C fills them: any may
+// stand there, and is judged.
 #[derive(Clone, Copy)]
 pub struct Head {
     pub index: u16,
@@ -21,7 +22,8 @@ pub struct Head {
     pub high: u64,
 }
 
-// Value j as it is described. Each names its column: of one function for the three, every call would have to give a number.
+// Value j as it is described. Each names its column: of one function for the three, every call would have to give a number. As methods of
+// a struct, as a slot's columns are, they would make one in each of four loops, for three clauses.
 pub fn type_in(vals: &[u64], j: usize) -> u64
     requires { (j < 255) × (3 * j + 3 ≤ length vals.now) }
     ensures { result ≡ type_in vals.now j }
@@ -70,15 +72,13 @@ pub fn held_in(t: u64, len: usize) -> usize
 }
 
 // A value of type t and nothing else, within its room; as the default it has just its bytes.
-fn value_ok(element: bool, t: u64, room: u64, s: &[u8], start: usize, len: usize) -> bool
-    requires { start + len ≤ length s.now }
-    ensures { result ≡ value_ok element t room (take len (drop start s.now)) }
+fn value_ok(element: bool, t: u64, room: u64, s: &[u8]) -> bool
+    ensures { result ≡ value_ok element t room s.now }
 {
-    let end = start + len;
-    if !value::is_exact(value::exactly(t, &s[start..end])) {
+    if value::exactly(t, s).is_err() {
         return false;
     }
-    let held = held_in(t, len) as u64;
+    let held = held_in(t, s.len()) as u64;
     (room <= 1490) & ((held <= room) & (element | (room == held)))
 }
 
@@ -96,10 +96,11 @@ fn vals_in(vals: &[u64], encodings: &[u8], count: usize, u: usize, g: usize) -> 
         if left < len {
             return None;
         }
-        if !value_ok(j < count, kind, room, encodings, t, len) {
+        let end = t + len;
+        if !value_ok(j < count, kind, room, &encodings[t..end]) {
             return None;
         }
-        t += len;
+        t = end;
         size += room as usize;
     }
     if t == encodings.len() {
@@ -134,7 +135,7 @@ pub fn size_in(head: Head, name: &[u8], vals: &[u64], encodings: &[u8]) -> Optio
     ) {
         return None;
     }
-    if !judge::is_good(name, 0, len) {
+    if !judge::is_good(name) {
         return None;
     }
     if !range_in(head) {

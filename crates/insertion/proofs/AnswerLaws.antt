@@ -14,24 +14,46 @@ use Rattle.entry.specs.Model.{Obj, used, size}
 use Rattle.entry.specs.Table.{Dict, edition_of, model_of, number_of, values_of, used_of, row_end, slot_place}
 use Rattle.entry.specs.Judge.{well_formed}
 use Rattle.entry.specs.Find.{object_of}
-use Rattle.given.specs.Given.{obj_in, right_in, size_in}
+use Rattle.given.specs.Given.{obj_in, right_in, size_in, count_in, rooms_in, Values}
 use Rattle.placing.specs.Place.{inserted, Room}
 use Rattle.insertion.specs.Insert.{below, taken, fits_in, answer_of, memory_after, memory_of}
 use Rattle.insertion.specs.Replace.{RoomIn}
 use Rattle.given.specs.declared.Head.{Head}
 use Rattle.entry.proofs.JudgeLaws.{and_true, sound, length_objs}
 use Rattle.entry.proofs.ModelLaws.{totals}
+use Rattle.given.proofs.GivenLaws.{size_is}
 use Rattle.given.proofs.RightLaws.{right}
 use Rattle.insertion.proofs.IndexLaws.{below_small}
 use Rattle.insertion.proofs.KeepLaws.{Kept, kept, other, itself}
 
--- ---- the size says whether the object is right
-pub size_some : (h : Head) (name vals encodings : List ℕ) (g : ℕ) → size_in h name vals encodings ≡ Some g → (right_in h name vals encodings ≡ true) × (size (obj_in h name vals encodings) ≡ g)
+-- ---- the size says whether the object is right, and what put_in asks of it
+size_some : (h : Head) (name vals encodings : List ℕ) (g : ℕ) → size_in h name vals encodings ≡ Some g → (right_in h name vals encodings ≡ true) × (size (obj_in h name vals encodings) ≡ g)
 size_some h name vals encodings g = go (right_in h name vals encodings)
   where
     go : (x : Bool) → cond x (Some (size (obj_in h name vals encodings))) None ≡ Some g → (x ≡ true) × (size (obj_in h name vals encodings) ≡ g)
     go true e = (refl, cc)
     go false e = let z : ◌≡◌ {A = ℕ} 0 1 = cc in absurd (omega arith)
+
+pub record Sized (h : Head) (name vals encodings : List ℕ) (g : ℕ) : Type 0 where
+  pub right : right_in h name vals encodings ≡ true
+  pub is : g ≡ size (obj_in h name vals encodings)
+  pub sum : g ≡ length name + rooms_in vals (count_in vals) 0
+  pub values : Values vals encodings (count_in vals)
+  pub flagged : h.default ≤ count_in vals
+  pub small : g ≤ 400000
+
+pub sized : (h : Head) (name vals encodings : List ℕ) (g : ℕ) → size_in h name vals encodings ≡ Some g → Sized h name vals encodings g
+sized h name vals encodings g e =
+    let s = size_some h name vals encodings g e in
+    let r = right h name vals encodings s.0 in
+    record {
+      right = s.0;
+      is = sym s.1;
+      sum = sym s.1 ∙ size_is h name vals encodings;
+      values = r.values;
+      flagged = r.flagged;
+      small = omega (arith, r.small, s.1);
+    }
 
 pub size_none : (h : Head) (name vals encodings : List ℕ) → size_in h name vals encodings ≡ None → right_in h name vals encodings ≡ false
 size_none h name vals encodings = go (right_in h name vals encodings)

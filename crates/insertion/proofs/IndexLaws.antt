@@ -1,6 +1,6 @@
 -- The place of an index among the rows, and whether it is there already.
 -- Assumes nothing.
-use mathlib.Core.Path.{◌≡◌, refl, sym, ◌∙◌}
+use mathlib.Core.Path.{◌≡◌, refl, ◌∙◌}
 use mathlib.Core.Bool.{Bool, true, false, cond, ◌||◌}
 use mathlib.Core.List.{List, [], ◌∷◌}
 use Prim.Native.Nat.{ℕ, zero, suc, ◌+◌, ◌-◌, ◌<◌, ◌≤◌}
@@ -15,28 +15,22 @@ use Rattle.entry.specs.Table.{Dict, objs_from, model_of, number_of, index_at}
 use Rattle.entry.specs.Rules.{objs_ok}
 use Rattle.entry.specs.Find.{Lower}
 use Rattle.entry.specs.Judge.{well_formed}
-use Rattle.insertion.specs.Insert.{below, taken, place_from}
+use Rattle.insertion.specs.Insert.{below, taken}
 use Rattle.entry.proofs.JudgeLaws.{sound}
 use Rattle.entry.proofs.BackLaws.{FirstOk, first_ok}
 
 -- ---- the place
-pub place_lower : (objects : List ℕ) (x r : ℕ) → Lower objects x r → (k i : ℕ) → i + k ≡ number_of objects → i ≤ r → place_from objects x k i ≡ r
-unfolding place_from
-place_lower objects x r l zero i e h = omega (arith, l.within)
-place_lower objects x r l (suc k) i e h = go (λ q. place_lower objects x r l k (suc i) (omega arith) q) (dec_lt i r)
+lower_from : (d : Dict) (x r : ℕ) → Lower d.objects x r → (k i : ℕ) → i + k ≡ number_of d.objects → i ≤ r → i + below x (objs_from d k i) ≡ r
+unfolding below objs_from
+lower_from d x r l zero i e h = omega (arith, l.within)
+lower_from d x r l (suc k) i e h = go (λ q. lower_from d x r l k (suc i) (omega arith) q) (dec_lt i r)
   where
-    go : (suc i ≤ r → place_from objects x k (suc i) ≡ r) → Dec (i < r) → cond (ltb (index_at objects i) x) (place_from objects x k (suc i)) i ≡ r
-    go later (yes q) = rw (lt-ltb (index_at objects i) x (l.before i q)) (later q)
-    go later (no q) = rw (le-ltb (index_at objects i) x (l.behind i (omega arith) (omega arith))) (omega arith)
+    go : (suc i ≤ r → suc i + below x (objs_from d k (suc i)) ≡ r) → Dec (i < r) → i + cond (ltb (index_at d.objects i) x) (suc (below x (objs_from d k (suc i)))) 0 ≡ r
+    go later (yes q) = rw (lt-ltb (index_at d.objects i) x (l.before i q)) (omega (arith, later q))
+    go later (no q) = rw (le-ltb (index_at d.objects i) x (l.behind i (omega arith) (omega arith))) (omega arith)
 
-pub place-below : (d : Dict) (x k i : ℕ) → place_from d.objects x k i ≡ i + below x (objs_from d k i)
-unfolding place_from below objs_from
-place-below d x zero i = sym (add-zero i)
-place-below d x (suc k) i = go (ltb (index_at d.objects i) x) (place-below d x k (suc i))
-  where
-    go : (w : Bool) → place_from d.objects x k (suc i) ≡ suc i + below x (objs_from d k (suc i)) → cond w (place_from d.objects x k (suc i)) i ≡ i + cond w (suc (below x (objs_from d k (suc i)))) 0
-    go true h = omega arith
-    go false h = omega arith
+pub lower_is : (d : Dict) (x i : ℕ) → Lower d.objects x i → i ≡ below x (model_of d)
+lower_is d x i l = omega (arith, lower_from d x i l (number_of d.objects) 0 (zero-add (number_of d.objects)) (omega arith))
 
 pub below_small : (x : ℕ) (os : List Obj) → below x os ≤ length os
 unfolding below
@@ -104,8 +98,7 @@ has_at d x n i = rw (drop_objs d n 0 i, zero-add i) (go (dec_lt i n))
         let e : n - i ≡ 0 = omega arith in
         rw (le-ltb i n l, e) (none_has d x i)
 
-pub place_is : (d : Dict) (x : ℕ) → place_from d.objects x (number_of d.objects) 0 ≡ below x (model_of d)
-place_is d x = place-below d x (number_of d.objects) 0 ∙ zero-add (below x (model_of d))
-
-pub taken_is : (d : Dict) (x i : ℕ) → well_formed d ≡ true → i ≡ below x (model_of d) → taken x (model_of d) ≡ cond (ltb i (number_of d.objects)) (eqb (index_at d.objects i) x) false
-taken_is d x i w e = taken_at x 0 (model_of d) (sound d w).good ∙ rw (← e) (has_at d x (number_of d.objects) i)
+pub taken_is : (d : Dict) (x i : ℕ) → well_formed d ≡ true → Lower d.objects x i → taken x (model_of d) ≡ cond (ltb i (number_of d.objects)) (eqb (index_at d.objects i) x) false
+taken_is d x i w l =
+    let e = lower_is d x i l in
+    taken_at x 0 (model_of d) (sound d w).good ∙ rw (← e) (has_at d x (number_of d.objects) i)

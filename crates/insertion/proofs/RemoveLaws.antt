@@ -175,12 +175,11 @@ module _ (os : List Obj) (d : Dict) (l : Lies os d) (i n m w v e b f : ℕ) (h :
       let y = length-append (words_of o.values) (all_words ys) in
       let p = ap length (bytes_append xs (o ∷ ys)) ∙ length-append (all_bytes xs) (bytes_of o ++ all_bytes ys) in
       let q = length-append (bytes_of o) (all_bytes ys) in
-      let t = there in
       record {
-        values = omega (arith, t.e_is);
-        last = omega (arith, t.e_is, t.v_is, t.m_is, x, y, length-words_of o.values);
-        bytes = omega (arith, t.f_is);
-        end = omega (arith, t.f_is, t.b_is, t.w_is, p, q);
+        values = omega (arith, there.e_is);
+        last = omega (arith, there.e_is, there.v_is, there.m_is, x, y, length-words_of o.values);
+        bytes = omega (arith, there.f_is);
+        end = omega (arith, there.f_is, there.b_is, there.w_is, p, q);
       }
 
   pub words_gone : over d.words v (slice e m d.words) ≡ over d.words 0 (all_words (remove_at i 1 os))

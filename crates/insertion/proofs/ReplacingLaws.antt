@@ -11,19 +11,21 @@ use Rattle.answers.specs.declared.Refusal.TheVariants.{Malformed, BadValue, Full
 use Rattle.entry.specs.Model.{Obj, used, size, insert_at}
 use Rattle.entry.specs.Table.{Dict, edition_of, model_of, laid, number_of}
 use Rattle.entry.specs.Judge.{well_formed}
-use Rattle.entry.specs.Find.{object_of}
-use Rattle.given.specs.Given.{obj_in, right_in}
+use Rattle.entry.specs.Find.{Lower, object_of}
+use Rattle.given.specs.Given.{obj_in, right_in, count_in}
 use Rattle.given.specs.declared.Head.{Head}
 use Rattle.insertion.specs.Insert.{below, taken, fits_in, answer_of, memory_after, memory_of}
 use Rattle.insertion.specs.Replace.{remove_at, replace_at, without, replaced, RoomIn, having, gone, replace_answer_of, replace_memory_of}
 use Rattle.entry.proofs.JudgeLaws.{sound, length_objs}
 use Rattle.entry.proofs.ModelLaws.{totals}
 use Rattle.entry.proofs.BackLaws.{read_back, complete}
+use Rattle.given.proofs.GivenLaws.{given-length}
 use Rattle.given.proofs.RightLaws.{right}
+use Rattle.insertion.proofs.IndexLaws.{lower_is}
 use Rattle.insertion.proofs.KeepLaws.{insert_ok, few_more, laid_lies, laid_edition, other, itself}
 use Rattle.insertion.proofs.RestLaws.{Rest, rest}
 use Rattle.insertion.proofs.ReplaceLaws.{remove_ok, together, without_none, replaced_none}
-use Rattle.insertion.proofs.AnswerLaws.{room_at, fits-room}
+use Rattle.insertion.proofs.AnswerLaws.{Sized, room_at, fits-room}
 
 module _ (h : Head) (name vals encodings : List ℕ) (d : Dict) where
   abbrev o : Obj
@@ -56,10 +58,18 @@ module _ (h : Head) (name vals encodings : List ℕ) (d : Dict) where
       unfolding replace_answer_of
       right_answer r e = e ∙ rw (w, s, at, old, p, q)
 
-      pub put : (r : Result (Unit {0}) Refusal) (m : Dict) → r ≡ cond (fits_in (without i k d) u g) (Ok tt) (Err Full) → m ≡ memory_after r (replaced i k o d) d → (r ≡ replace_answer_of h name vals encodings d) × (m ≡ replace_memory_of h name vals encodings d)
-      put r m e f =
+      by_room : (r : Result (Unit {0}) Refusal) (m : Dict) → r ≡ cond (fits_in (without i k d) u g) (Ok tt) (Err Full) → m ≡ memory_after r (replaced i k o d) d → (r ≡ replace_answer_of h name vals encodings d) × (m ≡ replace_memory_of h name vals encodings d)
+      by_room r m e f =
           let a = right_answer r e in
           (a, f ∙ ap (λ x. memory_after x (replaced i k o d) d) a ∙ rw (at, old))
+
+    -- so where the code puts it in: at place i, in the place of one where b says so
+    module _ (g : ℕ) (s : Sized h name vals encodings g) (i : ℕ) (at : Lower d.objects h.index i) (b : Bool) (old : b ≡ taken h.index (model_of d)) where
+      pub inside : i + cond b 1 0 ≤ number_of d.objects
+      inside = omega (arith, lower_is d h.index i at, ap {B = ℕ} (λ x. cond x 1 0) old, (rest h.index 0 (model_of d) (sound d w).good).inside, length_objs d (number_of d.objects) 0)
+
+      pub put : (r : Result (Unit {0}) Refusal) (m : Dict) → r ≡ cond (fits_in (without i (cond b 1 0) d) (count_in vals) g) (Ok tt) (Err Full) → m ≡ memory_after r (replaced i (cond b 1 0) o d) d → (r ≡ replace_answer_of h name vals encodings d) × (m ≡ replace_memory_of h name vals encodings d)
+      put = by_room s.right i (cond b 1 0) (count_in vals) g (lower_is d h.index i at) (ap (λ x. cond x 1 0) old) (sym (given-length vals encodings (count_in vals) 0 0)) s.is
 
 -- ---- what Done says
 pub record DoneBy (h : Head) (name vals encodings : List ℕ) (d : Dict) : Type 0 where

@@ -1,10 +1,10 @@
 -- Insertion: RULES.md 6.
 -- Assumes nothing.
 use Rattle.answers.specs.declared.Refusal.{Refusal}
-use Rattle.std.specs.Prelude.{ℕ, zero, suc, ◌+◌, Bool, false, cond, ◌&&◌, ◌||◌, List, [], ◌∷◌, length, eqb, leb, ltb, Result, Ok, Err}
+use Rattle.std.specs.Prelude.{ℕ, suc, ◌+◌, Bool, false, cond, ◌&&◌, ◌||◌, List, [], ◌∷◌, length, eqb, leb, ltb, Result, Ok, Err}
 use Rattle.answers.specs.declared.Refusal.TheVariants.{Malformed, BadValue, Occupied, Full}
 use Rattle.entry.specs.Model.{Obj, used, size}
-use Rattle.entry.specs.Table.{Dict, index_at, model_of, number_of, values_of, used_of, row_end, slot_place}
+use Rattle.entry.specs.Table.{Dict, model_of, number_of, values_of, used_of, row_end, slot_place}
 use Rattle.entry.specs.Judge.{well_formed}
 use Rattle.given.specs.declared.Head.{Head}
 use Rattle.given.specs.Given.{obj_in, right_in}
@@ -46,9 +46,3 @@ memory_after (Err r) new old = old
 abbrev pub memory_of : Head → List ℕ → List ℕ → List ℕ → Dict → Dict
 memory_of h name vals encodings d =
     memory_after (answer_of h name vals encodings d) (inserted (below h.index (model_of d)) (obj_in h name vals encodings) d) d
-
--- ---- what the code's parts need and say
--- the place in the table: the first of k rows from row i on whose index is not below x
-unfoldable pub place_from : List ℕ → ℕ → ℕ → ℕ → ℕ
-place_from objects x zero i = i
-place_from objects x (suc k) i = cond (ltb (index_at objects i) x) (place_from objects x k (suc i)) i

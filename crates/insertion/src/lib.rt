@@ -8,31 +8,23 @@ mod room;
 
 ghost use Rattle.std.specs.Prelude.{◌≡◌, true, false, cond, ◌≤◌, eqb, ltb, length};
 ghost use Rattle.entry.specs.Table.{dict, number_of, row_place, index_at};
-ghost use Rattle.entry.specs.Find.{Rows};
 ghost use Rattle.entry.specs.Judge.{well_formed};
-ghost use Rattle.insertion.specs.Insert.{place_from, answer_of, memory_of};
+ghost use Rattle.insertion.specs.Insert.{answer_of, memory_of};
 
 use answers::Refusal;
+use entry::Row;
 pub use given::Head;
 pub use replacing::{replace, replace_judged};
-
-// How many rows have a smaller index.
-fn place(objects: &[u64], x: u64) -> usize
-    requires { Rows objects.now }
-    ensures { result ≡ place_from objects.now x (number_of objects.now) 0 }
-{
-    entry::lower(objects, x)
-}
 
 // Whether the row at place i has the index.
 fn occupied(objects: &[u64], i: usize, x: u64) -> bool
     requires { (number_of objects.now ≤ 1024) × (row_place (number_of objects.now) ≤ length objects.now) }
     ensures { result ≡ cond (ltb i (number_of objects.now)) (eqb (index_at objects.now i) x) false }
 {
-    i < entry::number_of(objects) as usize && entry::index_at(objects, i) == x
+    i < entry::number_of(objects) as usize && Row(objects, i).index() == x
 }
 
-// What `insert` does with a dictionary that was judged.
+// What `insert` does with a dictionary that was judged. By slices and the clause, as `replace_at` says.
 pub fn insert_judged(
     objects: &mut [u64],
     slots: &mut [u64],
@@ -51,12 +43,12 @@ pub fn insert_judged(
         return Err(Refusal::BadValue);
     };
     let index = head.index as u64;
-    let i = place(objects, index);
+    let i = entry::lower(objects, index);
     if occupied(objects, i, index) {
         return Err(Refusal::Occupied);
     }
     room::put_in(
-        objects, slots, words, bytes, i, 0, head, name, vals, encodings, g,
+        objects, slots, words, bytes, i, false, head, name, vals, encodings, g,
     )
 }
 

@@ -4,8 +4,6 @@ ghost use Rattle.entry.specs.Judge.{Long};
 ghost use Rattle.entry.specs.Table.{number_of, dict, model_of, Lies};
 ghost use Rattle.insertion.specs.Replace.{without};
 
-use placing::{bytes_before, values_before};
-
 // Object i goes: everything behind it moves down.
 pub fn remove_at(
     objects: &mut [u64],
@@ -21,10 +19,8 @@ pub fn remove_at(
     let n = entry::number_of(objects) as usize;
     let m = entry::values_of(objects) as usize;
     let used = entry::used_of(objects) as usize;
-    let v = values_before(objects, i);
-    let e = values_before(objects, i + 1);
-    let b = bytes_before(objects, i);
-    let f = bytes_before(objects, i + 1);
+    let (v, b) = placing::before(objects, i);
+    let (e, f) = placing::before(objects, i + 1);
     let u = (e - v) as u64;
     let g = (f - b) as u64;
     lists::move_down(words, v, e, m);

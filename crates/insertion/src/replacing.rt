@@ -4,11 +4,11 @@ ghost use Rattle.entry.specs.Table.{dict};
 ghost use Rattle.entry.specs.Judge.{well_formed};
 ghost use Rattle.insertion.specs.Replace.{replace_answer_of, replace_memory_of};
 
-use crate::{occupied, place, room};
+use crate::{occupied, room};
 use answers::Refusal;
 use given::Head;
 
-// What `replace` does with a dictionary that was judged.
+// What `replace` does with a dictionary that was judged. By slices and the clause, as `replace_at` says.
 pub fn replace_judged(
     objects: &mut [u64],
     slots: &mut [u64],
@@ -27,10 +27,10 @@ pub fn replace_judged(
         return Err(Refusal::BadValue);
     };
     let index = head.index as u64;
-    let i = place(objects, index);
-    let k = occupied(objects, i, index) as usize;
+    let i = entry::lower(objects, index);
+    let replaces = occupied(objects, i, index);
     room::put_in(
-        objects, slots, words, bytes, i, k, head, name, vals, encodings, g,
+        objects, slots, words, bytes, i, replaces, head, name, vals, encodings, g,
     )
 }
 

@@ -11,31 +11,26 @@ ghost use Rattle.entry.specs.Rules.{is_good, val_ok, tight, head_ok, range_ok, e
 ghost use Rattle.entry.specs.Judge.{reserved, slots_from, row_ok, row_fits, rows_from, header_ok, well_formed, Long};
 
 pub use dictionary::Dictionary;
-use entry::{
-    Extra, access_at, count_at, default_at, extra_at, first_at, index_at, kind_at, name_at,
-    name_len_at, number_of, room_at, row, slot, start_at, type_at, used_of, values_of,
-};
+use entry::{Extra, Row, Slot, number_of, row_place, slot_place, used_of, values_of};
 
-// Whether a part of s is text.
-pub fn is_good(s: &[u8], start: usize, len: usize) -> bool
-    requires { start + len ≤ length s.now }
-    ensures { result ≡ is_good (judge (take len (drop start s.now))) }
+// Whether bytes are text, which is mostly short.
+pub fn is_good(s: &[u8]) -> bool
+    ensures { result ≡ is_good (judge s.now) }
 {
-    match text::part_ok(s, start, len) {
+    match text::part_ok(s) {
         Ok(()) => true,
         Err(_) => false,
     }
 }
 
-// A text or bytes of type t over their current length. A text is asked for in place, where a short one is quickly judged.
-fn text_ok(t: u64, s: &[u8], start: usize, len: usize) -> bool
-    requires { start + len ≤ length s.now }
-    ensures { result ≡ takes (text_word t (take len (drop start s.now))) }
+// A text or bytes of type t over their current length.
+fn text_ok(t: u64, s: &[u8]) -> bool
+    ensures { result ≡ takes (text_word t s.now) }
 {
     if t == 11 {
-        return is_good(s, start, len);
+        return is_good(s);
     }
-    let odd = len % 2 == 1;
+    let odd = s.len() % 2 == 1;
     !((t == 13) & odd)
 }
 
@@ -52,7 +47,8 @@ fn val_ok(t: u64, w: u64, room: u64, s: &[u8], start: usize) -> bool
         if room < w {
             return false;
         }
-        return text_ok(t, s, start, w as usize);
+        let end = start + w as usize;
+        return text_ok(t, &s[start..end]);
     }
     value::fits(t, w)
 }
@@ -121,12 +117,12 @@ fn extra_ok(count: u64, extra: Extra) -> bool
 
 // A slot that is not the default's: its room lies from b on, within the bytes that are used, and its value is right.
 // A sum is compared, not a difference: the walk needs it as well. It has no overflow, since the room is judged before.
-fn slot_ok(slots: &[u64], words: &[u64], bytes: &[u8], used: u64, p: usize, b: usize) -> bool
-    requires { (p < 6144) × (slot_end p ≤ length slots.now) × (p < length words.now) × (b ≤ used) × (used ≤ length bytes.now) × (used ≤ 32768) }
-    ensures { result ≡ (eqb (start_at slots.now p) b && (leb (room_at slots.now p) (used - b) && val_ok (type_at slots.now p) (get_or words.now p 0) (room_at slots.now p) (drop b bytes.now))) }
+fn slot_ok(slot: &Slot, w: u64, bytes: &[u8], used: u64, b: usize) -> bool
+    requires { (b ≤ used) × (used ≤ length bytes.now) × (used ≤ 32768) }
+    ensures { result ≡ (eqb (start_at slot.now.slots slot.now.p) b && (leb (room_at slot.now.slots slot.now.p) (used - b) && val_ok (type_at slot.now.slots slot.now.p) w (room_at slot.now.slots slot.now.p) (drop b bytes.now))) }
 {
-    let room = room_at(slots, p);
-    let start = start_at(slots, p);
+    let room = slot.room();
+    let start = slot.start();
     if start != b as u64 {
         return false;
     }
@@ -136,8 +132,7 @@ fn slot_ok(slots: &[u64], words: &[u64], bytes: &[u8], used: u64, p: usize, b: u
     if used < b as u64 + room {
         return false;
     }
-    let t = type_at(slots, p);
-    let w = words[p];
+    let t = slot.value_type();
     val_ok(t, w, room, bytes, b)
 }
 
@@ -160,55 +155,56 @@ fn walk_slots(
     let end = from + k;
     let mut b = start;
     for p in from..end {
-        if !slot_ok(slots, words, bytes, used, p, b) {
+        let slot = Slot(slots, p);
+        if !slot_ok(&slot, words[p], bytes, used, b) {
             return None;
         }
-        b += room_at(slots, p) as usize;
+        b += slot.room() as usize;
     }
     if elements < k as u64 {
         let q = end - 1;
-        if !tight(type_at(slots, q), words[q], room_at(slots, q)) {
+        let last = Slot(slots, q);
+        if !tight(last.value_type(), words[q], last.room()) {
             return None;
         }
     }
     Some(b)
 }
 
-fn row_ok(objects: &[u64], i: usize, v: usize, b: usize, low: u64) -> bool
-    requires { (i < 1024) × (row_end i ≤ length objects.now) }
-    ensures { result ≡ row_ok objects.now i v b low }
+fn row_ok(row: &Row, v: usize, b: usize, low: u64) -> bool
+    ensures { result ≡ row_ok row.now.objects row.now.i v b low }
 {
-    let index = index_at(objects, i);
-    let count = count_at(objects, i);
+    let index = row.index();
+    let count = row.count();
     let head = head_ok(
         index,
-        kind_at(objects, i),
-        access_at(objects, i),
+        row.kind(),
+        row.access(),
         count,
-        default_at(objects, i),
-        name_len_at(objects, i),
+        row.default(),
+        row.name_len(),
     );
-    let first = first_at(objects, i);
-    let name = name_at(objects, i);
+    let first = row.first();
+    let name = row.name();
     (low <= index)
-        & (head
-            & ((first == v as u64) & ((name == b as u64) & extra_ok(count, extra_at(objects, i)))))
+        & (head & ((first == v as u64) & ((name == b as u64) & extra_ok(count, row.extra()))))
 }
 
-fn row_fits(objects: &[u64], bytes: &[u8], i: usize, v: usize, b: usize) -> bool
-    requires i_bound { (i < 1024) × (row_end i ≤ length objects.now) × (v ≤ values_of objects.now) × (b ≤ used_of objects.now) × (used_of objects.now ≤ length bytes.now) }
-    requires i_bound_2 { (count_at objects.now i ≤ 254) × (default_at objects.now i ≤ 1) × (name_len_at objects.now i ≤ 32) × (values_of objects.now ≤ 6144) × (used_of objects.now ≤ 32768) }
-    ensures { result ≡ row_fits objects.now bytes.now i v b }
+fn row_fits(row: &Row, bytes: &[u8], v: usize, b: usize) -> bool
+    requires i_bound { (v ≤ values_of row.now.objects) × (b ≤ used_of row.now.objects) × (used_of row.now.objects ≤ length bytes.now) }
+    requires i_bound_2 { (count_at row.now.objects row.now.i ≤ 254) × (default_at row.now.objects row.now.i ≤ 1) × (name_len_at row.now.objects row.now.i ≤ 32) × (values_of row.now.objects ≤ 6144) × (used_of row.now.objects ≤ 32768) }
+    ensures { result ≡ row_fits row.now.objects bytes.now row.now.i v b }
 {
-    let used = count_at(objects, i) + default_at(objects, i);
-    let len = name_len_at(objects, i);
-    if values_of(objects) < v as u64 + used {
+    let used = row.count() + row.default();
+    let len = row.name_len();
+    if values_of(row.0) < v as u64 + used {
         return false;
     }
-    if used_of(objects) < b as u64 + len {
+    if used_of(row.0) < b as u64 + len {
         return false;
     }
-    is_good(bytes, b, len as usize)
+    let end = b + len as usize;
+    is_good(&bytes[b..end])
 }
 
 fn walk_rows(objects: &[u64], slots: &[u64], words: &[u64], bytes: &[u8]) -> Option<(usize, usize)>
@@ -220,16 +216,17 @@ fn walk_rows(objects: &[u64], slots: &[u64], words: &[u64], bytes: &[u8]) -> Opt
     let mut b = 0;
     let mut low = 0;
     for i in 0..n {
-        if !row_ok(objects, i, v, b, low) {
+        let row = Row(objects, i);
+        if !row_ok(&row, v, b, low) {
             return None;
         }
-        if !row_fits(objects, bytes, i, v, b) {
+        if !row_fits(&row, bytes, v, b) {
             return None;
         }
-        let count = count_at(objects, i);
-        let used = count as usize + default_at(objects, i) as usize;
-        let len = name_len_at(objects, i) as usize;
-        let index = index_at(objects, i);
+        let count = row.count();
+        let used = count as usize + row.default() as usize;
+        let len = row.name_len() as usize;
+        let index = row.index();
         let Some(e) = walk_slots(objects, slots, words, bytes, count, v, used, b + len) else {
             return None;
         };
@@ -252,13 +249,13 @@ fn header_ok(objects: &[u64], slots: &[u64], words: &[u64], bytes: &[u8]) -> boo
     if 1024 < n {
         return false;
     }
-    if objects.len() < row(n) {
+    if objects.len() < row_place(n) {
         return false;
     }
     if 6144 < m {
         return false;
     }
-    (slot(m) <= slots.len())
+    (slot_place(m) <= slots.len())
         & ((m <= words.len()) & ((b <= 32768) & ((b <= bytes.len()) & reserved(objects))))
 }
 

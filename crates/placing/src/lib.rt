@@ -1,16 +1,34 @@
 // The act of insertion: gaps are opened and filled. It cannot fail.
 #![tactic(auto)]
 
-ghost use Rattle.std.specs.Prelude.{◌≡◌, false, ◌++◌, ℕ, ◌+◌, ◌-◌, ◌*◌, ◌^◌, ◌≤◌, ◌<◌, length, get_or, take, drop};
+ghost use Rattle.std.specs.Prelude.{◌≡◌, List, false, ◌++◌, ℕ, ◌+◌, ◌-◌, ◌*◌, ◌^◌, ◌≤◌, ◌<◌, length, get_or, take, drop};
 ghost use Rattle.lists.specs.Lists.{over, grown, spliced};
 ghost use Rattle.value.specs.Codec.{is_text};
-ghost use Rattle.entry.specs.Model.{rooms, words_of};
+ghost use Rattle.entry.specs.Model.{Val, rooms, words_of};
 ghost use Rattle.entry.specs.Table.{number_of, values_of, used_of, row_place, row_end, first_place, name_place, slot_place, start_place, values_before, bytes_before, dict, model_of, Lies};
 ghost use Rattle.rows.specs.Rows.{rows_grown, starts_grown, totalled};
 ghost use Rattle.given.specs.Given.{word_in, room_of, given, rooms_in, slots_in, count_in, obj_in, Values};
 ghost use Rattle.placing.specs.Place.{row_in, inserted, Room};
 
+use entry::Row;
 use given::{Head, held_in, length_in, room_in, type_in};
+use std::marker::Model;
+
+// The values that are put in: three words a value, and their encodings back to back. A clause sees the values.
+// `insert_at` makes it: up from there clauses say the object by `obj_in` of its four parts, as it was judged.
+#[derive(Drop)]
+struct Described<'a> {
+    vals: &'a [u64],
+    encodings: &'a [u8],
+}
+
+impl<'a> Model for Described<'a> {
+    ghost Value = { List Val };
+
+    ghost view = { λ d. given d.vals.now d.encodings.now (count_in d.vals.now) 0 0 };
+
+    ghost invariant = { λ d. Values d.vals.now d.encodings.now (count_in d.vals.now) };
+}
 
 // The word that an encoding says.
 fn word_in(t: u64, s: &[u8], start: usize, len: usize) -> u64
@@ -37,12 +55,13 @@ fn fill_slots(slots: &mut [u64], v: usize, b: usize, vals: &[u64], u: usize)
     }
 }
 
-fn fill_words(words: &mut [u64], v: usize, vals: &[u64], encodings: &[u8], u: usize)
-    requires { (v + u ≤ length words.old) × Values vals.now encodings.now u }
-    ensures { words.new ≡ over words.old v (words_of (given vals.now encodings.now u 0 0)) }
+fn fill_words(words: &mut [u64], v: usize, values: &Described)
+    requires { v + length values.now ≤ length words.old }
+    ensures { words.new ≡ over words.old v (words_of values.now) }
 {
+    let Described { vals, encodings } = *values;
     let mut t = 0;
-    for j in 0..u {
+    for j in 0..vals.len() / 3 {
         let len = length_in(vals, j) as usize;
         words[v + j] = word_in(type_in(vals, j), encodings, t, len);
         t += len;
@@ -59,13 +78,14 @@ fn fill_room(bytes: &mut [u8], p: usize, room: usize, s: &[u8], start: usize, le
     lists::lay_zeros(bytes, p + len, room - len);
 }
 
-fn fill_rooms(bytes: &mut [u8], at: usize, vals: &[u64], encodings: &[u8], u: usize)
-    requires { (at + rooms_in vals.now u 0 ≤ length bytes.old) × Values vals.now encodings.now u }
-    ensures { bytes.new ≡ over bytes.old at (rooms (given vals.now encodings.now u 0 0)) }
+fn fill_rooms(bytes: &mut [u8], at: usize, values: &Described)
+    requires { at + length (rooms values.now) ≤ length bytes.old }
+    ensures { bytes.new ≡ over bytes.old at (rooms values.now) }
 {
+    let Described { vals, encodings } = *values;
     let mut p = at;
     let mut t = 0;
-    for j in 0..u {
+    for j in 0..vals.len() / 3 {
         let room = room_in(vals, j) as usize;
         let len = length_in(vals, j) as usize;
         let held = held_in(type_in(vals, j), len);
@@ -76,12 +96,12 @@ fn fill_rooms(bytes: &mut [u8], at: usize, vals: &[u64], encodings: &[u8], u: us
 }
 
 // The gaps are opened and filled: the words of u values at place v of m.
-fn insert_words(words: &mut [u64], v: usize, m: usize, vals: &[u64], encodings: &[u8], u: usize)
-    requires { (v ≤ m) × (m + u ≤ length words.old) × Values vals.now encodings.now u }
-    ensures { words.new ≡ spliced v m (words_of (given vals.now encodings.now u 0 0)) words.old }
+fn insert_words(words: &mut [u64], v: usize, m: usize, values: &Described, u: usize)
+    requires { (v ≤ m) × (m + u ≤ length words.old) × (u ≡ length values.now) }
+    ensures { words.new ≡ spliced v m (words_of values.now) words.old }
 {
     lists::move_up(words, v, m, u);
-    fill_words(words, v, vals, encodings, u);
+    fill_words(words, v, values);
 }
 
 // Their slots, whose rooms start at b; the rooms behind start g bytes further on.
@@ -95,22 +115,13 @@ fn insert_slots(slots: &mut [u64], v: usize, m: usize, b: usize, vals: &[u64], u
 }
 
 // The name and the rooms, g bytes, at place b of `used`.
-fn insert_bytes(
-    bytes: &mut [u8],
-    b: usize,
-    used: usize,
-    g: usize,
-    name: &[u8],
-    vals: &[u64],
-    encodings: &[u8],
-    u: usize,
-)
-    requires { (b ≤ used) × (used + g ≤ length bytes.old) × (g ≡ length name.now + rooms_in vals.now u 0) × Values vals.now encodings.now u }
-    ensures { bytes.new ≡ spliced b used (name.now ++ rooms (given vals.now encodings.now u 0 0)) bytes.old }
+fn insert_bytes(bytes: &mut [u8], b: usize, used: usize, g: usize, name: &[u8], values: &Described)
+    requires { (b ≤ used) × (used + g ≤ length bytes.old) × (g ≡ length name.now + length (rooms values.now)) }
+    ensures { bytes.new ≡ spliced b used (name.now ++ rooms values.now) bytes.old }
 {
     lists::move_up(bytes, b, used, g);
     lists::lay(bytes, b, name);
-    fill_rooms(bytes, b + name.len(), vals, encodings, u);
+    fill_rooms(bytes, b + name.len(), values);
 }
 
 // Its row, of u values, with v values and b bytes before them.
@@ -157,28 +168,22 @@ fn insert_object(
     rows::set_totals(objects, (n + 1) as u64, m + u as u64, used + g as u64);
 }
 
-// How many values, and how many bytes, lie before object i. One function over both would take its two reads as closures, with clauses
-// on what these answer, and be longer than the two.
-pub fn values_before(objects: &[u64], i: usize) -> usize
+// How many values, and how many bytes, lie before object i. That the rows are there is a clause of this and of `occupied`: a struct that
+// has it would be made in five functions.
+pub fn before(objects: &[u64], i: usize) -> (usize, usize)
     requires { (number_of objects.now ≤ 1024) × (row_place (number_of objects.now) ≤ length objects.now) }
-    ensures { result ≡ values_before objects.now i }
+    ensures values { result.0 ≡ values_before objects.now i }
+    ensures bytes { result.1 ≡ bytes_before objects.now i }
 {
     let n = entry::number_of(objects) as usize;
     if i < n {
-        return entry::first_at(objects, i) as usize;
+        let row = Row(objects, i);
+        return (row.first() as usize, row.name() as usize);
     }
-    entry::values_of(objects) as usize
-}
-
-pub fn bytes_before(objects: &[u64], i: usize) -> usize
-    requires { (number_of objects.now ≤ 1024) × (row_place (number_of objects.now) ≤ length objects.now) }
-    ensures { result ≡ bytes_before objects.now i }
-{
-    let n = entry::number_of(objects) as usize;
-    if i < n {
-        return entry::name_at(objects, i) as usize;
-    }
-    entry::used_of(objects) as usize
+    (
+        entry::values_of(objects) as usize,
+        entry::used_of(objects) as usize,
+    )
 }
 
 // The object, of g bytes, goes in as the one at place i: everything behind it moves up.
@@ -202,11 +207,11 @@ pub fn insert_at(
     let n = entry::number_of(objects) as usize;
     let m = entry::values_of(objects) as usize;
     let used = entry::used_of(objects) as usize;
-    let v = values_before(objects, i);
-    let b = bytes_before(objects, i);
+    let (v, b) = before(objects, i);
     let u = vals.len() / 3;
-    insert_words(words, v, m, vals, encodings, u);
+    let values = Described { vals, encodings };
+    insert_words(words, v, m, &values, u);
     insert_slots(slots, v, m, b + name.len(), vals, u, g as u64);
-    insert_bytes(bytes, b, used, g, name, vals, encodings, u);
+    insert_bytes(bytes, b, used, g, name, &values);
     insert_object(objects, i, n, head, v, b, name.len(), u, g);
 }

@@ -8,6 +8,7 @@ use lib.Dec.{leb, ltb}
 use lib.ListN.{length, take, drop}
 use Rattle.given.specs.Given.{type_in, room_in, length_in, value_ok, vals_in}
 use Rattle.given.proofs.RightLaws.{vals_step, vals_end, value_room}
+use native.Mathlib.Nat.{add-sub_cancel_left}
 use native.Mathlib.Omega.{arith}
 use Rattle.given.proofs.vals_in.Goals as goal
 use Rattle.given.proofs.vals_in.Goals.{In-loop-j, After-value_ok, Else-left-len}
@@ -22,7 +23,7 @@ step c =
 -- what the tests before and at the value say
 known : (c : After-value_ok) → let a = c.args in let l = c.loop-j in
     c.value_ok.result ≡ value_ok (ltb l.j a.count) (type_in a.vals.now l.j) (room_in a.vals.now l.j) (take (length_in a.vals.now l.j) (drop l.t a.encodings.now))
-known c = rw (c.type_in-kind.ensures, c.room_in-room.ensures, c.length_in-len.ensures) at c.value_ok.ensures
+known c = rw (add-sub_cancel_left, c.type_in-kind.ensures, c.room_in-room.ensures, c.length_in-len.ensures) at c.value_ok.ensures
 
 within : (c : Else-left-len) → leb (length_in c.args.vals.now c.loop-j.j) (length c.args.encodings.now - c.loop-j.t) ≡ true
 within c = le-leb _ _ (rw c.length_in-len.ensures at c.if-left-len.false)

@@ -12,24 +12,21 @@ pub returns-then-n-gt1024 : goal.returns-then-n-gt1024
 unfolding header_ok
 returns-then-n-gt1024 c = simp (lt-leb _ _ (rw c.number_of-n.ensures at c.if-n-gt1024.true))
 
-pub returns-then-objects-row : goal.returns-then-objects-row
+pub returns-then-objects-row_place : goal.returns-then-objects-row_place
 unfolding header_ok
-returns-then-objects-row c =
+returns-then-objects-row_place c =
     let n = c.number_of-n.ensures in
-    simp (le-leb _ _ (rw n at c.if-n-gt1024.false), lt-leb _ _ (rw (c.row.ensures, n) at c.if-objects-row.true))
+    simp (le-leb _ _ (rw n at c.if-n-gt1024.false), lt-leb _ _ (rw (c.row_place.ensures, n) at c.if-objects-row_place.true))
 
 pub returns-then-m-gt6144 : goal.returns-then-m-gt6144
 unfolding header_ok
 returns-then-m-gt6144 c =
-    let u = c in
-    let n = u.number_of-n.ensures in
-    simp (le-leb _ _ (rw n at c.if-n-gt1024.false), le-leb _ _ (rw (c.row.ensures, n) at c.if-objects-row.false), lt-leb _ _ (rw u.values_of-m.ensures at c.if-m-gt6144.true))
+    let n = c.number_of-n.ensures in
+    simp (le-leb _ _ (rw n at c.if-n-gt1024.false), le-leb _ _ (rw (c.row_place.ensures, n) at c.if-objects-row_place.false), lt-leb _ _ (rw c.values_of-m.ensures at c.if-m-gt6144.true))
 
 pub returns : goal.returns
 returns c =
-    let r = c in
-    let u = r in
-    let n = u.number_of-n.ensures in
-    let m = u.values_of-m.ensures in
-    rw (c.slot.ensures, m, u.used_of-b.ensures, c.reserved.ensures)
-    (sym (header-rest _ (rw n at r.if-n-gt1024.false) (rw (r.row.ensures, n) at c.if-objects-row.false) (rw m at c.if-m-gt6144.false)))
+    let n = c.number_of-n.ensures in
+    let m = c.values_of-m.ensures in
+    rw (c.slot_place.ensures, m, c.used_of-b.ensures, c.reserved.ensures)
+    (sym (header-rest _ (rw n at c.if-n-gt1024.false) (rw (c.row_place.ensures, n) at c.if-objects-row_place.false) (rw m at c.if-m-gt6144.false)))

@@ -16,30 +16,19 @@ returns-then-t-gt8 c = sym (rw (ne_eqb _ 0 c.if-t-eq0.false, lt-leb _ 8 c.if-t-g
 pub returns-then-not-fits : goal.returns-then-not-fits
 unfolding range_ok
 returns-then-not-fits c =
-    let f = c in
-    sym (rw (ne_eqb _ 0 f.if-t-eq0.false, le-leb _ 8 f.if-t-gt8.false, sym f.fits.ensures ∙ c.if-not-fits.true))
+    sym (rw (ne_eqb _ 0 c.if-t-eq0.false, le-leb _ 8 c.if-t-gt8.false, sym c.fits.ensures ∙ c.if-not-fits.true))
 
 pub returns-then-not-fits-2 : goal.returns-then-not-fits-2
 unfolding range_ok
 returns-then-not-fits-2 c =
-    let g = c in
-    let i = g in
-    let f = i in
-    sym (rw (ne_eqb _ 0 f.if-t-eq0.false, le-leb _ 8 f.if-t-gt8.false, sym f.fits.ensures ∙ i.if-not-fits.false, sym g.fits-2.ensures ∙ c.if-not-fits-2.true))
+    sym (rw (ne_eqb _ 0 c.if-t-eq0.false, le-leb _ 8 c.if-t-gt8.false, sym c.fits.ensures ∙ c.if-not-fits.false, sym c.fits-2.ensures ∙ c.if-not-fits-2.true))
 
 pub is_ordered-requires : goal.is_ordered-requires
 is_ordered-requires c =
-    let g = c in
-    let i = g in
-    let f = i in
-    (omega (arith, f.if-t-eq0.false), sym f.fits.ensures ∙ i.if-not-fits.false, sym g.fits-2.ensures ∙ c.if-not-fits-2.false)
+    (omega (arith, c.if-t-eq0.false), sym c.fits.ensures ∙ c.if-not-fits.false, sym c.fits-2.ensures ∙ c.if-not-fits-2.false)
 
 pub returns : goal.returns
 unfolding range_ok
 returns c =
-    let e = c in
-    let g = e in
-    let i = g in
-    let f = i in
     c.is_ordered.ensures
-    ∙ sym (rw (ne_eqb _ 0 f.if-t-eq0.false, le-leb _ 8 f.if-t-gt8.false, sym f.fits.ensures ∙ i.if-not-fits.false, sym g.fits-2.ensures ∙ e.if-not-fits-2.false))
+    ∙ sym (rw (ne_eqb _ 0 c.if-t-eq0.false, le-leb _ 8 c.if-t-gt8.false, sym c.fits.ensures ∙ c.if-not-fits.false, sym c.fits-2.ensures ∙ c.if-not-fits-2.false))

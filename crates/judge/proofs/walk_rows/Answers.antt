@@ -9,7 +9,7 @@ use Rattle.entry.proofs.JudgeLaws.{RowFits, HeadOk, row_ok_lem, row_fits_lem, he
 use Rattle.entry.proofs.WalkLaws.{rows_step, rows_end, slots_upto}
 use native.Mathlib.Omega.{arith}
 use Rattle.judge.proofs.walk_rows.Goals as goal
-use Rattle.judge.proofs.walk_rows.Goals.{In-loop-i, Else-not-row_ok, Else-not-row_fits, After-index_at-index, After-walk_slots}
+use Rattle.judge.proofs.walk_rows.Goals.{In-loop-i, Else-not-row_ok, Else-not-row_fits, After-index-index, After-walk_slots}
 
 -- one turn
 step : (c : In-loop-i) → let a = c.args in
@@ -45,14 +45,14 @@ fits c =
     let l = c.loop-i in
     row_fits_lem (dict a.objects.now a.slots.now a.words.now a.bytes.now) l.i l.v l.b l.invariant.0 l.invariant.1 (fitting c)
 
-used-is : (c : After-index_at-index) → c.count_at-count.result + c.default_at.result ≡ used_at c.args.objects.now c.loop-i.i
-used-is c = rw (c.count_at-count.ensures, c.default_at.ensures)
+used-is : (c : After-index-index) → c.count-count.result + c.default.result ≡ used_at c.args.objects.now c.loop-i.i
+used-is c = rw (c.count-count.ensures, c.default.ensures)
 
 walked : (c : After-walk_slots) → let a = c.args in
     let l = c.loop-i in
     let s = a.objects.now in
     c.walk_slots.result ≡ slots_from (dict s a.slots.now a.words.now a.bytes.now) (count_at s l.i) (used_at s l.i) l.v (l.b + name_len_at s l.i)
-walked c = rw (c.count_at-count.ensures, c.default_at.ensures, c.name_len_at-len.ensures) at c.walk_slots.ensures
+walked c = rw (c.count-count.ensures, c.default.ensures, c.name_len-len.ensures) at c.walk_slots.ensures
 
 pub returns-then-not-row_ok : goal.returns-then-not-row_ok
 returns-then-not-row_ok c =
@@ -71,22 +71,22 @@ returns-then-not-row_fits c =
 pub overflow_add-used : goal.overflow_add-used
 overflow_add-used c =
     let h = head (goal.at.overflow_add-used c).Else-not-row_ok in
-    omega (arith, c.default_at.ensures, c.count_at-count.ensures, h.count_small, h.flag_small)
+    omega (arith, c.default.ensures, c.count-count.ensures, h.count_small, h.flag_small)
 
 pub overflow_add-b : goal.overflow_add-b
-overflow_add-b c = omega (arith, c.name_len_at-len.ensures, (fits (goal.at.overflow_add-b c).Else-not-row_fits).bytes, c.requires.total)
+overflow_add-b c = omega (arith, c.name_len-len.ensures, (fits (goal.at.overflow_add-b c).Else-not-row_fits).bytes, c.requires.total)
 
 pub walk_slots-requires-clause-k_bound : goal.walk_slots-requires-clause-k_bound
 walk_slots-requires-clause-k_bound c =
     let p = goal.at.walk_slots-requires-clause-k_bound c in
     let f = fits p.Else-not-row_fits in
     let r = c.requires in
-    let u = used-is p.After-index_at-index in
-    (omega (arith, u, f.values, r.values), omega (arith, u, f.values, r.slots), omega (arith, u, f.values, r.words), omega (arith, r.rows), omega (arith, c.name_len_at-len.ensures, f.bytes), r.bytes, r.total)
+    let u = used-is p.After-index-index in
+    (omega (arith, u, f.values, r.values), omega (arith, u, f.values, r.slots), omega (arith, u, f.values, r.words), omega (arith, r.rows), omega (arith, c.name_len-len.ensures, f.bytes), r.bytes, r.total)
 
 pub walk_slots-requires-clause-k_bound_2 : goal.walk_slots-requires-clause-k_bound_2
 walk_slots-requires-clause-k_bound_2 c =
-    omega (arith, c.default_at.ensures, (head (goal.at.walk_slots-requires-clause-k_bound_2 c).Else-not-row_ok).flag_small)
+    omega (arith, c.default.ensures, (head (goal.at.walk_slots-requires-clause-k_bound_2 c).Else-not-row_ok).flag_small)
 
 pub returns-in_default : goal.returns-in_default
 returns-in_default c =
@@ -96,20 +96,20 @@ returns-in_default c =
 pub overflow_add-v : goal.overflow_add-v
 overflow_add-v c =
     let p = goal.at.overflow_add-v c in
-    omega (arith, used-is p.After-index_at-index, (fits p.Else-not-row_fits).values, c.requires.values)
+    omega (arith, used-is p.After-index-index, (fits p.Else-not-row_fits).values, c.requires.values)
 
 pub overflow_add-low : goal.overflow_add-low
-overflow_add-low c = omega (arith, c.index_at-index.ensures, (head (goal.at.overflow_add-low c).Else-not-row_ok).index_small)
+overflow_add-low c = omega (arith, c.index-index.ensures, (head (goal.at.overflow_add-low c).Else-not-row_ok).index_small)
 
 pub loop-i-preserved : goal.loop-i-preserved
 loop-i-preserved c =
     let p = goal.at.loop-i-preserved c in
     let f = fits p.Else-not-row_fits in
-    let n = used-is p.After-index_at-index in
+    let n = used-is p.After-index-index in
     let u = sym (walked p.After-walk_slots) ∙ c.in-Some.is in (
       omega (arith, n, f.values),
       slots_upto _ _ _ _ _ _ f.bytes u,
-      rw (n, c.index_at-index.ensures) (step p.In-loop-i ∙ simp (right p.Else-not-row_ok, fitting p.Else-not-row_fits, u)),
+      rw (n, c.index-index.ensures) (step p.In-loop-i ∙ simp (right p.Else-not-row_ok, fitting p.Else-not-row_fits, u)),
     )
 
 pub returns : goal.returns

@@ -29,7 +29,7 @@ loop-p-preserved c =
     let d : Dict = dict a.objects.now a.slots.now a.words.now a.bytes.now in
     let told : c.slot_ok.result ≡ plain_ok d l.p l.b = rw c.used_of-used.ensures at c.slot_ok.ensures in
     let right = sym told ∙ c.if-not-slot_ok.false in
-    let r = c.room_at.ensures in (
+    let r = c.room.ensures in (
       omega (arith, r, plain_within d l.p l.b l.invariant.0 right),
       rw r (l.invariant.1 ∙ plain_step d (a.«from» + a.k) l.p l.b c.loop-p-test.true ∙ simp right),
     )
@@ -38,14 +38,14 @@ pub returns-then-not-tight : goal.returns-then-not-tight
 returns-then-not-tight c =
     let a = c.args in
     let d : Dict = dict a.objects.now a.slots.now a.words.now a.bytes.now in
-    let t = rw (c.type_at.ensures, c.room_at-then-elements-k.ensures) at c.tight.ensures in
+    let t = rw (c.value_type.ensures, c.room-then-elements-k.ensures) at c.tight.ensures in
     last d a.elements a.k a.«from» a.start c.loop-p.b false None c.if-elements-k.true c.requires.k_bound_2 (c.loop-p.invariant.1 ∙ plain_end _ _ _ _ (omega arith)) (sym t ∙ c.if-not-tight.true) refl
 
 pub returns-else-not-tight : goal.returns-else-not-tight
 returns-else-not-tight c =
     let a = c.args in
     let d : Dict = dict a.objects.now a.slots.now a.words.now a.bytes.now in
-    let h = rw (c.type_at.ensures, c.room_at-then-elements-k.ensures) at c.tight.ensures in
+    let h = rw (c.value_type.ensures, c.room-then-elements-k.ensures) at c.tight.ensures in
     last d a.elements a.k a.«from» a.start c.loop-p.b true (Some c.loop-p.b) c.if-elements-k.true c.requires.k_bound_2 (c.loop-p.invariant.1 ∙ plain_end _ _ _ _ (omega arith)) (sym h ∙ c.if-not-tight.false) refl
 
 pub returns-else-elements-k : goal.returns-else-elements-k

@@ -7,7 +7,6 @@ use Rattle.placing.proofs.fill_room.Goals as goal
 
 pub returns : goal.returns
 returns c =
-    let s = c in
-    let a = s.args in
+    let a = c.args in
     let e : (a.start + a.len) - a.start ≡ a.len = omega arith in
-    c.lay_zeros.ensures ∙ rw (c.lay.ensures, e) (room-laid a.s.now a.bytes.now a.p a.room a.start a.len s.requires.2 s.requires.1 s.requires.0)
+    c.lay_zeros.ensures ∙ rw (c.lay.ensures, e) (room-laid a.s.now a.bytes.now a.p a.room a.start a.len c.requires.2 c.requires.1 c.requires.0)

@@ -12,10 +12,8 @@ use Rattle.placing.proofs.insert_slots.Goals as goal
 
 pub returns : goal.returns
 returns c =
-    let o = c in
-    let p = o in
-    let a = p.args in
+    let a = c.args in
     let s = starts_grown a.v (a.m - a.v) a.g a.slots.now in
     let l : length s ≡ length a.slots.now = length-grown 3 a.g (a.m - a.v) (start_place a.v) a.slots.now in
     c.fill_slots.ensures
-    ∙ rw o.open_slots.ensures (fill_gap s (slot_place a.v) (slot_place a.m) (slot_place a.u) (slots_in a.vals.now a.u 0 a.b) (length-slots_in a.vals.now a.u 0 a.b) (omega (arith, p.requires.u_bound)) (omega (arith, p.requires.u_bound, l)))
+    ∙ rw c.open_slots.ensures (fill_gap s (slot_place a.v) (slot_place a.m) (slot_place a.u) (slots_in a.vals.now a.u 0 a.b) (length-slots_in a.vals.now a.u 0 a.b) (omega (arith, c.requires.u_bound)) (omega (arith, c.requires.u_bound, l)))

@@ -6,23 +6,12 @@ use Rattle.entry.proofs.lookup.find.Goals as goal
 
 pub returns-then-number_of-r : goal.returns-then-number_of-r
 returns-then-number_of-r c =
-    let n = c in
-    let l = n in
-    let s = l in
-    sym (lower_none s.args.objects.now s.args.index _ l.lower-r.ensures (λ h. absurd (omega (arith, h, c.if-number_of-r.true, n.number_of.ensures))) s.requires.rises)
+    sym (lower_none c.args.objects.now c.args.index _ c.lower-r.ensures (λ h. absurd (omega (arith, h, c.if-number_of-r.true, c.number_of.ensures))) c.requires.rises)
 
-pub returns-then-index_at-x : goal.returns-then-index_at-x
-returns-then-index_at-x c =
-    let i = c in
-    let l = i in
-    let s = l in
-    sym (lower_none s.args.objects.now s.args.index _ l.lower-r.ensures (λ h q. c.if-index_at-x.true (i.index_at.ensures ∙ q)) s.requires.rises)
+pub returns-then-index-x : goal.returns-then-index-x
+returns-then-index-x c =
+    sym (lower_none c.args.objects.now c.args.index _ c.lower-r.ensures (λ h q. c.if-index-x.true (c.index.ensures ∙ q)) c.requires.rises)
 
 pub returns : goal.returns
 returns c =
-    let i = c in
-    let e = i in
-    let n = e in
-    let l = n in
-    let s = l in
-    sym (lower_found s.args.objects.now s.args.index _ l.lower-r.ensures (omega (arith, e.if-number_of-r.false, n.number_of.ensures)) (sym i.index_at.ensures ∙ c.if-index_at-x.false))
+    sym (lower_found c.args.objects.now c.args.index _ c.lower-r.ensures (omega (arith, c.if-number_of-r.false, c.number_of.ensures)) (sym c.index.ensures ∙ c.if-index-x.false))

@@ -1,6 +1,7 @@
 -- `insertion::room::put_in` meets its contract. Assumes nothing.
 use mathlib.Core.Path.{sym, ◌∙◌}
-use Prim.Native.Nat.{◌≤◌}
+use mathlib.Core.Bool.{cond}
+use Prim.Native.Nat.{ℕ, ◌≤◌}
 use native.Mathlib.Omega.{arith}
 use Rattle.entry.specs.Table.{Dict, dict, number_of}
 use Rattle.given.specs.Given.{count_in}
@@ -9,10 +10,11 @@ use Rattle.insertion.proofs.AnswerLaws.{room_at}
 use Rattle.insertion.proofs.GoneLaws.{number-gone}
 use Rattle.insertion.proofs.room.put_in.Goals as goal
 
-pub replace_at-requires-clause-k_bound : goal.replace_at-requires-clause-k_bound
-replace_at-requires-clause-k_bound c =
+pub replace_at-requires-clause-i_bound : goal.replace_at-requires-clause-i_bound
+replace_at-requires-clause-i_bound c =
     let a = c.args in
     let d : Dict = dict a.objects.now a.slots.now a.words.now a.bytes.now in
-    let h = c.requires.k_bound in
-    let n : a.i ≤ number_of (without a.i a.k d).objects = omega (arith, h.1, number-gone d c.requires.bytes_value a.i a.k h.1) in
-    (h.0, h.1, room_at (without a.i a.k d) a.i (count_in a.vals.now) a.g n (sym c.fits.ensures ∙ c.if-not-fits.false))
+    let k : ℕ = cond a.replaces 1 0 in
+    let h = c.requires.i_bound.0 in
+    let n : a.i ≤ number_of (without a.i k d).objects = omega (arith, h, number-gone d c.requires.bytes_value a.i k h) in
+    (h, room_at (without a.i k d) a.i (count_in a.vals.now) a.g n (sym c.fits.ensures ∙ c.if-not-fits.false))
