@@ -18,7 +18,7 @@ use Rattle.image.proofs.RangeLaws.{covers_below, covers_above, covers-between}
 use Rattle.commands.proofs.OfferLaws.{offered_skip}
 
 -- list 1 offers of each row what is for the store
-pub list_1 : (d : Dict) → well_formed d ≡ true → (i : ℕ) → i < number_of d.objects → offers d.objects (range_of 1).first (range_of 1).last i ≡ to_store d.objects i
+pub list_1 : (d : Dict) → well_formed d ≡ true → (i : ℕ) → i < number_of d.objects → offers d.objects (range_of 1).start (range_of 1).end i ≡ to_store d.objects i
 unfolding offers range_of
 list_1 d e i h =
     rw (covers-between 0 0xFFFF (index_at d.objects i) (omega arith) (omega (arith, (head_ok_lem _ _ _ _ _ _ (row_facts d e i h).head).index_small)))

@@ -16,7 +16,7 @@ use Rattle.entry.specs.Encode.{encoding_at, Lays}
 use Rattle.entry.proofs.ValueLaws.{ValueFacts, value_facts}
 use Rattle.image.specs.Image.{stores, to_store, offers, recs_in, offered_from, offered_in, bodies}
 use Rattle.image.specs.Ranges.{covers, Spans}
-use Rattle.image.specs.declared.ranging.Span.{Span}
+use Rattle.std.specs.declared.ops.Range.{Range}
 use Rattle.image.proofs.RangeLaws.{row_covered, walk_from, walk_end}
 use Rattle.commands.specs.Save.{Row, length_in}
 
@@ -69,15 +69,15 @@ module _ (d : Dict) (first last : ℕ) where
   offered_skip n i e = rw e
 
   -- ---- the rows of the range
-  module _ {s : Span} (c : Spans d.objects first last s) where
-    pub offered_from_lem : offered_in d first last ≡ offered_from d first last (number_of d.objects - s.from) s.from
+  module _ {s : Range ℕ} (c : Spans d.objects first last s) where
+    pub offered_from_lem : offered_in d first last ≡ offered_from d first last (number_of d.objects - s.start) s.start
     offered_from_lem = walk_from c (offered_from d first last) offered_skip
 
     pub offered_end : (i : ℕ) → s.end ≤ i → i ≤ number_of d.objects → offered_from d first last (number_of d.objects - i) i ≡ []
     unfolding offered_from
     offered_end i h k = walk_end c (offered_from d first last) offered_skip i h k
 
-    pub offers-row : (i m : ℕ) → s.from ≤ i → i < s.end → m ≡ to_store d.objects i → m ≡ offers d.objects first last i
+    pub offers-row : (i m : ℕ) → s.start ≤ i → i < s.end → m ≡ to_store d.objects i → m ≡ offers d.objects first last i
     unfolding offers
     offers-row i m h k q = rw (row_covered c i h k) q
 

@@ -111,7 +111,7 @@ rows_rise d e first last (suc n) i low h b =
 
 -- R10.6, R10.7 of what is offered
 pub offered_rises : (d : Dict) → well_formed d ≡ true → (l : ℕ) → recs_ok 0 (offered d l) ≡ true
-offered_rises d e l = rows_rise d e (range_of l).first (range_of l).last (number_of d.objects) 0 0 (omega arith) (λ h. omega arith)
+offered_rises d e l = rows_rise d e (range_of l).start (range_of l).end (number_of d.objects) 0 0 (omega arith) (λ h. omega arith)
 
 -- what a save lays is a right table
 pub saved_right : (d : Dict) → well_formed d ≡ true → (l : ℕ) (store : List ℕ) → fits (new_table d l store) store ≡ true → Right (new_table d l store)

@@ -16,8 +16,8 @@ use Rattle.lists.specs.Numbers.{bytes_of}
 use Rattle.entry.specs.Table.{Dict}
 use Rattle.entry.proofs.WalkLaws.{and_false}
 use Rattle.image.specs.Image.{Rec, bodies, image_of, new_table, offered_in, offered}
+use Rattle.std.specs.declared.ops.RangeInclusive.{RangeInclusive}
 use Rattle.image.specs.Ranges.{range_of}
-use Rattle.image.specs.declared.ranging.Range.{Range}
 use Rattle.commands.specs.Save.{fits, after_save, save_of, size_in, recs_laid}
 use Rattle.commands.specs.declared.offering.Size.{Size}
 use Rattle.commands.proofs.ImageLaws.{image-laid, length-image}
@@ -54,12 +54,16 @@ module _ (d : Dict) (l : ℕ) (store : List ℕ) where
   save_done e = rw e
 
 -- ---- by what was measured
-module _ (d : Dict) (store : List ℕ) (l : ℕ) (range : Range) (e : range ≡ range_of l) (z : Size) (h : z ≡ size_in (offered_in d range.first range.last)) where
+module _ (d : Dict) (store : List ℕ) (l : ℕ) (range : RangeInclusive ℕ) (e : range ≡ range_of l) (first last : ℕ) (f : first ≡ range.start) (t : last ≡ range.end)
+    (z : Size) (h : z ≡ size_in (offered_in d first last)) where
+  listed : offered_in d first last ≡ offered d l
+  listed = rw (f, t, e)
+
   pub measured_records : z.records ≡ length (offered d l)
-  measured_records = ap (λ (z : Size). z.records) h ∙ ap (λ (r : Range). length (offered_in d r.first r.last)) e
+  measured_records = ap (λ (z : Size). z.records) h ∙ ap length listed
 
   pub measured_bytes : z.bytes ≡ length (bodies (offered d l))
-  measured_bytes = ap (λ (z : Size). z.bytes) h ∙ ap (λ (r : Range). length (bodies (offered_in d r.first r.last))) e
+  measured_bytes = ap (λ (z : Size). z.bytes) h ∙ ap (λ rs. length (bodies rs)) listed
 
   pub full_of_records : 2048 < z.records → after_save (Err StoreFull) store ≡ save_of d store l
   full_of_records k = sym (save-full d l store (many_records (offered d l) store (omega (arith, measured_records))))
@@ -72,10 +76,9 @@ module _ (d : Dict) (store : List ℕ) (l : ℕ) (range : Range) (e : range ≡ 
 
   -- the count, and the records and the bodies behind it, are the image
   pub laid : z.records ≤ 2048 → z.bytes ≤ 16384 → 2 + 8 * z.records + z.bytes ≤ length store → (a b : List ℕ) → a ≡ over store 0 (bytes_of 2 z.records)
-      → b ≡ recs_laid a 2 (2 + 8 * z.records) 0 (offered_in d range.first range.last) → after_save (Ok tt) b ≡ save_of d store l
+      → b ≡ recs_laid a 2 (2 + 8 * z.records) 0 (offered_in d first last) → after_save (Ok tt) b ≡ save_of d store l
   laid k m n a b p q =
       let rs = offered d l in
-      let listed : offered_in d range.first range.last ≡ rs = ap (λ (r : Range). offered_in d r.first r.last) e in
       let w : length (image_of rs) ≤ length store = omega (arith, length-image rs, measured_records, measured_bytes) in
-      let f = it_fits rs store (omega (arith, measured_records)) (omega (arith, measured_bytes)) (omega (arith, measured_records, measured_bytes)) in
-      ap (after_save (Ok tt)) (rw (q, p, listed, measured_records, add-zero) (image-laid store rs w)) ∙ sym (save_done d l store f)
+      let fit = it_fits rs store (omega (arith, measured_records)) (omega (arith, measured_bytes)) (omega (arith, measured_records, measured_bytes)) in
+      ap (after_save (Ok tt)) (rw (q, p, listed, measured_records, add-zero) (image-laid store rs w)) ∙ sym (save_done d l store fit)

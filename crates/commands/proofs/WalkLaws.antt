@@ -12,7 +12,7 @@ use Rattle.entry.specs.Judge.{well_formed}
 use Rattle.entry.specs.Encode.{encoding_at, Lays}
 use Rattle.image.specs.Image.{Rec, to_store, sub_in, head_of, recs_in, offers, offered_from, heads, bodies}
 use Rattle.image.specs.Ranges.{Spans}
-use Rattle.image.specs.declared.ranging.Span.{Span}
+use Rattle.std.specs.declared.ops.Range.{Range}
 use Rattle.commands.specs.Save.{Row, length_in, recs_laid}
 use Rattle.commands.proofs.ImageLaws.{length-bodies, no_bytes, laid_two}
 use Rattle.entry.proofs.ValueLaws.{row_lies}
@@ -95,7 +95,7 @@ module _ (d : Dict) (first last : ℕ) where
   abbrev pub room : ℕ → ℕ
   room i = length (bodies (rest i))
 
-  module _ {s : Span} (c : Spans d.objects first last s) where
+  module _ {s : Range ℕ} (c : Spans d.objects first last s) where
     pub records_end : (i : ℕ) → s.end ≤ i → i ≤ number_of d.objects → records i ≡ 0
     records_end i h k = ap length (offered_end d first last c i h k)
 
@@ -158,7 +158,7 @@ pub record Turn (d : Dict) (first last i n : ℕ) : Type 0 where
   pub records : records d first last i ≡ n + records d first last (i + 1)
   pub room : room d first last i ≡ length (bodies (recs_in d i n 0)) + room d first last (i + 1)
 
-pub turn : (d : Dict) → well_formed d ≡ true → (first last : ℕ) {s : Span} → Spans d.objects first last s → (i n : ℕ) → s.from ≤ i → i < s.end → n ≡ to_store d.objects i → Turn d first last i n
+pub turn : (d : Dict) → well_formed d ≡ true → (first last : ℕ) {s : Range ℕ} → Spans d.objects first last s → (i n : ℕ) → s.start ≤ i → i < s.end → n ≡ to_store d.objects i → Turn d first last i n
 turn d e first last c i n lo hi q =
     let h : i < number_of d.objects = omega (arith, c.high.within) in
     let z = offers-row d first last c i n lo hi q in
@@ -177,9 +177,9 @@ turn d e first last c i n lo hi q =
     }
 
 -- of the dictionary d, whose columns are those of m
-pub turned : (m d : Dict) → m ≡ d → well_formed m ≡ true → (first last : ℕ) {s : Span} → Spans m.objects first last s → (i n : ℕ) → s.from ≤ i → i < s.end → n ≡ to_store m.objects i
+pub turned : (m d : Dict) → m ≡ d → well_formed m ≡ true → (first last : ℕ) {s : Range ℕ} → Spans m.objects first last s → (i n : ℕ) → s.start ≤ i → i < s.end → n ≡ to_store m.objects i
     → Turn d first last i n
 turned m d v e first last c i n lo hi q = rw (sym v) (turn m e first last c i n lo hi q)
 
-pub spanned : (m d : Dict) → m ≡ d → (first last : ℕ) {s : Span} → Spans m.objects first last s → Spans d.objects first last s
+pub spanned : (m d : Dict) → m ≡ d → (first last : ℕ) {s : Range ℕ} → Spans m.objects first last s → Spans d.objects first last s
 spanned m d v first last c = rw (sym v) c

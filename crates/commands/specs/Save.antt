@@ -4,7 +4,7 @@ use Rattle.answers.specs.declared.Refusal.{Refusal}
 use Rattle.std.specs.Prelude.{ℕ, ◌+◌, ◌≤◌, ◌<◌, Bool, cond, ◌&&◌, List, leb, length, get_or, Result, Ok, Err}
 use Rattle.answers.specs.declared.Refusal.TheVariants.{StoreFull}
 use Rattle.lists.specs.Lists.{over}
-use Rattle.value.specs.Codec.{is_text, size_of}
+use Rattle.value.specs.Codec.{length_of}
 use Rattle.entry.specs.Table.{Dict, number_of, count_at, type_at}
 use Rattle.image.specs.Image.{Rec, heads, bodies, image_of, new_table}
 use Rattle.commands.specs.declared.offering.Size.{Size}
@@ -33,7 +33,7 @@ size_in rs = record { records = length rs; bytes = length (bodies rs) }
 
 -- how long the encoding of value p is
 unfoldable pub length_in : List ℕ → List ℕ → ℕ → ℕ
-length_in slots words p = cond (is_text (type_at slots p)) (get_or words p 0) (size_of (type_at slots p))
+length_in slots words p = length_of (type_at slots p) (get_or words p 0)
 
 -- what the code lays: records from place a on, and their bodies from byte `start` of the bodies on, which begin at place b
 abbrev pub recs_laid : List ℕ → ℕ → ℕ → ℕ → List Rec → List ℕ

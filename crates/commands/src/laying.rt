@@ -5,6 +5,7 @@ ghost use Rattle.image.specs.Image.{head_of, recs_in, offered_in, bodies};
 ghost use Rattle.commands.specs.Save.{Row, recs_laid};
 
 use crate::offering::{length_at, sub_in, to_store};
+use entry::Slot;
 use judge::Dictionary;
 
 // The 8 bytes of a record.
@@ -20,6 +21,7 @@ fn lay_head(store: &mut [u8], at: usize, index: u64, sub: u64, t: u64, start: us
 }
 
 // The record of value k of row i, and its body, which starts at byte `start` of the bodies; the body's length.
+// `at` moves on by heads and `start` by bodies while `bodies_at` stays: each call would have to make a struct of the three anew.
 fn lay_value(
     d: &Dictionary,
     i: usize,
@@ -34,10 +36,11 @@ fn lay_value(
     ensures value { result ≡ length (bodies (recs_in d.now i 1 k)) }
     ensures store_after { store.new ≡ recs_laid store.old at bodies_at start (recs_in d.now i 1 k) }
 {
-    let p = entry::first_at(d.objects, i) as usize + k;
-    let index = entry::index_at(d.objects, i);
-    let sub = sub_in(entry::kind_at(d.objects, i), k);
-    let t = entry::type_at(d.slots, p);
+    let row = entry::Row(d.objects, i);
+    let p = row.first() as usize + k;
+    let index = row.index();
+    let sub = sub_in(row.kind(), k);
+    let t = Slot(d.slots, p).value_type();
     let len = length_at(d.slots, d.words, p);
     lay_head(store, at, index, sub, t, start, len);
     entry::lay_encoding(d.slots, d.words, d.bytes, p, store, bodies_at + start);
@@ -75,8 +78,8 @@ pub fn lay(d: &Dictionary, first: u16, last: u16, store: &mut [u8], bodies_at: u
     let rows = image::rows_in(d.objects, first, last);
     let mut at = 2;
     let mut start = 0;
-    for i in rows.from..rows.end {
-        let n = to_store(d.objects, i);
+    for i in rows.start..rows.end {
+        let n = to_store(&entry::Row(d.objects, i));
         start = lay_row(d, i, n, store, at, bodies_at, start);
         at += 8 * n;
     }

@@ -1,9 +1,10 @@
 // What a save offers, and how large it is.
 ghost use Rattle.std.specs.Prelude.{◌≡◌, ◌≤◌, ◌<◌, length};
-ghost use Rattle.entry.specs.Table.{row_end, slot_end};
+ghost use Rattle.entry.specs.Table.{slot_end};
 ghost use Rattle.image.specs.Image.{to_store, sub_in, recs_in, offered_in, bodies};
 ghost use Rattle.commands.specs.Save.{size_in, length_in, Row};
 
+use entry::Slot;
 use judge::Dictionary;
 
 // How many records, and how many bytes their bodies have.
@@ -13,14 +14,13 @@ pub struct Size {
     pub bytes: usize,
 }
 
-// How many values of row i are for the store.
-pub fn to_store(objects: &[u64], i: usize) -> usize
-    requires { (i < 1024) × (row_end i ≤ length objects.now) }
-    ensures { result ≡ to_store objects.now i }
+// How many values of a row are for the store.
+pub fn to_store(row: &entry::Row) -> usize
+    ensures { result ≡ to_store row.now.objects row.now.i }
 {
-    let access = entry::access_at(objects, i);
+    let access = row.access();
     if (access == 4) | (access == 2) {
-        return entry::count_at(objects, i) as usize;
+        return row.count() as usize;
     }
     0
 }
@@ -33,17 +33,13 @@ pub fn sub_in(kind: u64, k: usize) -> u64
     if kind == 0 { 0 } else { k as u64 + 1 }
 }
 
-// How long the encoding of value p is.
+// How long the encoding of value p is. It takes p and no `Slot`, since the word at p is read as well.
+#[tactic(auto, unfolding(crate::specs::Save::length_in))]
 pub fn length_at(slots: &[u64], words: &[u64], p: usize) -> usize
     requires { (p < 6144) × (slot_end p ≤ length slots.now) × (p < length words.now) }
     ensures { result ≡ length_in slots.now words.now p }
 {
-    let t = entry::type_at(slots, p);
-    let w = words[p];
-    if value::is_text(t) {
-        return w as usize;
-    }
-    value::size_of(t)
+    value::length_of(Slot(slots, p).value_type(), words[p]) as usize
 }
 
 // The bytes of the bodies of n values of row i.
@@ -51,7 +47,7 @@ fn row_bytes(d: &Dictionary, i: usize, n: usize) -> usize
     requires { Row d.now.objects i n }
     ensures { result ≡ length (bodies (recs_in d.now i n 0)) }
 {
-    let first = entry::first_at(d.objects, i) as usize;
+    let first = entry::Row(d.objects, i).first() as usize;
     let mut sum = 0;
     for k in 0..n {
         sum += length_at(d.slots, d.words, first + k);
@@ -68,8 +64,8 @@ pub fn measure(d: &Dictionary, first: u16, last: u16) -> Size
         records: 0,
         bytes: 0,
     };
-    for i in rows.from..rows.end {
-        let n = to_store(d.objects, i);
+    for i in rows.start..rows.end {
+        let n = to_store(&entry::Row(d.objects, i));
         size.bytes += row_bytes(d, i, n);
         size.records += n;
     }

@@ -3,7 +3,7 @@ ghost use Rattle.std.specs.Prelude.{◌≡◌};
 ghost use Rattle.commands.specs.Save.{after_save, save_of};
 
 use crate::laying::lay;
-use crate::offering::measure;
+use crate::offering::{Size, measure};
 use answers::Refusal;
 use judge::Dictionary;
 
@@ -12,19 +12,12 @@ use judge::Dictionary;
 pub fn save(d: &Dictionary, list: u8, store: &mut [u8]) -> Result<(), Refusal>
     ensures { after_save result store.new ≡ save_of d.now store.old list }
 {
-    let range = image::range_of(list);
-    let first = range.first;
-    let last = range.last;
-    let size = measure(d, first, last);
-    let r = size.records;
-    let b = size.bytes;
-    if 2048 < r {
-        return Err(Refusal::StoreFull);
-    }
-    if 16384 < b {
-        return Err(Refusal::StoreFull);
-    }
-    if store.len() < 2 + 8 * r + b {
+    let (first, last) = image::range_of(list).into_inner();
+    let Size {
+        records: r,
+        bytes: b,
+    } = measure(d, first, last);
+    if 2048 < r || 16384 < b || store.len() < 2 + 8 * r + b {
         return Err(Refusal::StoreFull);
     }
     lists::put_number(store, 0, 2, r as u64);

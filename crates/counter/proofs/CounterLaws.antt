@@ -1,40 +1,39 @@
 -- Where a counter is, that it lies within the dictionary, and that counting keeps it well formed. Assumes nothing.
-use Rattle.std.specs.Prelude.{Option, Some, None}
+use Rattle.std.specs.Prelude.{Option, Some, None, Ok}
 use Rattle.std.proofs.Common.{◌≡◌, ℕ, ◌+◌, ◌%◌, ◌^◌, ◌<◌, Bool, true, false, cond, eqb, length, get_or, take, set, sym, refl, ap, ◌∙◌, subst, arith, take_all, ltb-true, eqb-true, ne_eqb}
 use Rattle.lists.specs.Numbers.{number, bytes_of}
 use Rattle.lists.proofs.NumberLaws.{length-bytes_of, bytes_bytes_of, number-bytes_of}
 use Rattle.value.specs.Codec.{size_of, is_text, fits_type, word_at}
 use Rattle.entry.specs.Table.{Dict, kind_at, type_at}
-use Rattle.entry.specs.Find.{find_row, sub_at, on_row, place_of}
+use Rattle.entry.specs.Find.{find_row, sub_at, or_no_sub, on_row, place_of}
 use Rattle.entry.specs.Judge.{well_formed}
 use Rattle.entry.specs.Put.{Contents, contents, put_in, filled}
 use Rattle.entry.specs.declared.Place.{Place}
-use Rattle.entry.specs.declared.Place.TheVariants.{NoObject, NoSub, Count, Value}
+use Rattle.entry.specs.declared.Place.TheVariants.{Count, Value}
 use Rattle.entry.proofs.ValueLaws.{element_of_lem, element_facts}
 use Rattle.entry.proofs.PutLaws.{put_fixed}
 use Rattle.entry.proofs.KeepLaws.{put_element}
 use Rattle.counter.specs.Counter.{of_u32, in_row, counter_at, counted, counter_of}
 
 -- a counter is the U32 at its place
-pub counter_placed : (d : Dict) (x sub p : ℕ) → counter_at d x sub ≡ Some p → (place_of d.objects x sub ≡ Value p) × (type_at d.slots p ≡ 7)
+pub counter_placed : (d : Dict) (x sub p : ℕ) → counter_at d x sub ≡ Some p → (place_of d.objects x sub ≡ Ok (Value p)) × (type_at d.slots p ≡ 7)
 unfolding counter_at
 counter_placed d x sub p e = row (find_row d.objects x) refl e
   where
-    of_type_lem : (v : ℕ) (b : Bool) → eqb (type_at d.slots v) 7 ≡ b → place_of d.objects x sub ≡ Value v → cond b (Some v) None ≡ Some p → (place_of d.objects x sub ≡ Value p) × (type_at d.slots p ≡ 7)
+    of_type_lem : (v : ℕ) (b : Bool) → eqb (type_at d.slots v) 7 ≡ b → place_of d.objects x sub ≡ Ok (Value v) → cond b (Some v) None ≡ Some p → (place_of d.objects x sub ≡ Ok (Value p)) × (type_at d.slots p ≡ 7)
     of_type_lem v true t f q = let z : v ≡ p = cc in rw (← z) (f, eqb-true (type_at d.slots v) 7 t)
     of_type_lem v false t f q = let z : ◌≡◌ {A = ℕ} 0 1 = cc in absurd (omega arith)
 
-    place : (a : Place) → place_of d.objects x sub ≡ a → of_u32 d a ≡ Some p → (place_of d.objects x sub ≡ Value p) × (type_at d.slots p ≡ 7)
-    place NoObject s q = let z : ◌≡◌ {A = ℕ} 0 1 = cc in absurd (omega arith)
-    place NoSub s q = let z : ◌≡◌ {A = ℕ} 0 1 = cc in absurd (omega arith)
-    place (Count n) s q = let z : ◌≡◌ {A = ℕ} 0 1 = cc in absurd (omega arith)
-    place (Value v) s q = of_type_lem v (eqb (type_at d.slots v) 7) refl s q
+    place : (a : Option Place) → place_of d.objects x sub ≡ or_no_sub a → of_u32 d a ≡ Some p → (place_of d.objects x sub ≡ Ok (Value p)) × (type_at d.slots p ≡ 7)
+    place None s q = let z : ◌≡◌ {A = ℕ} 0 1 = cc in absurd (omega arith)
+    place (Some (Count n)) s q = let z : ◌≡◌ {A = ℕ} 0 1 = cc in absurd (omega arith)
+    place (Some (Value v)) s q = of_type_lem v (eqb (type_at d.slots v) 7) refl s q
 
-    kind : (i : ℕ) → find_row d.objects x ≡ Some i → (b : Bool) → cond b None (of_u32 d (sub_at d.objects i sub)) ≡ Some p → (place_of d.objects x sub ≡ Value p) × (type_at d.slots p ≡ 7)
+    kind : (i : ℕ) → find_row d.objects x ≡ Some i → (b : Bool) → cond b None (of_u32 d (sub_at d.objects i sub)) ≡ Some p → (place_of d.objects x sub ≡ Ok (Value p)) × (type_at d.slots p ≡ 7)
     kind i f true q = let z : ◌≡◌ {A = ℕ} 0 1 = cc in absurd (omega arith)
     kind i f false q = place (sub_at d.objects i sub) (ap (on_row d.objects sub) f) q
 
-    row : (f : Option ℕ) → find_row d.objects x ≡ f → in_row d sub f ≡ Some p → (place_of d.objects x sub ≡ Value p) × (type_at d.slots p ≡ 7)
+    row : (f : Option ℕ) → find_row d.objects x ≡ f → in_row d sub f ≡ Some p → (place_of d.objects x sub ≡ Ok (Value p)) × (type_at d.slots p ≡ 7)
     row (Some i) f q = kind i f (eqb (kind_at d.objects i) 1) q
     row None f q = let z : ◌≡◌ {A = ℕ} 0 1 = cc in absurd (omega arith)
 
@@ -72,10 +71,3 @@ counter_keeps d x sub w = rw w (go (counter_at d x sub) refl)
 pub placed : (d : Dict) (x sub i : ℕ) → find_row d.objects x ≡ Some i → (kind_at d.objects i ≡ 1 → ⊥) → of_u32 d (sub_at d.objects i sub) ≡ counter_at d x sub
 unfolding counter_at
 placed d x sub i f n = sym (simp (f, ne_eqb _ 1 n))
-
--- what a definition comes to at a place that is no value's, where it says the same of the three others
-pub not_value : {A : Type 0} (f : Place → A) {x : A} → x ≡ f NoObject → x ≡ f NoSub → ((n : ℕ) → x ≡ f (Count n)) → (a : Place) → ((p : ℕ) → a ≡ Value p → ⊥) → x ≡ f a
-not_value f o s c NoObject k = o
-not_value f o s c NoSub k = s
-not_value f o s c (Count n) k = c n
-not_value f o s c (Value p) k = absurd (k p refl)

@@ -6,14 +6,13 @@ use Rattle.entry.specs.Table.{Dict, kind_at, type_at}
 use Rattle.entry.specs.Find.{find_row, sub_at}
 use Rattle.entry.specs.Judge.{well_formed}
 use Rattle.entry.specs.declared.Place.{Place}
-use Rattle.entry.specs.declared.Place.TheVariants.{NoObject, NoSub, Count, Value}
+use Rattle.entry.specs.declared.Place.TheVariants.{Count, Value}
 
 -- R8.4: "A U32 Variable at sub-index 0, or a Record's U32 element"; "never an Array's"
-abbrev pub of_u32 : Dict → Place → Option ℕ
-of_u32 d (Value p) = cond (type_at d.slots p == 7) (Some p) None
-of_u32 d (Count n) = None
-of_u32 d NoSub = None
-of_u32 d NoObject = None
+abbrev pub of_u32 : Dict → Option Place → Option ℕ
+of_u32 d (Some (Value p)) = cond (type_at d.slots p == 7) (Some p) None
+of_u32 d (Some (Count n)) = None
+of_u32 d None = None
 
 abbrev pub in_row : Dict → ℕ → Option ℕ → Option ℕ
 in_row d sub (Some i) = cond (kind_at d.objects i == 1) None (of_u32 d (sub_at d.objects i sub))

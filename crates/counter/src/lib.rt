@@ -7,29 +7,29 @@ ghost use Rattle.entry.specs.Judge.{well_formed};
 ghost use Rattle.counter.specs.Counter.{counter_at, after_increment, counter_of};
 
 use answers::Refusal;
-use entry::Place;
+use entry::{Place, Row, Slot};
 use judge::Dictionary;
 
 // The value that is a counter: a U32 that is a Variable or a Record's element.
 fn counter_at(d: &Dictionary, index: u16, sub: u8) -> Option<usize>
     ensures { result ≡ counter_at d.now index sub }
 {
-    let Some(i) = entry::find(d.objects, index) else {
-        return None;
-    };
-    if entry::kind_at(d.objects, i) == 1 {
+    let i = entry::find(d.objects, index)?;
+    if Row(d.objects, i).kind() == 1 {
         return None;
     }
-    let Place::Value(p) = entry::sub_at(d.objects, i, sub) else {
+    let Some(Place::Value(p)) = entry::sub_at(d.objects, i, sub) else {
         return None;
     };
-    if entry::type_at(d.slots, p) == 7 {
-        return Some(p);
+    if Slot(d.slots, p).value_type() == 7 {
+        Some(p)
+    } else {
+        None
     }
-    None
 }
 
-// Adds 1 to a counter of a dictionary that was judged.
+// Adds 1 to a counter of a dictionary that was judged. By slices and the clause: no other function is lent the words alone to change, and
+// a struct for one would say no more.
 pub fn increment_counter_judged(
     objects: &[u64],
     slots: &[u64],

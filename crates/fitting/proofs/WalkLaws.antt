@@ -6,7 +6,7 @@ use Prim.Native.Nat.{ℕ, suc, ◌+◌, ◌-◌, ◌<◌, ◌≤◌}
 use native.Mathlib.Omega.{arith}
 use Rattle.entry.specs.Table.{Dict, number_of, index_at, count_at}
 use Rattle.image.specs.Ranges.{covers, Spans}
-use Rattle.image.specs.declared.ranging.Span.{Span}
+use Rattle.std.specs.declared.ops.Range.{Range}
 use Rattle.image.proofs.RangeLaws.{row_covered, walk_from, walk_end}
 use Rattle.fitting.specs.Fit.{slot_in, chosen_at, fits_room, values_fit, restorable, in_range, rows_fit}
 
@@ -36,8 +36,8 @@ module _ (d : Dict) (s : List ℕ) where
     skip n i e = rw e
 
     -- ---- the rows of the range
-    module _ {r : Span} (c : Spans d.objects first last r) where
-      pub rows_fit_from : rows_fit d s first last (number_of d.objects) 0 ≡ rows_fit d s first last (number_of d.objects - r.from) r.from
+    module _ {r : Range ℕ} (c : Spans d.objects first last r) where
+      pub rows_fit_from : rows_fit d s first last (number_of d.objects) 0 ≡ rows_fit d s first last (number_of d.objects - r.start) r.start
       rows_fit_from = walk_from c (rows_fit d s first last) skip
 
       pub rows_fit_end : (i : ℕ) → r.end ≤ i → i ≤ number_of d.objects → rows_fit d s first last (number_of d.objects - i) i ≡ true
@@ -45,5 +45,5 @@ module _ (d : Dict) (s : List ℕ) where
       rows_fit_end i h k = walk_end c (rows_fit d s first last) skip i h k
 
 -- which of them are restored
-pub in_range_lem : {objects : List ℕ} {first last : ℕ} {r : Span} → Spans objects first last r → (i : ℕ) (b : Bool) → r.from ≤ i → i < r.end → b ≡ restorable (index_at objects i) → b ≡ in_range first last (index_at objects i)
+pub in_range_lem : {objects : List ℕ} {first last : ℕ} {r : Range ℕ} → Spans objects first last r → (i : ℕ) (b : Bool) → r.start ≤ i → i < r.end → b ≡ restorable (index_at objects i) → b ≡ in_range first last (index_at objects i)
 in_range_lem c i b h k q = rw (row_covered c i h k) q

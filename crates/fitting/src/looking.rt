@@ -1,63 +1,92 @@
 // Records of the stored image. The keys of values rise as those of records do: each lookup goes on near the last one.
-ghost use Rattle.std.specs.Prelude.{◌≡◌, ◌-◌, ◌≤◌};
+ghost use Rattle.std.specs.Prelude.{◌≡◌, ℕ, ◌+◌, ◌-◌, ◌≤◌, List, length};
+ghost use Rattle.lists.specs.Numbers.{Bytes};
+ghost use Rattle.image.specs.Readable.{head_in};
 ghost use Rattle.fitting.specs.Records.{records, record_of, seek_from, Cursor};
 
-use crate::Lookup;
+use image::Head;
+use std::marker::Model;
 
-pub fn records(store: &[u8]) -> usize
-    ensures { result ≡ records store.now }
-{
-    if image::judge_image(store) {
-        return lists::number(store, 0, 2) as usize;
-    }
-    0
+// A store that was judged once, how many records it holds, none where it is not readable, and the record near which the last lookup ended.
+#[derive(Drop)]
+pub struct Image<'a> {
+    pub store: &'a [u8],
+    count: usize,
+    near: usize,
 }
 
-// The first of n records, from record k on, whose key is not below.
-fn seek(store: &[u8], n: usize, k: usize, key: u64) -> usize
-    requires { (n ≡ records store.now) × (k ≤ n) }
-    ensures { result ≡ seek_from store.now (n - k) k key }
-{
-    for j in k..n {
-        if key <= image::key_in(store, 2 + 8 * j) {
-            return j;
+impl<'a> Model for Image<'a> {
+    ghost Value = { List ℕ };
+
+    ghost view = { λ m. m.store.now };
+
+    ghost invariant = { λ m. (m.count ≡ records m.store.now) × (m.near ≤ m.count) × Bytes m.store.now };
+}
+
+impl<'a> Image<'a> {
+    pub fn judged(store: &'a [u8]) -> Self
+        ensures { result ≡ store.now }
+    {
+        let count = if image::judge_image(store) {
+            lists::number(store, 0, 2) as usize
+        } else {
+            0
+        };
+        Image {
+            store,
+            count,
+            near: 0,
         }
     }
-    n
-}
 
-// From where to seek: from record `near` on, unless the one before it is not below the key.
-fn start_from(store: &[u8], n: usize, near: usize, key: u64) -> usize
-    requires { (n ≡ records store.now) × (near ≤ n) }
-    ensures { Cursor store.now n result key }
-{
-    if near == 0 {
-        return 0;
+    // The head of the record at place a.
+    pub fn head(&self, a: usize) -> Head
+        requires { a + 8 ≤ length self.now }
+        ensures { result ≡ head_in self.now a }
+    {
+        image::head_in(self.store, a)
     }
-    if image::key_in(store, 2 + 8 * (near - 1)) < key {
-        return near;
-    }
-    0
-}
 
-pub fn look_up(store: &[u8], n: usize, near: usize, key: u64) -> Lookup
-    requires { (n ≡ records store.now) × (near ≤ n) }
-    ensures found { result.found ≡ record_of store.now key }
-    ensures near { result.near ≤ n }
-{
-    let from = start_from(store, n, near, key);
-    let r = seek(store, n, from, key);
-    if r < n {
-        let a = 2 + 8 * r;
-        if image::key_in(store, a) == key {
-            return Lookup {
-                found: Some(a),
-                near: r,
-            };
+    // From where to seek: from record `near` on, unless the one before it is not below the key.
+    fn start_from(&self, key: u64) -> usize
+        ensures { Cursor self.now (records self.now) result key }
+    {
+        if self.near == 0 {
+            return 0;
         }
+        if self.head(2 + 8 * (self.near - 1)).key < key {
+            return self.near;
+        }
+        0
     }
-    Lookup {
-        found: None,
-        near: r,
+
+    // The first record, from record k on, whose key is not below.
+    fn seek(&self, k: usize, key: u64) -> usize
+        requires { k ≤ records self.now }
+        ensures { result ≡ seek_from self.now (records self.now - k) k key }
+    {
+        let n = self.count;
+        for j in k..n {
+            if key <= self.head(2 + 8 * j).key {
+                return j;
+            }
+        }
+        n
+    }
+
+    // The place of the record that has the key.
+    pub fn look_up(&mut self, key: u64) -> Option<usize>
+        ensures found { result ≡ record_of self.old key }
+        ensures image { self.new ≡ self.old }
+    {
+        let r = self.seek(self.start_from(key), key);
+        self.near = r;
+        if r < self.count {
+            let a = 2 + 8 * r;
+            if self.head(a).key == key {
+                return Some(a);
+            }
+        }
+        None
     }
 }

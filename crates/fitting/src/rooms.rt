@@ -1,12 +1,13 @@
 // Whether all that would be put fits its room.
-ghost use Rattle.std.specs.Prelude.{◌≡◌, not, ◌||◌, ◌<◌, ◌≤◌, leb};
+ghost use Rattle.std.specs.Prelude.{◌≡◌, not, ◌||◌, ◌<◌, leb};
 ghost use Rattle.value.specs.Codec.{is_text};
 ghost use Rattle.entry.specs.Table.{number_of, count_at};
-ghost use Rattle.fitting.specs.Records.{records};
 ghost use Rattle.fitting.specs.Fit.{slot_in, chosen_at, fits_room, values_fit, restorable, rows_fit};
 
+use crate::Choice;
 use crate::choosing::choose;
-use crate::{Choice, Fitting};
+use crate::looking::Image;
+use entry::{Row, Slot};
 use judge::Dictionary;
 
 // A string of some length in a room.
@@ -18,45 +19,36 @@ fn text_fits(t: u64, len: u64, room: u64) -> bool
 }
 
 // Value k of row i.
-fn value_fits(d: &Dictionary, store: &[u8], n: usize, i: usize, k: usize, near: usize) -> Fitting
-    requires i_bound { (i < number_of d.now.objects) × (k < count_at d.now.objects i) }
-    requires n_value { (n ≡ records store.now) × (near ≤ n) }
-    ensures fits { result.fits ≡ fits_room d.now store.now (slot_in d.now.objects i k) (chosen_at d.now store.now i k) }
-    ensures near { result.near ≤ n }
+fn value_fits(d: &Dictionary, stored: &mut Image, i: usize, k: usize) -> bool
+    requires { (i < number_of d.now.objects) × (k < count_at d.now.objects i) }
+    ensures fits { result ≡ fits_room d.now stored.old (slot_in d.now.objects i k) (chosen_at d.now stored.old i k) }
+    ensures image { stored.new ≡ stored.old }
 {
-    let c = choose(d, store, n, i, k, near);
-    let room = entry::room_at(d.slots, entry::first_at(d.objects, i) as usize + k);
-    let fits = match c.choice {
+    let choice = choose(d, stored, i, k);
+    let room = Slot(d.slots, Row(d.objects, i).first() as usize + k).room();
+    match choice {
         Choice::Keep => true,
         Choice::Stored(a) => {
-            let t = image::type_in(store, a);
-            text_fits(t, image::size_at(store, a) as u64, room)
+            let head = stored.head(a);
+            text_fits(head.value_type, head.size as u64, room)
         }
-        Choice::Default(q) => text_fits(entry::type_at(d.slots, q), d.words[q], room),
-    };
-    Fitting { fits, near: c.near }
+        Choice::Default(q) => text_fits(Slot(d.slots, q).value_type(), d.words[q], room),
+    }
 }
 
 // All values of row i.
-fn values_fit(d: &Dictionary, store: &[u8], n: usize, i: usize, near: usize) -> Fitting
-    requires i_bound { i < number_of d.now.objects }
-    requires n_value { (n ≡ records store.now) × (near ≤ n) }
-    ensures fits { result.fits ≡ values_fit d.now store.now i (count_at d.now.objects i) 0 }
-    ensures near { result.near ≤ n }
+fn values_fit(d: &Dictionary, stored: &mut Image, i: usize) -> bool
+    requires { i < number_of d.now.objects }
+    ensures fits { result ≡ values_fit d.now stored.old i (count_at d.now.objects i) 0 }
+    ensures image { stored.new ≡ stored.old }
 {
-    let count = entry::count_at(d.objects, i) as usize;
-    let mut at = near;
+    let count = Row(d.objects, i).count() as usize;
     for k in 0..count {
-        let f = value_fits(d, store, n, i, k, at);
-        if !f.fits {
-            return f;
+        if !value_fits(d, stored, i, k) {
+            return false;
         }
-        at = f.near;
     }
-    Fitting {
-        fits: true,
-        near: at,
-    }
+    true
 }
 
 // Whether a restore touches the object: 1003h stays.
@@ -66,19 +58,16 @@ pub fn restorable(index: u64) -> bool
     index != 0x1003
 }
 
-pub fn rows_fit(d: &Dictionary, store: &[u8], n: usize, first: u16, last: u16) -> bool
-    requires n_value { n ≡ records store.now }
-    ensures { result ≡ rows_fit d.now store.now first last (number_of d.now.objects) 0 }
+pub fn rows_fit(d: &Dictionary, stored: &mut Image, first: u16, last: u16) -> bool
+    ensures fits { result ≡ rows_fit d.now stored.old first last (number_of d.now.objects) 0 }
+    ensures image { stored.new ≡ stored.old }
 {
     let rows = image::rows_in(d.objects, first, last);
-    let mut at = 0;
-    for i in rows.from..rows.end {
-        if restorable(entry::index_at(d.objects, i)) {
-            let f = values_fit(d, store, n, i, at);
-            if !f.fits {
+    for i in rows.start..rows.end {
+        if restorable(Row(d.objects, i).index()) {
+            if !values_fit(d, stored, i) {
                 return false;
             }
-            at = f.near;
         }
     }
     true

@@ -50,7 +50,7 @@ abbrev pub offered_in : Dict → ℕ → ℕ → List Rec
 offered_in d first last = offered_from d first last (number_of d.objects) 0
 
 abbrev pub offered : Dict → ℕ → List Rec
-offered d l = offered_in d (range_of l).first (range_of l).last
+offered d l = offered_in d (range_of l).start (range_of l).end
 
 -- R10.2: "A save replaces the whole table and does not read the old one."
 abbrev pub new_table : Dict → ℕ → List ℕ → List Rec

@@ -1,15 +1,15 @@
 -- Ranges of indices: those of the lists, and the rows of one. RULES.md 10.
 -- Assumes nothing.
-use Rattle.std.specs.Prelude.{ℕ, ◌+◌, Bool, cond, ◌&&◌, List, eqb, leb}
+use Rattle.std.specs.Prelude.{ℕ, ◌+◌, Bool, false, cond, ◌&&◌, List, eqb, leb}
 use Rattle.entry.specs.Find.{Lower}
-use Rattle.image.specs.declared.ranging.Range.{Range}
-use Rattle.image.specs.declared.ranging.Span.{Span}
+use Rattle.std.specs.declared.ops.Range.{Range}
+use Rattle.std.specs.declared.ops.RangeInclusive.{RangeInclusive}
 
-abbrev pub from_to : ℕ → ℕ → Range
-from_to first last = record { first = first; last = last }
+abbrev pub from_to : ℕ → ℕ → RangeInclusive ℕ
+from_to first last = record { start = first; end = last; exhausted = false }
 
 -- R10.1: "List 1 saves everything, list 2 indices 1000h..1FFFh, list 3 indices 6000h..9FFFh, any other list nothing"
-unfoldable pub range_of : ℕ → Range
+unfoldable pub range_of : ℕ → RangeInclusive ℕ
 range_of l =
     cond (eqb l 1)
     (from_to 0 0xFFFF)
@@ -19,7 +19,7 @@ range_of l =
 unfoldable pub covers : ℕ → ℕ → ℕ → Bool
 covers first last x = leb first x && leb x last
 
--- the rows of the range are those of the span
-pub record Spans (objects : List ℕ) (first last : ℕ) (s : Span) : Type 0 where
-  pub low : Lower objects first s.from
+-- the rows of the range of indices are those of the range of rows
+pub record Spans (objects : List ℕ) (first last : ℕ) (s : Range ℕ) : Type 0 where
+  pub low : Lower objects first s.start
   pub high : Lower objects (last + 1) s.end

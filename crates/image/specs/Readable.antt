@@ -4,6 +4,7 @@ use Rattle.std.specs.Prelude.{ℕ, zero, suc, ◌+◌, ◌*◌, ◌≤◌, ◌�
 use Rattle.lists.specs.Numbers.{number}
 use Rattle.value.specs.Codec.{exact}
 use Rattle.image.specs.Image.{Rec, bodies}
+use Rattle.image.specs.declared.Head.{Head}
 
 -- ---- a right table
 -- R10.6: "Records rise strictly by (index, sub-index)."
@@ -51,10 +52,15 @@ recs_at s (suc n) a b =
     record { index = index_in s a; sub = field s (a + 2) 1; type = type_in s a; body = take (size_at s a) (drop b s) }
     ∷ recs_at s n (a + 8) (b + size_at s a)
 
--- R10.6, R10.7: the record at place a is right behind sum bytes of the bodies, which lie from place b on, with a key not below low
+abbrev pub head_in : List ℕ → ℕ → Head
+head_in s a = record { key = key_in s a; value_type = type_in s a; start = start_in s a; size = size_at s a }
+
+-- R10.6, R10.7: in a store of n bytes a record is right behind sum bytes of the bodies, which lie from place b on, with a key not below low
+abbrev pub stands : ℕ → Head → ℕ → ℕ → ℕ → Bool
+stands n h b sum low = leb low h.key && (eqb h.start sum && (leb (sum + h.size) 16384 && leb (b + (sum + h.size)) n))
+
 unfoldable pub placed : List ℕ → ℕ → ℕ → ℕ → ℕ → Bool
-placed s a b sum low =
-    leb low (key_in s a) && (eqb (start_in s a) sum && (leb (sum + size_at s a) 16384 && leb (b + (sum + size_at s a)) (length s)))
+placed s a b sum low = stands (length s) (head_in s a) b sum low
 
 unfoldable pub heads_ok : List ℕ → ℕ → ℕ → ℕ → ℕ → ℕ → Bool
 heads_ok s zero a b sum low = true

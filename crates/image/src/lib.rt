@@ -3,62 +3,52 @@
 
 mod ranging;
 
-ghost use Rattle.std.specs.Prelude.{◌≡◌, ◌+◌, ◌*◌, ◌≤◌, length, take, drop};
+ghost use Rattle.std.specs.Prelude.{◌≡◌, ◌+◌, ◌*◌, ◌≤◌, ◌<◌, length, take, drop};
 ghost use Rattle.value.specs.Codec.{exact};
-ghost use Rattle.image.specs.Readable.{key_in, type_in, start_in, size_at, placed, heads_ok, readable};
+ghost use Rattle.image.specs.Readable.{head_in, stands, heads_ok, readable};
 
-pub use ranging::{Range, Span, range_of, rows_in};
+pub use ranging::{range_of, rows_in};
 
-// The numbers of the record at place a.
-pub fn key_in(s: &[u8], a: usize) -> u64
+// The numbers of a record's head.
+#[derive(Clone, Copy)]
+pub struct Head {
+    pub key: u64,
+    pub value_type: u64,
+    pub start: usize,
+    pub size: usize,
+}
+
+// The head of the record at place a.
+pub fn head_in(s: &[u8], a: usize) -> Head
     requires { a + 8 ≤ length s.now }
-    ensures { result ≡ key_in s.now a }
+    ensures { result ≡ head_in s.now a }
 {
     let index = lists::number(s, a, 2);
     let sub = lists::number(s, a + 2, 1);
-    256 * index + sub
+    Head {
+        key: 256 * index + sub,
+        value_type: lists::number(s, a + 3, 1),
+        start: lists::number(s, a + 4, 2) as usize,
+        size: lists::number(s, a + 6, 2) as usize,
+    }
 }
 
-pub fn type_in(s: &[u8], a: usize) -> u64
-    requires { a + 8 ≤ length s.now }
-    ensures { result ≡ type_in s.now a }
+// Whether a record stands right behind `sum` bytes of the bodies, which lie from place b on, with a key not below low.
+fn placed(s: &[u8], head: Head, b: usize, sum: usize, low: u64) -> bool
+    requires { (head.size < 65536) × (b ≤ 16386) × (sum ≤ 16384) }
+    ensures { result ≡ stands (length s.now) head b sum low }
 {
-    lists::number(s, a + 3, 1)
-}
-
-pub fn size_at(s: &[u8], a: usize) -> usize
-    requires { a + 8 ≤ length s.now }
-    ensures { result ≡ size_at s.now a }
-{
-    lists::number(s, a + 6, 2) as usize
-}
-
-pub fn start_in(s: &[u8], a: usize) -> usize
-    requires { a + 8 ≤ length s.now }
-    ensures { result ≡ start_in s.now a }
-{
-    lists::number(s, a + 4, 2) as usize
-}
-
-// Whether it stands right behind `sum` bytes of the bodies, which lie from place b on, with a key not below low.
-fn placed(s: &[u8], a: usize, b: usize, sum: usize, low: u64) -> bool
-    requires { (a + 8 ≤ length s.now) × (b ≤ 16386) × (sum ≤ 16384) }
-    ensures { result ≡ placed s.now a b sum low }
-{
-    let key = key_in(s, a);
-    let start = start_in(s, a);
-    let end = sum + size_at(s, a);
-    (low <= key) & ((start == sum) & ((end <= 16384) & (b + end <= s.len())))
+    let end = sum + head.size;
+    (low <= head.key) & ((head.start == sum) & ((end <= 16384) & (b + end <= s.len())))
 }
 
 // Whether its body, which lies from place p on, is exactly a value of its type.
-fn exact_at(s: &[u8], a: usize, p: usize) -> bool
-    requires { (a + 8 ≤ length s.now) × (p + size_at s.now a ≤ length s.now) }
-    ensures { result ≡ exact (type_in s.now a) (take (size_at s.now a) (drop p s.now)) }
+#[tactic(auto, unfolding(value::specs::Codec::exact))]
+fn exact_at(s: &[u8], head: Head, p: usize) -> bool
+    requires { p + head.size ≤ length s.now }
+    ensures { result ≡ exact head.value_type (take head.size (drop p s.now)) }
 {
-    let t = type_in(s, a);
-    let end = p + size_at(s, a);
-    value::is_exact(value::exactly(t, &s[p..end]))
+    value::exactly(head.value_type, &s[p..p + head.size]).is_ok()
 }
 
 fn heads_ok(s: &[u8], count: usize) -> bool
@@ -69,15 +59,15 @@ fn heads_ok(s: &[u8], count: usize) -> bool
     let mut sum = 0;
     let mut low = 0;
     for k in 0..count {
-        let a = 2 + 8 * k;
-        if !placed(s, a, b, sum, low) {
+        let head = head_in(s, 2 + 8 * k);
+        if !placed(s, head, b, sum, low) {
             return false;
         }
-        if !exact_at(s, a, b + sum) {
+        if !exact_at(s, head, b + sum) {
             return false;
         }
-        sum += size_at(s, a);
-        low = key_in(s, a) + 1;
+        sum += head.size;
+        low = head.key + 1;
     }
     true
 }

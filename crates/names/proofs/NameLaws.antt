@@ -1,8 +1,9 @@
 -- Names: compared by the library's test, and the walk over the rows.
 -- Assumes nothing.
-use Rattle.std.specs.Prelude.{Ok, Err}
+use Rattle.std.specs.Prelude.{Result, Ok, Err}
+use Rattle.std.specs.Result.{result_or}
 use mathlib.Core.Path.{◌≡◌, refl, ap}
-use mathlib.Core.Bool.{true, cond, ◌&&◌}
+use mathlib.Core.Bool.{true, false, cond, ◌&&◌}
 use mathlib.Core.List.{List, [], ◌∷◌}
 use Prim.Native.Nat.{ℕ, suc, ◌+◌, ◌-◌, ◌*◌, ◌<◌, ◌≤◌}
 use native.Mathlib.Omega.{arith}
@@ -13,7 +14,9 @@ use Rattle.entry.specs.Table.{Dict, number_of, index_at, name_at, name_len_at}
 use Rattle.entry.specs.Judge.{well_formed}
 use Rattle.entry.proofs.JudgeLaws.{head_ok_lem, headed}
 use Rattle.entry.proofs.FactLaws.{row_facts}
-use Rattle.answers.specs.declared.Refusal.TheVariants.{ObjectNotFound}
+use Rattle.entry.specs.Rules.{is_good}
+use Rattle.answers.specs.declared.Refusal.{Refusal}
+use Rattle.answers.specs.declared.Refusal.TheVariants.{BadValue, ObjectNotFound}
 use Rattle.names.specs.Names.{same, name_of, name_from}
 
 -- the library's test of bytes is this one
@@ -23,6 +26,15 @@ same_bytes [] [] = refl
 same_bytes [] (y ∷ ys) = refl
 same_bytes (x ∷ xs) [] = refl
 same_bytes (x ∷ xs) (y ∷ ys) = ap (λ b. eqb x y && b) (same_bytes xs ys)
+
+-- ---- bad text, for which a refusal of the call's own stands
+pub bad_text : (g : Result (Unit {0}) ℕ) (e : Refusal) → result_or g (Err BadValue) ≡ Err e → (is_good g ≡ false) × (e ≡ BadValue)
+bad_text (Ok u) e h = let z : ◌≡◌ {A = ℕ} 0 1 = cc in absurd (omega arith)
+bad_text (Err k) e h = (refl, cc)
+
+pub good_text : (g : Result (Unit {0}) ℕ) (u : Unit {0}) → result_or {D = Refusal} g (Err BadValue) ≡ Ok u → is_good g ≡ true
+good_text (Ok v) u h = refl
+good_text (Err k) u h = let z : ◌≡◌ {A = ℕ} 0 1 = cc in absurd (omega arith)
 
 -- ---- where a row and its name lie
 pub record NameLies (d : Dict) (i : ℕ) : Type 0 where

@@ -6,14 +6,16 @@ ghost use Rattle.entry.specs.Table.{dict, number_of};
 ghost use Rattle.names.specs.Names.{same, name_of, name_from, by_name_of};
 
 use answers::Refusal;
+use entry::Row;
 use judge::Dictionary;
 
 fn has_name(d: &Dictionary, i: usize, name: &[u8]) -> bool
     requires { i < number_of d.now.objects }
     ensures { result ≡ same (name_of d.now i) name.now }
 {
-    let start = entry::name_at(d.objects, i) as usize;
-    let end = start + entry::name_len_at(d.objects, i) as usize;
+    let row = Row(d.objects, i);
+    let start = row.name() as usize;
+    let end = start + row.name_len() as usize;
     let own = &d.bytes[start..end];
     own == name
 }
@@ -23,7 +25,7 @@ fn first_named(d: &Dictionary, name: &[u8]) -> Result<u16, Refusal>
 {
     for i in 0..entry::number_of(d.objects) as usize {
         if has_name(d, i, name) {
-            return Ok(entry::index_at(d.objects, i) as u16);
+            return Ok(Row(d.objects, i).index() as u16);
         }
     }
     Err(Refusal::ObjectNotFound)
@@ -38,10 +40,8 @@ pub fn find_by_name_judged(d: &Dictionary, name: &[u8]) -> Result<u16, Refusal>
     if name.len() > 32 {
         return Err(Refusal::BadValue);
     }
-    match text::text_ok(name) {
-        Ok(()) => first_named(d, name),
-        Err(_) => Err(Refusal::BadValue),
-    }
+    text::text_ok(name).or(Err(Refusal::BadValue))?;
+    first_named(d, name)
 }
 
 // The lowest index of that name.

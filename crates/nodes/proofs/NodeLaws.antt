@@ -69,12 +69,6 @@ walked_end slots words n p m k w h =
     let r : length (rest slots words n p k) ≡ 0 = ap length (rest_end slots words n p k h) in
     omega (arith, w.left, r)
 
--- a place for one more
-pub walked_free : (slots words : List ℕ) (n p m k : ℕ) → Walked slots words n p m k → k < n → configured (type_at slots (p + k)) (get_or words (p + k) 0) ≡ true → m < length (nodes_from slots words n 1 p)
-walked_free slots words n p m k w h e =
-    let r = ap length (rest_yes slots words n p k h e) in
-    omega (arith, w.left, r)
-
 -- ---- and laid over what was lent
 pub record Laid (slots words : List ℕ) (n p : ℕ) (lent out : List ℕ) (m k : ℕ) : Type 0 where
   pub walked : Walked slots words n p m k

@@ -13,7 +13,9 @@ use Rattle.entry.specs.Table.{Dict, type_at, start_at}
 use Rattle.entry.specs.Find.{place_of}
 use Rattle.entry.specs.Judge.{well_formed}
 use Rattle.entry.specs.declared.Place.{Place}
-use Rattle.entry.specs.declared.Place.TheVariants.{NoObject, NoSub, Count, Value}
+use Rattle.entry.specs.declared.Place.TheVariants.{Count, Value}
+use Rattle.entry.specs.declared.Missing.{Missing}
+use Rattle.entry.specs.declared.Missing.TheVariants.{NoObject, NoSub}
 use Rattle.entry.proofs.ValueLaws.{element_of_lem, element_facts}
 use Rattle.od.specs.Read.{read_at, read_of, read_as}
 
@@ -27,14 +29,14 @@ text_lies : (d : Dict) (x sub kind word start : ℕ) → read_of d x sub ≡ rea
 unfolding read_of
 text_lies d x sub kind word start q t = formed (well_formed d) refl q
   where
-    at : well_formed d ≡ true → (a : Place) → place_of d.objects x sub ≡ a → read_at d a ≡ read_as kind word start → start + word ≤ length d.bytes
-    at w NoObject p e = let z : ◌≡◌ {A = ℕ} 0 1 = cc in absurd (omega arith)
-    at w NoSub p e = let z : ◌≡◌ {A = ℕ} 0 1 = cc in absurd (omega arith)
-    at w (Count n) p e =
+    at : well_formed d ≡ true → (a : Result Place Missing) → place_of d.objects x sub ≡ a → read_at d a ≡ read_as kind word start → start + word ≤ length d.bytes
+    at w (Err NoObject) p e = let z : ◌≡◌ {A = ℕ} 0 1 = cc in absurd (omega arith)
+    at w (Err NoSub) p e = let z : ◌≡◌ {A = ℕ} 0 1 = cc in absurd (omega arith)
+    at w (Ok (Count n)) p e =
         let f : false ≡ true = ap is_text (same_read 5 n 0 kind word start e).0 ∙ t in
         let z : ◌≡◌ {A = ℕ} 0 1 = cc in
         absurd (omega arith)
-    at w (Value v) p e =
+    at w (Ok (Value v)) p e =
         let f = element_facts d w (element_of_lem d w x sub v p) in
         let h = same_read (type_at d.slots v) (get_or d.words v 0) (start_at d.slots v) kind word start e in
         let l = (f.text (ap is_text h.0 ∙ t)).0 in

@@ -8,18 +8,20 @@ use Rattle.entry.specs.Table.{Dict, type_at, start_at}
 use Rattle.entry.specs.Find.{place_of}
 use Rattle.entry.specs.Judge.{well_formed}
 use Rattle.entry.specs.declared.Place.{Place}
-use Rattle.entry.specs.declared.Place.TheVariants.{NoObject, NoSub, Count, Value}
+use Rattle.entry.specs.declared.Place.TheVariants.{Count, Value}
+use Rattle.entry.specs.declared.Missing.{Missing}
+use Rattle.entry.specs.declared.Missing.TheVariants.{NoObject, NoSub}
 
--- what stands at a place; the count of a list's elements is a U8, type 5
 -- a value of type t and its word, whose text or bytes start there
 abbrev pub read_as : ℕ → ℕ → ℕ → Result Stored Refusal
 read_as t word start = Ok (record { value_type = t; word = word; start = start })
 
-abbrev pub read_at : Dict → Place → Result Stored Refusal
-read_at d NoObject = Err ObjectNotFound
-read_at d NoSub = Err SubObjectNotFound
-read_at d (Count n) = read_as 5 n 0
-read_at d (Value p) = read_as (type_at d.slots p) (get_or d.words p 0) (start_at d.slots p)
+-- what stands at a place; the count of a list's elements is a U8, type 5
+abbrev pub read_at : Dict → Result Place Missing → Result Stored Refusal
+read_at d (Err NoObject) = Err ObjectNotFound
+read_at d (Err NoSub) = Err SubObjectNotFound
+read_at d (Ok (Count n)) = read_as 5 n 0
+read_at d (Ok (Value p)) = read_as (type_at d.slots p) (get_or d.words p 0) (start_at d.slots p)
 
 unfoldable pub read_of : Dict → ℕ → ℕ → Result Stored Refusal
 read_of d x sub = cond (well_formed d) (read_at d (place_of d.objects x sub)) (Err Malformed)

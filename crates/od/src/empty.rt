@@ -11,7 +11,7 @@ pub fn new(objects: &mut [u64], edition: u64) -> Result<(), Refusal>
     if (edition != 1) & (edition != 2) {
         return Err(Refusal::Malformed);
     }
-    let header = entry::row(0);
+    let header = entry::row_place(0);
     if objects.len() < header {
         return Err(Refusal::Full);
     }

@@ -8,7 +8,7 @@ ghost use Rattle.od.specs.Read.{read_of, part_in, of_type};
 
 use crate::Stored;
 use answers::Refusal;
-use entry::Place;
+use entry::{Place, Slot};
 use judge::Dictionary;
 
 // The value at a sub-index of row i, which has the index.
@@ -17,18 +17,20 @@ fn read_in(d: &Dictionary, i: usize, index: u16, sub: u8) -> Result<Stored, Refu
     ensures { result ≡ read_of d.now index sub }
 {
     match entry::sub_at(d.objects, i, sub) {
-        Place::NoObject => Err(Refusal::ObjectNotFound),
-        Place::NoSub => Err(Refusal::SubObjectNotFound),
-        Place::Count(n) => Ok(Stored {
+        None => Err(Refusal::SubObjectNotFound),
+        Some(Place::Count(n)) => Ok(Stored {
             value_type: 5,
             word: n,
             start: 0,
         }),
-        Place::Value(p) => Ok(Stored {
-            value_type: entry::type_at(d.slots, p),
-            word: d.words[p],
-            start: entry::start_at(d.slots, p),
-        }),
+        Some(Place::Value(p)) => {
+            let slot = Slot(d.slots, p);
+            Ok(Stored {
+                value_type: slot.value_type(),
+                word: d.words[p],
+                start: slot.start(),
+            })
+        }
     }
 }
 
@@ -63,14 +65,12 @@ fn part_in<'a>(bytes: &'a [u8], found: Result<Stored, Refusal>) -> &'a [u8]
     ensures { result.now ≡ part_in bytes.now found }
 {
     match found {
-        Ok(v) => if value::is_text(v.value_type) {
+        Ok(v) if value::is_text(v.value_type) => {
             let from = v.start as usize;
             let end = from + v.word as usize;
             &bytes[from..end]
-        } else {
-            &bytes[0..0]
-        },
-        Err(_) => &bytes[0..0],
+        }
+        _ => &[],
     }
 }
 
@@ -113,13 +113,11 @@ pub fn read_part<'a>(
 fn of_type(found: Result<Stored, Refusal>, t: u64) -> Result<u64, Refusal>
     ensures { result ≡ of_type t found }
 {
-    match found {
-        Ok(v) => if v.value_type == t {
-            Ok(v.word)
-        } else {
-            Err(Refusal::TypeMismatch)
-        },
-        Err(r) => Err(r),
+    let v = found?;
+    if v.value_type == t {
+        Ok(v.word)
+    } else {
+        Err(Refusal::TypeMismatch)
     }
 }
 

@@ -1,5 +1,7 @@
 -- The walk over the mapping words. Assumes nothing.
-use Rattle.std.specs.Prelude.{Option, Some, None}
+use Rattle.std.specs.Prelude.{Option, Some, None, Err}
+use Rattle.std.specs.Option.{ok_or}
+use Rattle.answers.specs.declared.Refusal.{Refusal}
 use mathlib.Core.Path.{◌≡◌, refl}
 use mathlib.Core.Bool.{cond}
 use mathlib.Core.List.{List}
@@ -11,8 +13,6 @@ use lib.Dec.{eqb}
 use lib.ListN.{get_or}
 use Rattle.mapping.specs.Word.{entry_of, end_of}
 use Rattle.entry.specs.Table.{type_at}
-use Rattle.entry.specs.declared.Place.{Place}
-use Rattle.entry.specs.declared.Place.TheVariants.{NoObject, NoSub, Count, Value}
 use Rattle.pdo_validator.specs.Counting.{most, ends_from}
 
 pub most_max : (a b : ℕ) → ord_max nat_cmp a b ≡ most a b
@@ -34,9 +34,7 @@ pub rest_end : (slots words : List ℕ) (n p k e : ℕ) → n ≤ k → rest slo
 unfolding ends_from
 rest_end slots words n p k e h = let a : n - k ≡ 0 = omega arith in rw a
 
--- what a definition comes to at a place that is no value's, where it says the same of the three others
-pub not_value : {A : Type 0} (f : Place → A) {x : A} → x ≡ f NoObject → x ≡ f NoSub → ((n : ℕ) → x ≡ f (Count n)) → (a : Place) → ((p : ℕ) → a ≡ Value p → ⊥) → x ≡ f a
-not_value f o s c NoObject k = o
-not_value f o s c NoSub k = s
-not_value f o s c (Count n) k = c n
-not_value f o s c (Value p) k = absurd (k p refl)
+-- what `ok_or` refuses was missing
+pub refused : (o : Option ℕ) (k e : Refusal) → ok_or o k ≡ Err e → (o ≡ None) × (e ≡ k)
+refused (Some x) k e h = let z : ◌≡◌ {A = ℕ} 0 1 = cc in absurd (omega arith)
+refused None k e h = (refl, cc)

@@ -7,14 +7,14 @@ use Rattle.entry.specs.Table.{Dict, sends, is_mapping, kind_at, count_at, first_
 use Rattle.entry.specs.Find.{find_row, place_of}
 use Rattle.entry.specs.Judge.{well_formed}
 use Rattle.entry.specs.declared.Place.{Place}
-use Rattle.entry.specs.declared.Place.TheVariants.{NoObject, NoSub, Count, Value}
+use Rattle.entry.specs.declared.Place.TheVariants.{Count, Value}
+use Rattle.entry.specs.declared.Missing.{Missing}
 
 -- R9.3: the U16 there, or 1,490
-abbrev pub u16_at : Dict → Place → ℕ
-u16_at d (Value p) = cond (eqb (type_at d.slots p) 6) (get_or d.words p 0) 1490
-u16_at d (Count n) = 1490
-u16_at d NoSub = 1490
-u16_at d NoObject = 1490
+abbrev pub u16_at : Dict → Result Place Missing → ℕ
+u16_at d (Ok (Value p)) = cond (eqb (type_at d.slots p) 6) (get_or d.words p 0) 1490
+u16_at d (Ok (Count n)) = 1490
+u16_at d (Err m) = 1490
 
 unfoldable pub limit_of : Dict → ℕ → ℕ
 limit_of d x = u16_at d (place_of d.objects 0x1F98 (cond (sends x) 1 2))

@@ -7,7 +7,7 @@ ghost use Rattle.entry.specs.Find.{Elements};
 ghost use Rattle.pdo_validator.specs.Counting.{limit_of, ends_from, within_limit, count_on, count_of, valid_of};
 
 use answers::Refusal;
-use entry::Place;
+use entry::{Place, Row, Slot};
 use judge::Dictionary;
 use mapping::PdoMappingEntry;
 
@@ -22,13 +22,10 @@ fn limit(d: &Dictionary, index: u16) -> u64
     ensures { result ≡ limit_of d.now index }
 {
     let sub = if is_sent(index) { 1 } else { 2 };
-    let Place::Value(p) = entry::locate(d.objects, 0x1F98, sub) else {
-        return 1490;
-    };
-    if entry::type_at(d.slots, p) == 6 {
-        return d.words[p];
+    match entry::locate(d.objects, 0x1F98, sub) {
+        Ok(Place::Value(p)) if Slot(d.slots, p).value_type() == 6 => d.words[p],
+        _ => 1490,
     }
-    1490
 }
 
 // The largest end of n mapping words, of which the first lies at slot `first`.
@@ -38,7 +35,7 @@ pub fn ends(slots: &[u64], words: &[u64], n: usize, first: usize) -> Option<usiz
 {
     let mut end = 0;
     for k in 0..n {
-        if entry::type_at(slots, first + k) != 8 {
+        if Slot(slots, first + k).value_type() != 8 {
             return None;
         }
         end = end.max(PdoMappingEntry::from_u64(words[first + k]).end());
@@ -49,13 +46,11 @@ pub fn ends(slots: &[u64], words: &[u64], n: usize, first: usize) -> Option<usiz
 fn fits(limit: u64, ends: Option<usize>) -> Result<(), Refusal>
     ensures { result ≡ within_limit limit ends }
 {
-    match ends {
-        None => Err(Refusal::MissingEntries),
-        Some(e) => if e as u64 <= limit {
-            Ok(())
-        } else {
-            Err(Refusal::PdoMapOverrun)
-        },
+    let end = ends.ok_or(Refusal::MissingEntries)?;
+    if end as u64 <= limit {
+        Ok(())
+    } else {
+        Err(Refusal::PdoMapOverrun)
     }
 }
 
@@ -64,13 +59,14 @@ fn count_in(d: &Dictionary, index: u16, n: u8, i: usize) -> Result<(), Refusal>
     requires { i < number_of d.now.objects }
     ensures { result ≡ count_on d.now index n (Some i) }
 {
-    if entry::kind_at(d.objects, i) != 1 {
+    let row = Row(d.objects, i);
+    if row.kind() != 1 {
         return Err(Refusal::ObjectNotFound);
     }
-    if entry::count_at(d.objects, i) < n as u64 {
+    if row.count() < n as u64 {
         return Err(Refusal::MissingEntries);
     }
-    let first = entry::first_at(d.objects, i) as usize;
+    let first = row.first() as usize;
     let found = ends(d.slots, d.words, n as usize, first);
     fits(limit(d, index), found)
 }
@@ -82,13 +78,11 @@ pub fn judge_count(d: &Dictionary, index: u16, n: u8) -> Result<(), Refusal>
     if (n == 0) | !entry::is_mapping(index as u64) {
         return Ok(());
     }
-    let Some(i) = entry::find(d.objects, index) else {
-        return Err(Refusal::ObjectNotFound);
-    };
+    let i = entry::find(d.objects, index).ok_or(Refusal::ObjectNotFound)?;
     count_in(d, index, n, i)
 }
 
-// May the first n elements of the mapping at an index be used? For an index of no mapping, and for n = 0: Done.
+// May the first n elements of the mapping at an index be used? For an index of no mapping, and for n = 0: `Ok`.
 #[tactic(auto, unfolding(crate::specs::Counting::valid_of))]
 pub fn validate_pdo_mapping(
     objects: &[u64],

@@ -4,3 +4,4 @@ pub mod FitLaws
 pub mod RestoreLaws
 pub mod WalkLaws
 pub mod CopyLaws
+pub mod RestoringLaws

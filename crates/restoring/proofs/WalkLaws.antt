@@ -7,7 +7,7 @@ use native.Mathlib.Omega.{arith}
 use Rattle.lists.specs.Numbers.{Bytes}
 use Rattle.entry.specs.Table.{Dict, number_of, index_at, count_at}
 use Rattle.image.specs.Ranges.{covers, Spans}
-use Rattle.image.specs.declared.ranging.Span.{Span}
+use Rattle.std.specs.declared.ops.Range.{Range}
 use Rattle.image.proofs.RangeLaws.{walk_from, walk_end}
 use Rattle.fitting.specs.Fit.{slot_in, chosen_at, fits_room, in_range}
 use Rattle.restoring.specs.Restore.{values_restored, rows_restored}
@@ -39,8 +39,8 @@ module _ (d : Dict) (s : List ℕ) where
     skip n i e = rw e
 
     -- ---- the rows of the range
-    module _ {r : Span} (c : Spans d.objects first last r) where
-      pub rows_put_from : rows_restored d s first last (number_of d.objects) 0 ≡ rows_restored d s first last (number_of d.objects - r.from) r.from
+    module _ {r : Range ℕ} (c : Spans d.objects first last r) where
+      pub rows_put_from : rows_restored d s first last (number_of d.objects) 0 ≡ rows_restored d s first last (number_of d.objects - r.start) r.start
       rows_put_from = walk_from c (rows_restored d s first last) skip
 
       pub rows_put_end : (i : ℕ) → r.end ≤ i → i ≤ number_of d.objects → rows_restored d s first last (number_of d.objects - i) i ≡ d

@@ -3,5 +3,7 @@
 
 mod acting;
 mod restore;
+mod restoring;
 
 pub use restore::{restore_judged, restore_power_on_values};
+pub use restoring::Restoring;

@@ -1,38 +1,24 @@
 // The public call, and what it does once the dictionary was judged.
-ghost use Rattle.std.specs.Prelude.{◌≡◌, true};
+ghost use Rattle.std.specs.Prelude.{◌≡◌};
 ghost use Rattle.entry.specs.Table.{dict};
-ghost use Rattle.entry.specs.Judge.{well_formed};
 ghost use Rattle.restoring.specs.Restore.{after_restore, restore_of};
+ghost use Rattle.restoring.specs.Restoring.{dict_of, Same};
 
+use crate::Restoring;
 use crate::acting::restore_rows;
 use answers::Refusal;
-use fitting::{records, rows_fit};
-use judge::Dictionary;
+use fitting::{Image, rows_fit};
 
 // What `restore_power_on_values` does with a dictionary that was judged.
-pub fn restore_judged(
-    objects: &[u64],
-    slots: &mut [u64],
-    words: &mut [u64],
-    bytes: &mut [u8],
-    store: &[u8],
-    first: u16,
-    last: u16,
-) -> Result<(), Refusal>
-    requires { well_formed (dict objects.now slots.old words.old bytes.old) ≡ true }
-    ensures { after_restore result (dict objects.now slots.new words.new bytes.new) ≡ restore_of (dict objects.now slots.old words.old bytes.old) store.now first last }
+pub fn restore_judged(d: &mut Restoring, store: &[u8], first: u16, last: u16) -> Result<(), Refusal>
+    ensures same { Same d.old d.new }
+    ensures left { after_restore result (dict_of d.new) ≡ restore_of (dict_of d.old) store.now first last }
 {
-    let n = records(store);
-    let d = Dictionary {
-        objects,
-        slots,
-        words,
-        bytes,
-    };
-    if !rows_fit(&d, store, n, first, last) {
+    let mut stored = Image::judged(store);
+    if !rows_fit(&d.shown(), &mut stored, first, last) {
         return Err(Refusal::TooLong);
     }
-    restore_rows(objects, slots, words, bytes, store, n, first, last);
+    restore_rows(d, &mut stored, first, last);
     Ok(())
 }
 
@@ -51,5 +37,11 @@ pub fn restore_power_on_values(
     if !judge::well_formed(objects, slots, words, bytes) {
         return Err(Refusal::Malformed);
     }
-    restore_judged(objects, slots, words, bytes, store, first, last)
+    let mut d = Restoring {
+        objects,
+        slots,
+        words,
+        bytes,
+    };
+    restore_judged(&mut d, store, first, last)
 }

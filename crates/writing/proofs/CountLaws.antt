@@ -1,5 +1,5 @@
 -- Where a write keeps a count: in edition 2, of a mapping's row, and no more than its elements. Assumes nothing.
-use Rattle.std.specs.Prelude.{Option, Some, None, Ok, Err}
+use Rattle.std.specs.Prelude.{Option, Some, None, Result, Ok, Err}
 use mathlib.Core.Path.{◌≡◌, refl, sym, ap, ◌∙◌}
 use mathlib.Core.Bool.{Bool, true, false, cond, not, ◌&&◌, ◌||◌}
 use mathlib.Core.List.{List}
@@ -9,6 +9,7 @@ use borrow.Author.Tests.{eqb-true, leb-true}
 use lib.Dec.{eqb, leb, ltb}
 use lib.ListN.{length, get_or}
 use Rattle.lists.specs.Numbers.{number}
+use Rattle.answers.specs.declared.Refusal.{Refusal}
 use Rattle.answers.specs.declared.Refusal.TheVariants.{ObjectNotFound, MissingEntries, ReadOnly, TypeMismatch, TooLong, OutOfRange, CountNotWritable}
 use Rattle.value.specs.Codec.{is_text}
 use Rattle.entry.specs.declared.Extra.{Extra}
@@ -16,10 +17,11 @@ use Rattle.entry.specs.Table.{Dict, edition_of, is_mapping, number_of, kind_at, 
 use Rattle.entry.specs.Find.{find_row, sub_at}
 use Rattle.entry.specs.Judge.{well_formed}
 use Rattle.entry.specs.declared.Place.{Place}
-use Rattle.entry.specs.declared.Place.TheVariants.{NoObject, NoSub, Count, Value}
+use Rattle.entry.specs.declared.Place.TheVariants.{Count, Value}
 use Rattle.entry.proofs.ValueLaws.{found_lies}
 use Rattle.pdo_validator.specs.Counting.{limit_of, ends_from, within_limit, count_on, count_of}
-use Rattle.writing.specs.declared.Judged.TheVariants.{Put, Accepted, Keep, Refused}
+use Rattle.writing.specs.declared.Act.{Act}
+use Rattle.writing.specs.declared.Act.TheVariants.{Put, Accepted, Keep}
 use Rattle.writing.specs.Judging.{outside, at_value, keep_of, in_place, in_object, count_first, judge_of}
 use Rattle.writing.proofs.ReachLaws.{reached}
 
@@ -31,11 +33,11 @@ pub record Counted (d : Dict) (x sub : ℕ) (s : List ℕ) (i n : ℕ) : Type 0 
   pub mapping : is_mapping x ≡ true
   pub count : eqb sub 0 ≡ true
 
-sub-count : (objects : List ℕ) (i sub m : ℕ) → sub_at objects i sub ≡ Count m → eqb sub 0 ≡ true
+sub-count : (objects : List ℕ) (i sub m : ℕ) → sub_at objects i sub ≡ Some (Count m) → eqb sub 0 ≡ true
 unfolding sub_at
 sub-count objects i sub m e = go (eqb (kind_at objects i) 0) (eqb sub 0) (leb sub (count_at objects i)) e
   where
-    go : (k b l : Bool) → cond k (cond b (Value (first_at objects i)) NoSub) (cond b (Count (list_count objects i)) (cond l (Value (first_at objects i + (sub - 1))) NoSub)) ≡ Count m → b ≡ true
+    go : (k b l : Bool) → cond k (cond b (Some (Value (first_at objects i))) None) (cond b (Some (Count (list_count objects i))) (cond l (Some (Value (first_at objects i + (sub - 1)))) None)) ≡ Some (Count m) → b ≡ true
     go true true l e = refl
     go true false l e = let z : ◌≡◌ {A = ℕ} 0 1 = cc in absurd (omega arith)
     go false true l e = refl
@@ -57,37 +59,36 @@ count_fits d x n i m f e = go (eqb n 0) (is_mapping x) refl m (sym (ap (λ g. co
     go false true h m e = on (eqb (kind_at d.objects i) 1) (leb n (count_at d.objects i)) refl e
     go false false h m e = let z : ◌≡◌ {A = ℕ} 0 1 = cc in absurd (omega arith)
 
-value_not_kept : (slots : List ℕ) (x : Extra) (q t : ℕ) (s : List ℕ) (i n : ℕ) → at_value slots x q t s ≡ Keep i n → ⊥
+value_not_kept : (slots : List ℕ) (x : Extra) (q t : ℕ) (s : List ℕ) (i n : ℕ) → at_value slots x q t s ≡ Ok (Keep i n) → ⊥
 unfolding at_value
 value_not_kept slots x q t s i n e = go (eqb (type_at slots q) t) (outside x t (number s)) (is_text t && ltb (room_at slots q) (length s)) e
   where
-    go : (a b c : Bool) → cond a (cond b (Refused OutOfRange) (cond c (Refused TooLong) (Put q))) (Refused TypeMismatch) ≡ Keep i n → ⊥
+    go : (a b c : Bool) → ◌≡◌ {A = Result Act Refusal} (cond a (cond b (Err OutOfRange) (cond c (Err TooLong) (Ok (Put q)))) (Err TypeMismatch)) (Ok (Keep i n)) → ⊥
     go true true c e = let z : ◌≡◌ {A = ℕ} 0 1 = cc in omega arith
     go true false true e = let z : ◌≡◌ {A = ℕ} 0 1 = cc in omega arith
     go true false false e = let z : ◌≡◌ {A = ℕ} 0 1 = cc in omega arith
     go false b c e = let z : ◌≡◌ {A = ℕ} 0 1 = cc in omega arith
 
-object_kept : (d : Dict) (x sub t : ℕ) (s : List ℕ) (i n : ℕ) → in_object d x sub t s (find_row d.objects x) ≡ Keep i n → Counted d x sub s i n
+object_kept : (d : Dict) (x sub t : ℕ) (s : List ℕ) (i n : ℕ) → in_object d x sub t s (find_row d.objects x) ≡ Ok (Keep i n) → Counted d x sub s i n
 unfolding keep_of
 object_kept d x sub t s i n e = row (find_row d.objects x) refl e
   where
-    counted : (j m : ℕ) → find_row d.objects x ≡ Some j → sub_at d.objects j sub ≡ Count m → (a b : Bool) → is_mapping x ≡ a → eqb (edition_of d.objects) 2 ≡ b
-        → cond a (cond b (Keep j (get_or s 0 0)) Accepted) (Refused CountNotWritable) ≡ Keep i n → Counted d x sub s i n
+    counted : (j m : ℕ) → find_row d.objects x ≡ Some j → sub_at d.objects j sub ≡ Some (Count m) → (a b : Bool) → is_mapping x ≡ a → eqb (edition_of d.objects) 2 ≡ b
+        → ◌≡◌ {A = Result Act Refusal} (cond a (Ok (cond b (Keep j (get_or s 0 0)) Accepted)) (Err CountNotWritable)) (Ok (Keep i n)) → Counted d x sub s i n
     counted j m f w true true u v e = record { found = f ∙ ap Some (cc e); number = cc e; edition = v; mapping = u; count = sub-count d.objects j sub m w }
     counted j m f w true false u v e = let z : ◌≡◌ {A = ℕ} 0 1 = cc in absurd (omega arith)
     counted j m f w false b u v e = let z : ◌≡◌ {A = ℕ} 0 1 = cc in absurd (omega arith)
 
-    place : (j : ℕ) → find_row d.objects x ≡ Some j → (q : Place) → sub_at d.objects j sub ≡ q → in_place d j x t s q ≡ Keep i n → Counted d x sub s i n
-    place j f NoObject w e = let z : ◌≡◌ {A = ℕ} 0 1 = cc in absurd (omega arith)
-    place j f NoSub w e = let z : ◌≡◌ {A = ℕ} 0 1 = cc in absurd (omega arith)
-    place j f (Count m) w e = counted j m f w (is_mapping x) (eqb (edition_of d.objects) 2) refl refl e
-    place j f (Value q) w e = absurd (value_not_kept d.slots (extra_at d.objects j) q t s i n e)
+    place : (j : ℕ) → find_row d.objects x ≡ Some j → (q : Option Place) → sub_at d.objects j sub ≡ q → in_place d j x t s q ≡ Ok (Keep i n) → Counted d x sub s i n
+    place j f None w e = let z : ◌≡◌ {A = ℕ} 0 1 = cc in absurd (omega arith)
+    place j f (Some (Count m)) w e = counted j m f w (is_mapping x) (eqb (edition_of d.objects) 2) refl refl e
+    place j f (Some (Value q)) w e = absurd (value_not_kept d.slots (extra_at d.objects j) q t s i n e)
 
-    allowed : (j : ℕ) → find_row d.objects x ≡ Some j → (b : Bool) → cond b (Refused ReadOnly) (in_place d j x t s (sub_at d.objects j sub)) ≡ Keep i n → Counted d x sub s i n
+    allowed : (j : ℕ) → find_row d.objects x ≡ Some j → (b : Bool) → cond b (Err ReadOnly) (in_place d j x t s (sub_at d.objects j sub)) ≡ Ok (Keep i n) → Counted d x sub s i n
     allowed j f true e = let z : ◌≡◌ {A = ℕ} 0 1 = cc in absurd (omega arith)
     allowed j f false e = place j f (sub_at d.objects j sub) refl e
 
-    row : (f : Option ℕ) → find_row d.objects x ≡ f → in_object d x sub t s f ≡ Keep i n → Counted d x sub s i n
+    row : (f : Option ℕ) → find_row d.objects x ≡ f → in_object d x sub t s f ≡ Ok (Keep i n) → Counted d x sub s i n
     row (Some j) f e = allowed j f (eqb (access_at d.objects j) 0 || eqb (access_at d.objects j) 5) e
     row None f e = let z : ◌≡◌ {A = ℕ} 0 1 = cc in absurd (omega arith)
 
@@ -97,7 +98,7 @@ pub record Keeping (d : Dict) (x sub : ℕ) (s : List ℕ) (i n : ℕ) : Type 0 
   pub below : i < number_of d.objects
   pub few : n ≤ count_at d.objects i
 
-pub judged_keep : (d : Dict) → well_formed d ≡ true → (m x sub t : ℕ) (s : List ℕ) (i n : ℕ) → judge_of d m x sub t s ≡ Keep i n → Keeping d x sub s i n
+pub judged_keep : (d : Dict) → well_formed d ≡ true → (m x sub t : ℕ) (s : List ℕ) (i n : ℕ) → judge_of d m x sub t s ≡ Ok (Keep i n) → Keeping d x sub s i n
 unfolding count_first
 judged_keep d w m x sub t s i n e =
     let r = reached d m x sub t s (Keep i n) tt e in

@@ -1,4 +1,5 @@
 -- The cases of a write's judging. Assumes nothing.
+use Rattle.std.specs.Prelude.{Err}
 use mathlib.Core.Path.{◌≡◌, refl, sym, ap, subst, ◌∙◌}
 use mathlib.Core.Bool.{Bool, true, false, not, ◌&&◌, ◌||◌}
 use mathlib.Core.List.{List}
@@ -20,12 +21,11 @@ use Rattle.entry.specs.Table.{Dict, kept_at, count_at, number_of, extra_at, type
 use Rattle.entry.specs.Judge.{well_formed}
 use Rattle.entry.proofs.FactLaws.{row_facts}
 use Rattle.entry.proofs.JudgeLaws.{and_true}
-use Rattle.writing.specs.declared.Judged.TheVariants.{Refused}
 use Rattle.writing.specs.Judging.{outside, at_value}
 
 -- ---- at a value
 module _ (slots : List ℕ) (x : Extra) (p t : ℕ) (s : List ℕ) where
-  pub value_type : eqb (type_at slots p) t ≡ false → at_value slots x p t s ≡ Refused TypeMismatch
+  pub value_type : eqb (type_at slots p) t ≡ false → at_value slots x p t s ≡ Err TypeMismatch
   unfolding at_value
   value_type e = rw e
 

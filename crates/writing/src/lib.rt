@@ -9,24 +9,25 @@ pub use judging::judge_write;
 use value::CodecFault;
 pub use writing::{write, write_judged};
 
-// What a write comes to: a value put at a slot, a count that is accepted and not kept, one that a row keeps, a command, data that does not
-// decode, or another refusal.
+// What a write does: a value is put at a slot, a count accepted and not kept, or kept in a row, or a command followed.
 #[derive(Clone, Copy)]
-pub enum Judged {
+pub enum Act {
     Put(usize),
     Accepted,
     Keep(usize, u8),
     Save,
     Restore,
-    NoValue(CodecFault),
-    Refused(Refusal),
 }
 
-// Data that does not decode is refused as BadValue is, and why stands beside it.
 #[derive(Clone, Copy)]
 pub enum Wrote {
     Done,
     RestoreRequested,
+}
+
+// Data that does not decode is refused as BadValue is, and why stands beside it.
+#[derive(Clone, Copy)]
+pub enum WriteFault {
     NoValue(CodecFault),
     Refused(Refusal),
 }

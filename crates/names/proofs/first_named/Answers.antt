@@ -9,18 +9,18 @@ use Rattle.names.proofs.first_named.Goals as goal
 pub number_of-i-end-requires : goal.number_of-i-end-requires
 number_of-i-end-requires c = omega (arith, (rows_of _ c.d.invariant).long)
 
-pub index_at-requires : goal.index_at-requires
-index_at-requires c =
+pub invariant_of-index : goal.invariant_of-index
+invariant_of-index c =
     let l = name_lies _ c.d.invariant c.loop-i.i (omega arith) in
     (l.small, l.row)
 
 pub overflow_cast-result : goal.overflow_cast-result
-overflow_cast-result c = record { fits = omega (arith, c.index_at.ensures, (name_lies _ c.d.invariant c.loop-i.i (omega arith)).index) }
+overflow_cast-result c = record { fits = omega (arith, c.index.ensures, (name_lies _ c.d.invariant c.loop-i.i (omega arith)).index) }
 
 pub returns-then-has_name : goal.returns-then-has_name
 returns-then-has_name c =
     let step = c.loop-i.invariant ∙ name_step c.args.d.now c.args.name.now (number_of c.args.d.now.objects) c.loop-i.i (omega (arith, ap (λ (m : Dict). number_of m.objects) c.d.view_is)) in
-    simp (step, sym c.has_name.ensures ∙ c.if-has_name.true, c.index_at.ensures ∙ ap (λ (m : Dict). index_at m.objects c.loop-i.i) c.d.view_is)
+    simp (step, sym c.has_name.ensures ∙ c.if-has_name.true, c.index.ensures ∙ ap (λ (m : Dict). index_at m.objects c.loop-i.i) c.d.view_is)
 
 pub loop-i-preserved : goal.loop-i-preserved
 loop-i-preserved c =

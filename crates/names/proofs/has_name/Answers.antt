@@ -6,13 +6,8 @@ use borrow.Author.Rules.{rules}
 use native.Mathlib.Omega.{arith}
 use Rattle.names.proofs.has_name.Goals as goal
 
-pub name_at-start-requires : goal.name_at-start-requires
-name_at-start-requires c =
-    let l = name_lies _ c.d.invariant c.args.i (rw (sym c.d.view_is) at c.requires) in
-    (l.small, l.row)
-
-pub name_len_at-requires : goal.name_len_at-requires
-name_len_at-requires c =
+pub invariant_of-row : goal.invariant_of-row
+invariant_of-row c =
     let l = name_lies _ c.d.invariant c.args.i (rw (sym c.d.view_is) at c.requires) in
     (l.small, l.row)
 
@@ -26,5 +21,5 @@ slice_bounds-own-end c = omega (arith, (name_lies _ c.d.invariant c.args.i (rw (
 
 pub returns : goal.returns
 returns c =
-    let n : (c.name_at-start.result + c.name_len_at.result) - c.name_at-start.result ≡ c.name_len_at.result = omega arith in
-    c.eq.ensures ∙ rw (n, c.name_at-start.ensures, c.name_len_at.ensures, sym c.d.view_is) (same_bytes _ _)
+    let n : (c.name-start.result + c.name_len.result) - c.name-start.result ≡ c.name_len.result = omega arith in
+    c.eq.ensures ∙ rw (n, c.name-start.ensures, c.name_len.ensures, sym c.d.view_is) (same_bytes _ _)

@@ -14,29 +14,19 @@ pub returns-in_default : goal.returns-in_default
 unfolding elements_at
 returns-in_default c = rw (sym c.d.view_is) (ap (elements_on c.d.inside.objects.now) (sym c.in_default.is ∙ c.find.ensures))
 
-pub kind_at-requires : goal.kind_at-requires
-kind_at-requires c =
+pub invariant_of-row : goal.invariant_of-row
+invariant_of-row c =
     let l = found_lies _ c.d.invariant 0x1F81 c.in-Some.i (sym c.find.ensures ∙ c.in-Some.is) in
     (l.small, l.inside)
 
-pub count_at-requires : goal.count_at-requires
-count_at-requires c =
-    let l = found_lies _ c.d.invariant 0x1F81 c.in-Some.i (sym c.find.ensures ∙ c.in-Some.is) in
-    (l.small, l.inside)
-
-pub first_at-requires : goal.first_at-requires
-first_at-requires c =
-    let l = found_lies _ c.d.invariant 0x1F81 c.in-Some.i (sym c.find.ensures ∙ c.in-Some.is) in
-    (l.small, l.inside)
-
-pub returns-then-kind_at-eq1 : goal.returns-then-kind_at-eq1
+pub returns-then-kind-eq1 : goal.returns-then-kind-eq1
 unfolding elements_at
-returns-then-kind_at-eq1 c =
+returns-then-kind-eq1 c =
     let row : find_row c.d.inside.objects.now 0x1F81 ≡ Some c.in-Some.i = sym c.find.ensures ∙ c.in-Some.is in
-    rw (sym c.d.view_is) (simp (row, eq-eqb _ _ (sym c.kind_at.ensures ∙ c.if-kind_at-eq1.true)) (cc))
+    rw (sym c.d.view_is) (simp (row, eq-eqb _ _ (sym c.kind.ensures ∙ c.if-kind-eq1.true)) (cc))
 
 pub returns : goal.returns
 unfolding elements_at
 returns c =
     let row : find_row c.d.inside.objects.now 0x1F81 ≡ Some c.in-Some.i = sym c.find.ensures ∙ c.in-Some.is in
-    rw (sym c.d.view_is) (simp (row, ne_eqb _ _ (λ q. c.if-kind_at-eq1.false (c.kind_at.ensures ∙ q))))
+    rw (sym c.d.view_is) (simp (row, ne_eqb _ _ (λ q. c.if-kind-eq1.false (c.kind.ensures ∙ q))))

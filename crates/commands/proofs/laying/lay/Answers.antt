@@ -21,8 +21,8 @@ loop-i-init c =
       ap (recs_laid c.args.store.now 2 c.args.bodies_at 0) (sym e),
     )
 
-pub to_store-n-requires : goal.to_store-n-requires
-to_store-n-requires c =
+pub invariant_of-to_store : goal.invariant_of-to_store
+invariant_of-to_store c =
     let l = row_lies (dict c.d.inside.objects.now c.d.inside.slots.now c.d.inside.words.now c.d.inside.bytes.now) c.d.invariant c.loop-i.i (omega (arith, c.rows_in-rows.ensures.high.within)) in
     (l.small, l.inside)
 

@@ -9,46 +9,36 @@ use Rattle.commands.proofs.OfferLaws.{one_body}
 use Rattle.commands.proofs.WalkLaws.{value_few, value_there, value-length, value_lays, one_laid}
 use Rattle.commands.proofs.laying.lay_value.Goals as goal
 
-pub first_at-requires : goal.first_at-requires
-first_at-requires c =
+pub invariant_of-row : goal.invariant_of-row
+invariant_of-row c =
     let l = row_lies (dict c.d.inside.objects.now c.d.inside.slots.now c.d.inside.words.now c.d.inside.bytes.now) c.d.invariant c.args.i (rw (sym c.d.view_is) at c.requires.row.0.below) in
     (l.small, l.inside)
 
 pub overflow_add-p : goal.overflow_add-p
 overflow_add-p c =
-    let v = value_there _ _ c.d.view_is c.d.invariant c.args.i (c.args.k + 1) c.requires.row.0 c.args.k (omega arith) _ c.first_at.ensures in
+    let v = value_there _ _ c.d.view_is c.d.invariant c.args.i (c.args.k + 1) c.requires.row.0 c.args.k (omega arith) _ c.first.ensures in
     omega (arith, v)
-
-pub index_at-index-requires : goal.index_at-index-requires
-index_at-index-requires c =
-    let l = row_lies (dict c.d.inside.objects.now c.d.inside.slots.now c.d.inside.words.now c.d.inside.bytes.now) c.d.invariant c.args.i (rw (sym c.d.view_is) at c.requires.row.0.below) in
-    (l.small, l.inside)
-
-pub kind_at-requires : goal.kind_at-requires
-kind_at-requires c =
-    let l = row_lies (dict c.d.inside.objects.now c.d.inside.slots.now c.d.inside.words.now c.d.inside.bytes.now) c.d.invariant c.args.i (rw (sym c.d.view_is) at c.requires.row.0.below) in
-    (l.small, l.inside)
 
 pub sub_in-sub-requires : goal.sub_in-sub-requires
 sub_in-sub-requires c =
-    omega (arith, value_few _ _ c.d.view_is c.d.invariant c.args.i (c.args.k + 1) c.requires.row.0 c.args.k (omega arith) _ c.first_at.ensures)
+    omega (arith, value_few _ _ c.d.view_is c.d.invariant c.args.i (c.args.k + 1) c.requires.row.0 c.args.k (omega arith) _ c.first.ensures)
 
-pub type_at-t-requires : goal.type_at-t-requires
-type_at-t-requires c =
-    let v = value_there _ _ c.d.view_is c.d.invariant c.args.i (c.args.k + 1) c.requires.row.0 c.args.k (omega arith) _ c.first_at.ensures in
+pub invariant_of-value_type : goal.invariant_of-value_type
+invariant_of-value_type c =
+    let v = value_there _ _ c.d.view_is c.d.invariant c.args.i (c.args.k + 1) c.requires.row.0 c.args.k (omega arith) _ c.first.ensures in
     (v.0, v.1)
 
 pub length_at-len-requires : goal.length_at-len-requires
 length_at-len-requires c =
-    value_there _ _ c.d.view_is c.d.invariant c.args.i (c.args.k + 1) c.requires.row.0 c.args.k (omega arith) _ c.first_at.ensures
+    value_there _ _ c.d.view_is c.d.invariant c.args.i (c.args.k + 1) c.requires.row.0 c.args.k (omega arith) _ c.first.ensures
 
 pub lay_encoding-requires : goal.lay_encoding-requires
 lay_encoding-requires c =
-    value_lays _ _ c.d.view_is c.d.invariant c.args.i (c.args.k + 1) c.requires.row.0 c.args.k (omega arith) _ c.first_at.ensures _ _ (omega arith)
+    value_lays _ _ c.d.view_is c.d.invariant c.args.i (c.args.k + 1) c.requires.row.0 c.args.k (omega arith) _ c.first.ensures _ _ (omega arith)
 
 pub returns-clause-value : goal.returns-clause-value
 returns-clause-value c =
-    value-length _ _ c.d.view_is c.d.invariant c.args.i (c.args.k + 1) c.requires.row.0 c.args.k (omega arith) _ c.first_at.ensures _ c.length_at-len.ensures
+    value-length _ _ c.d.view_is c.d.invariant c.args.i (c.args.k + 1) c.requires.row.0 c.args.k (omega arith) _ c.first.ensures _ c.length_at-len.ensures
     ∙ sym (one_body c.args.d.now c.args.i c.args.k)
 
 pub returns-clause-store_after : goal.returns-clause-store_after
@@ -57,8 +47,8 @@ returns-clause-store_after c =
     let a = c.args in
     rw (sym c.d.view_is)
     (c.lay_encoding.ensures
-    ∙ ap₂ (λ x m. over x (a.bodies_at + a.start) (encoding_at d (m + a.k))) c.lay_head.ensures c.first_at.ensures
-    ∙ one_laid d a.i a.store.now a.at a.bodies_at a.k _ _ _ a.start _ c.index_at-index.ensures
-    (c.sub_in-sub.ensures ∙ ap (λ m. sub_in m a.k) c.kind_at.ensures)
-    (c.type_at-t.ensures ∙ ap (λ m. type_at c.d.inside.slots.now (m + a.k)) c.first_at.ensures)
-    (rw (sym c.d.view_is) at (value-length _ _ c.d.view_is c.d.invariant a.i (a.k + 1) c.requires.row.0 a.k (omega arith) _ c.first_at.ensures _ c.length_at-len.ensures)))
+    ∙ ap₂ (λ x m. over x (a.bodies_at + a.start) (encoding_at d (m + a.k))) c.lay_head.ensures c.first.ensures
+    ∙ one_laid d a.i a.store.now a.at a.bodies_at a.k _ _ _ a.start _ c.index-index.ensures
+    (c.sub_in-sub.ensures ∙ ap (λ m. sub_in m a.k) c.kind.ensures)
+    (c.value_type-t.ensures ∙ ap (λ m. type_at c.d.inside.slots.now (m + a.k)) c.first.ensures)
+    (rw (sym c.d.view_is) at (value-length _ _ c.d.view_is c.d.invariant a.i (a.k + 1) c.requires.row.0 a.k (omega arith) _ c.first.ensures _ c.length_at-len.ensures)))

@@ -15,8 +15,8 @@ loop-i-init c =
     let e = offered_from_lem c.args.d.now c.args.first c.args.last (spanned _ _ c.d.view_is _ _ c.rows_in-rows.ensures) in
     ((spanned _ _ c.d.view_is _ _ c.rows_in-rows.ensures).low.within, omega arith, omega arith, omega (arith, ap length e), omega (arith, ap (λ rs. length (bodies rs)) e))
 
-pub to_store-n-requires : goal.to_store-n-requires
-to_store-n-requires c =
+pub invariant_of-to_store : goal.invariant_of-to_store
+invariant_of-to_store c =
     let l = row_lies (dict c.d.inside.objects.now c.d.inside.slots.now c.d.inside.words.now c.d.inside.bytes.now) c.d.invariant c.loop-i.i (omega (arith, c.rows_in-rows.ensures.high.within)) in
     (l.small, l.inside)
 

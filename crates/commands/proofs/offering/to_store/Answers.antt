@@ -6,9 +6,8 @@ use Rattle.commands.proofs.offering.to_store.Goals as goal
 pub returns-then-access : goal.returns-then-access
 unfolding to_store
 returns-then-access c =
-    let i = c in
-    c.count_at.ensures ∙ simp (sym (ap stores i.access_at-access.ensures) ∙ i.if-access.true)
+    c.count.ensures ∙ simp (sym (ap stores c.access-access.ensures) ∙ c.if-access.true)
 
 pub returns : goal.returns
 unfolding to_store
-returns c = simp (sym (ap stores c.access_at-access.ensures) ∙ c.if-access.false)
+returns c = simp (sym (ap stores c.access-access.ensures) ∙ c.if-access.false)

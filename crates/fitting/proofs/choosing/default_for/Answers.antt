@@ -18,42 +18,27 @@ default-there d e i k x hi hk q h = every_value d e (default_in d.objects i) (de
 named : (objects : List ℕ) (i f n : ℕ) → f ≡ first_at objects i → n ≡ count_at objects i → f + n ≡ default_in objects i
 named objects i f n p q = ap₂ (λ x y. x + y) p q
 
-pub default_at-requires : goal.default_at-requires
-default_at-requires c =
-    let r = row_lies _ c.d.invariant c.args.i (rw (sym c.d.view_is) at c.requires.0) in
-    (r.small, r.inside)
-
-pub first_at-first-requires : goal.first_at-first-requires
-first_at-first-requires c =
-    let r = row_lies _ c.d.invariant c.args.i (rw (sym c.d.view_is) at c.requires.0) in
-    (r.small, r.inside)
-
-pub count_at-requires : goal.count_at-requires
-count_at-requires c =
-    let r = row_lies _ c.d.invariant c.args.i (rw (sym c.d.view_is) at c.requires.0) in
-    (r.small, r.inside)
-
-pub kind_at-requires : goal.kind_at-requires
-kind_at-requires c =
+pub invariant_of-row : goal.invariant_of-row
+invariant_of-row c =
     let r = row_lies _ c.d.invariant c.args.i (rw (sym c.d.view_is) at c.requires.0) in
     (r.small, r.inside)
 
 pub overflow_add-default : goal.overflow_add-default
 overflow_add-default c =
-    let f = default-there _ c.d.invariant c.args.i c.args.k _ (rw (sym c.d.view_is) at c.requires.0) (rw (sym c.d.view_is) at c.requires.1) c.default_at.ensures c.if-default_at-ne1.false in
-    omega (arith, f.low, c.first_at-first.ensures, c.count_at.ensures)
+    let f = default-there _ c.d.invariant c.args.i c.args.k _ (rw (sym c.d.view_is) at c.requires.0) (rw (sym c.d.view_is) at c.requires.1) c.default.ensures c.if-default-ne1.false in
+    omega (arith, f.low, c.first-first.ensures, c.count.ensures)
 
 pub overflow_add-first : goal.overflow_add-first
 overflow_add-first c =
     let f = facts _ c.d.invariant [] c.args.i c.args.k (rw (sym c.d.view_is) at c.requires.0) (rw (sym c.d.view_is) at c.requires.1) in
-    omega (arith, f.low, c.first_at-first.ensures)
+    omega (arith, f.low, c.first-first.ensures)
 
-pub type_at-t-requires : goal.type_at-t-requires
-type_at-t-requires c =
+pub invariant_of-value_type : goal.invariant_of-value_type
+invariant_of-value_type c =
     let f = facts _ c.d.invariant [] c.args.i c.args.k (rw (sym c.d.view_is) at c.requires.0) (rw (sym c.d.view_is) at c.requires.1) in
-    rw c.first_at-first.ensures (f.low, f.slot)
+    rw c.first-first.ensures (f.low, f.slot)
 
-pub type_at-requires : goal.type_at-requires
-type_at-requires c =
-    let f = default-there _ c.d.invariant c.args.i c.args.k _ (rw (sym c.d.view_is) at c.requires.0) (rw (sym c.d.view_is) at c.requires.1) c.default_at.ensures c.if-default_at-ne1.false in
-    rw (named c.d.inside.objects.now c.args.i _ _ c.first_at-first.ensures c.count_at.ensures) (f.low, f.slot)
+pub invariant_of-value_type-2 : goal.invariant_of-value_type-2
+invariant_of-value_type-2 c =
+    let f = default-there _ c.d.invariant c.args.i c.args.k _ (rw (sym c.d.view_is) at c.requires.0) (rw (sym c.d.view_is) at c.requires.1) c.default.ensures c.if-default-ne1.false in
+    rw (named c.d.inside.objects.now c.args.i _ _ c.first-first.ensures c.count.ensures) (f.low, f.slot)

@@ -6,18 +6,15 @@ use native.Mathlib.Omega.{arith}
 use Rattle.fitting.proofs.choosing.key_at.Goals as goal
 
 pub overflow_mul-result : goal.overflow_mul-result
-overflow_mul-result c = let s = c in omega (arith, c.index_at-index.ensures, s.requires)
+overflow_mul-result c = omega (arith, c.index.ensures, c.requires)
 
 pub sub_in-requires : goal.sub_in-requires
-sub_in-requires c = omega (arith, c.requires.3)
+sub_in-requires c = omega (arith, c.requires.1)
 
 pub overflow_add-result : goal.overflow_add-result
 overflow_add-result c =
-    let n = c in
-    let s = n in
-    omega (arith, c.sub_in.ensures, sub_few n.kind_at-kind.result s.args.k, n.index_at-index.ensures, s.requires)
+    omega (arith, c.sub_in.ensures, sub_few c.kind.result c.args.k, c.index.ensures, c.requires)
 
 pub returns : goal.returns
 returns c =
-    let n = c in
-    ap₂ (λ x y. 256 * x + y) n.index_at-index.ensures (c.sub_in.ensures ∙ rw n.kind_at-kind.ensures)
+    ap₂ (λ x y. 256 * x + y) c.index.ensures (c.sub_in.ensures ∙ rw c.kind.ensures)

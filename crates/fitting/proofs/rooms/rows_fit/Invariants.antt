@@ -8,5 +8,5 @@ use Rattle.fitting.proofs.rooms.rows_fit.Given as goal
 abbrev pub invariant-loop-i : goal.invariant-loop-i
 invariant-loop-i l =
     (l.i ≤ number_of l.d.objects)
-    × (l.at ≤ l.n)
-    × (rows_fit l.d l.store l.first l.last (number_of l.d.objects - l.i) l.i ≡ rows_fit l.d l.store l.first l.last (number_of l.d.objects) 0)
+    × (l.stored ≡ l.fn.stored)
+    × (rows_fit l.d l.fn.stored l.first l.last (number_of l.d.objects - l.i) l.i ≡ rows_fit l.d l.fn.stored l.first l.last (number_of l.d.objects) 0)

@@ -7,7 +7,6 @@ use Rattle.entry.specs.Table.{Dict, count_at}
 use Rattle.entry.proofs.ValueLaws.{row_lies}
 use Rattle.fitting.specs.Fit.{slot_in, chosen_at, fits_room, values_fit}
 use Rattle.fitting.proofs.WalkLaws.{fit_step, fit_end}
-use borrow.Author.Tests.{not-true, not-false}
 use native.Mathlib.Omega.{arith}
 use Rattle.fitting.proofs.rooms.values_fit.Goals as goal
 
@@ -25,23 +24,22 @@ module _ (d : Dict) (s : List ℕ) (i n k : ℕ) (h : k < n) (e : values_fit d s
   goes-on : b ≡ true → values_fit d s i (n - (k + 1)) (k + 1) ≡ values_fit d s i n 0
   goes-on z = sym (sofar ∙ rw z)
 
-pub count_at-count-requires : goal.count_at-count-requires
-count_at-count-requires c =
-    let r = row_lies _ c.d.invariant c.args.i (rw (sym c.d.view_is) at c.requires.i_bound) in
+pub invariant_of-count : goal.invariant_of-count
+invariant_of-count c =
+    let r = row_lies _ c.d.invariant c.args.i (rw (sym c.d.view_is) at c.requires) in
     (r.small, r.inside)
 
-pub returns-then-not-f-clause-fits : goal.returns-then-not-f-clause-fits
-returns-then-not-f-clause-fits c =
-    not-true _ c.if-not-f.true
-    ∙ fails c.args.d.now c.args.store.now c.args.i c.count_at-count.result c.loop-k.k c.loop-k-test.true c.loop-k.invariant.1 _ c.value_fits-f.ensures.fits (not-true _ c.if-not-f.true)
-    ∙ counted _ _ c.args.store.now c.args.i _ c.d.view_is c.count_at-count.ensures
+pub returns-then-not-value_fits-clause-fits : goal.returns-then-not-value_fits-clause-fits
+returns-then-not-value_fits-clause-fits c =
+    fails c.args.d.now c.args.stored.now c.args.i c.count-count.result c.loop-k.k c.loop-k-test.true c.loop-k.invariant.1 _ (rw c.loop-k.invariant.0 at c.value_fits.ensures.fits) c.if-not-value_fits.true
+    ∙ counted _ _ c.args.stored.now c.args.i _ c.d.view_is c.count-count.ensures
 
 pub loop-k-preserved : goal.loop-k-preserved
 loop-k-preserved c =
-    (c.value_fits-f.ensures.near, goes-on c.args.d.now c.args.store.now c.args.i c.count_at-count.result c.loop-k.k c.loop-k-test.true c.loop-k.invariant.1 _ c.value_fits-f.ensures.fits (not-false _ c.if-not-f.false))
+    (c.value_fits.ensures.image ∙ c.loop-k.invariant.0, goes-on c.args.d.now c.args.stored.now c.args.i c.count-count.result c.loop-k.k c.loop-k-test.true c.loop-k.invariant.1 _ (rw c.loop-k.invariant.0 at c.value_fits.ensures.fits) c.if-not-value_fits.false)
 
 pub returns-clause-fits : goal.returns-clause-fits
 returns-clause-fits c =
-    sym (fit_end c.args.d.now c.args.store.now c.args.i c.count_at-count.result c.loop-k.k (omega arith))
+    sym (fit_end c.args.d.now c.args.stored.now c.args.i c.count-count.result c.loop-k.k (omega arith))
     ∙ c.loop-k.invariant.1
-    ∙ counted _ _ c.args.store.now c.args.i _ c.d.view_is c.count_at-count.ensures
+    ∙ counted _ _ c.args.stored.now c.args.i _ c.d.view_is c.count-count.ensures

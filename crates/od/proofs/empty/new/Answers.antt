@@ -25,7 +25,7 @@ pub returns-then-edition : goal.returns-then-edition
 returns-then-edition c = simp (not-true (is_edition c.args.edition) (sym (no-edition c.args.edition) ∙ c.if-edition.true))
 
 pub returns-then-objects-header : goal.returns-then-objects-header
-returns-then-objects-header c = simp (an-edition c.args.edition c.if-edition.false, lt-ltb _ _ (rw c.row-header.ensures at c.if-objects-header.true))
+returns-then-objects-header c = simp (an-edition c.args.edition c.if-edition.false, lt-ltb _ _ (rw c.row_place-header.ensures at c.if-objects-header.true))
 
 pub returns : goal.returns
-returns c = simp (an-edition c.args.edition c.if-edition.false, le-ltb _ _ (rw c.row-header.ensures at c.if-objects-header.false)) (ap (made (Ok tt)) c.lay_header.ensures)
+returns c = simp (an-edition c.args.edition c.if-edition.false, le-ltb _ _ (rw c.row_place-header.ensures at c.if-objects-header.false)) (ap (made (Ok tt)) c.lay_header.ensures)

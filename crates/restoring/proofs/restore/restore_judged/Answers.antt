@@ -1,16 +1,28 @@
 -- `restoring::restore::restore_judged` meets its contract: each way out is a case of the definition. Assumes nothing.
 use Rattle.std.specs.Prelude.{Ok}
-use mathlib.Core.Path.{sym, ap, ◌∙◌}
+use mathlib.Core.Path.{◌≡◌, refl, sym, ap, ◌∙◌}
+use mathlib.Core.Bool.{Bool}
+use mathlib.Core.List.{List}
+use Prim.Native.Nat.{ℕ}
+use Rattle.entry.specs.Table.{Dict, number_of}
+use Rattle.fitting.specs.Fit.{rows_fit}
 use Rattle.restoring.specs.Restore.{after_restore, restore_of}
+use Rattle.restoring.specs.Restoring.{dict_of}
 use Rattle.restoring.proofs.restore.restore_judged.Goals as goal
 
-pub returns-then-not-rows_fit : goal.returns-then-not-rows_fit
-unfolding restore_of
-returns-then-not-rows_fit c = simp (c.requires, sym c.rows_fit.ensures ∙ c.if-not-rows_fit.true)
+-- whether all fits in what is shown is whether it fits in the dictionary
+fit : (shown d : Dict) (s m : List ℕ) (first last : ℕ) (b : Bool) → shown ≡ d → m ≡ s → b ≡ rows_fit shown m first last (number_of shown.objects) 0 → rows_fit d s first last (number_of d.objects) 0 ≡ b
+fit shown d s m first last b e h f = sym (rw (e, h) at f)
 
-pub restore_rows-requires-clause-objects_value : goal.restore_rows-requires-clause-objects_value
-restore_rows-requires-clause-objects_value c = sym c.rows_fit.ensures ∙ c.if-not-rows_fit.false
-
-pub returns : goal.returns
+pub returns-then-not-rows_fit-clause-left : goal.returns-then-not-rows_fit-clause-left
 unfolding restore_of
-returns c = ap (after_restore (Ok tt)) c.restore_rows.ensures ∙ sym (simp (c.requires, sym c.rows_fit.ensures ∙ c.if-not-rows_fit.false))
+returns-then-not-rows_fit-clause-left c = simp (c.args.d.now.judged, fit _ (dict_of c.args.d.now) _ _ c.args.first c.args.last _ c.shown.ensures c.judged-stored.ensures c.rows_fit.ensures.fits ∙ c.if-not-rows_fit.true)
+
+pub restore_rows-requires : goal.restore_rows-requires
+restore_rows-requires c = rw c.rows_fit.ensures.image (fit _ (dict_of c.args.d.now) _ _ c.args.first c.args.last _ c.shown.ensures refl c.rows_fit.ensures.fits ∙ c.if-not-rows_fit.false)
+
+pub returns-clause-left : goal.returns-clause-left
+unfolding restore_of
+returns-clause-left c =
+    ap (after_restore (Ok tt)) (rw (c.rows_fit.ensures.image, c.judged-stored.ensures) at c.restore_rows.ensures.held)
+    ∙ sym (simp (c.args.d.now.judged, fit _ (dict_of c.args.d.now) _ _ c.args.first c.args.last _ c.shown.ensures c.judged-stored.ensures c.rows_fit.ensures.fits ∙ c.if-not-rows_fit.false))

@@ -6,6 +6,3 @@ use Rattle.restoring.proofs.restore.restore_power_on_values.Goals as goal
 pub returns-then-not-well_formed : goal.returns-then-not-well_formed
 unfolding restore_of
 returns-then-not-well_formed c = simp (sym c.well_formed-2.ensures ∙ c.if-not-well_formed.true)
-
-pub restore_judged-requires : goal.restore_judged-requires
-restore_judged-requires c = sym c.well_formed-2.ensures ∙ c.if-not-well_formed.false

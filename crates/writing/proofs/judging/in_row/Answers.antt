@@ -1,5 +1,6 @@
 -- `writing::judging::in_row` meets its contract: the row lies in what is lent, and so does its value. Assumes nothing.
-use mathlib.Core.Path.{◌≡◌, sym, subst, ◌∙◌}
+use Rattle.std.specs.Prelude.{Some}
+use mathlib.Core.Path.{◌≡◌, sym, ap, subst, ◌∙◌}
 use mathlib.Core.Bool.{true}
 use Rattle.entry.specs.Table.{dict}
 use Rattle.entry.specs.declared.Extra.{Extra}
@@ -8,9 +9,9 @@ use Rattle.entry.proofs.ValueLaws.{rows_of, found_lies, value_lies}
 use Rattle.writing.proofs.WriteLaws.{range_right}
 use Rattle.writing.proofs.judging.in_row.Goals as goal
 
-pub access_at-access-requires : goal.access_at-access-requires
-access_at-access-requires c =
-    let l = found_lies (dict c.d.inside.objects.now c.d.inside.slots.now c.d.inside.words.now c.d.inside.bytes.now) c.d.invariant c.args.index c.args.i (rw (sym c.d.view_is) at c.requires.index_value) in
+pub invariant_of-row : goal.invariant_of-row
+invariant_of-row c =
+    let l = found_lies (dict c.d.inside.objects.now c.d.inside.slots.now c.d.inside.words.now c.d.inside.bytes.now) c.d.invariant c.args.index c.args.i (rw (sym c.d.view_is) at c.requires) in
     (l.small, l.inside)
 
 pub sub_at-requires-clause-rows : goal.sub_at-requires-clause-rows
@@ -18,20 +19,15 @@ sub_at-requires-clause-rows c = rows_of (dict c.d.inside.objects.now c.d.inside.
 
 pub sub_at-requires-clause-i_bound : goal.sub_at-requires-clause-i_bound
 sub_at-requires-clause-i_bound c =
-    (found_lies (dict c.d.inside.objects.now c.d.inside.slots.now c.d.inside.words.now c.d.inside.bytes.now) c.d.invariant c.args.index c.args.i (rw (sym c.d.view_is) at c.requires.index_value)).below
-
-pub extra_at-requires : goal.extra_at-requires
-extra_at-requires c =
-    let l = found_lies (dict c.d.inside.objects.now c.d.inside.slots.now c.d.inside.words.now c.d.inside.bytes.now) c.d.invariant c.args.index c.args.i (rw (sym c.d.view_is) at c.requires.index_value) in
-    (l.small, l.inside)
+    (found_lies (dict c.d.inside.objects.now c.d.inside.slots.now c.d.inside.words.now c.d.inside.bytes.now) c.d.invariant c.args.index c.args.i (rw (sym c.d.view_is) at c.requires)).below
 
 pub at_value-requires-clause-p_bound : goal.at_value-requires-clause-p_bound
 at_value-requires-clause-p_bound c =
-    let f = value_lies (dict c.d.inside.objects.now c.d.inside.slots.now c.d.inside.words.now c.d.inside.bytes.now) c.d.invariant c.args.index c.args.sub _ _ (rw (sym c.d.view_is) at c.requires.index_value) (sym c.sub_at.ensures ∙ c.in-Value.is) in
+    let f = value_lies (dict c.d.inside.objects.now c.d.inside.slots.now c.d.inside.words.now c.d.inside.bytes.now) c.d.invariant c.args.index c.args.sub _ _ (rw (sym c.d.view_is) at c.requires) (sym c.in-Some-Value.ensures ∙ ap Some c.in-Some-Value.field-0-is) in
     (f.low, f.slot)
 
-pub at_value-requires-clause-high_value : goal.at_value-requires-clause-high_value
-at_value-requires-clause-high_value c =
+pub at_value-requires-clause-range : goal.at_value-requires-clause-range
+at_value-requires-clause-range c =
     let d = dict c.d.inside.objects.now c.d.inside.slots.now c.d.inside.words.now c.d.inside.bytes.now in
-    let l = found_lies d c.d.invariant c.args.index c.args.i (rw (sym c.d.view_is) at c.requires.index_value) in
-    (subst (λ (x : Extra). range_ok x.ranged x.low x.high ≡ true) (sym c.extra_at.ensures) (range_right d c.d.invariant c.args.i l.below), c.requires.data_value)
+    let l = found_lies d c.d.invariant c.args.index c.args.i (rw (sym c.d.view_is) at c.requires) in
+    subst (λ (x : Extra). range_ok x.ranged x.low x.high ≡ true) (sym c.extra.ensures) (range_right d c.d.invariant c.args.i l.below)

@@ -1,7 +1,0 @@
--- `fitting::looking::seek`: what is sought from here is what is sought on the whole. Assumes nothing.
-use Rattle.std.proofs.Common.{◌≡◌, ◌-◌}
-use Rattle.fitting.specs.Records.{seek_from}
-use Rattle.fitting.proofs.looking.seek.Given as goal
-
-abbrev pub invariant-loop-j : goal.invariant-loop-j
-invariant-loop-j l = seek_from l.store (l.n - l.j) l.j l.key ≡ seek_from l.store (l.n - l.k) l.k l.key
