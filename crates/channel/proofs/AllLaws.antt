@@ -1,9 +1,11 @@
 -- One channel's turn in the check of all. Assumes nothing.
-use Rattle.std.specs.Prelude.{Option}
+use Rattle.std.specs.Prelude.{Option, Some, None}
 use mathlib.Core.Path.{◌≡◌, refl, sym, ap, ◌∙◌}
+use mathlib.Core.Bool.{Bool, true, false, not}
 use mathlib.Core.List.{List, [], ◌∷◌}
 use Prim.Native.Nat.{ℕ, suc, ◌+◌, ◌-◌, ◌<◌, ◌≤◌}
 use native.Mathlib.Omega.{arith}
+use Rattle.std.specs.Option.{is_some}
 use lib.ListN.{length}
 use Rattle.lists.specs.Lists.{over}
 use Rattle.lists.proofs.ListLaws.{over_none, over-over}
@@ -29,6 +31,15 @@ module _ (out : List ℕ) (n : ℕ) where
   laid_line a b c rest h =
       let z : n + suc (suc (suc (length rest))) ≡ n + 3 + length rest = omega arith in
       rw (over-over out n (a ∷ b ∷ c ∷ []) (n + 3) rest refl h, z)
+
+-- what `is_none` says
+pub none_of : (g : Option ℕ) (b : Bool) → is_some g ≡ not b → b ≡ true → g ≡ None
+none_of None b e q = refl
+none_of (Some r) b e q = let z : ◌≡◌ {A = ℕ} 0 1 = cc in absurd (omega arith)
+
+pub some_of : (g : Option ℕ) (b : Bool) → is_some g ≡ not b → b ≡ false → (r : ℕ) × (g ≡ Some r)
+some_of None b e q = let z : ◌≡◌ {A = ℕ} 0 1 = cc in absurd (omega arith)
+some_of (Some r) b e q = (r, refl)
 
 -- what is found of channel i decides
 pub turned : (d : Dict) (lent : List ℕ) (m i : ℕ) (out : List ℕ) (n : ℕ) → i < 256 → laid_on (lines_from d (256 - i) i) out n ≡ laid_on (lines_from d 256 0) lent m

@@ -6,7 +6,7 @@ use Rattle.entry.specs.Table.{Dict, kind_at, list_count, first_at, type_at}
 use Rattle.entry.specs.Find.{find_row}
 use Rattle.entry.specs.Judge.{well_formed}
 use Rattle.pdo_validator.specs.Counting.{ends_from}
-use Rattle.pdo_channel.specs.Channel.{u8_at, comm_index, first_match}
+use Rattle.pdo_channel.specs.Channel.{u8_at, comm_index, first_match, sender_for}
 use Rattle.pdo_run.specs.Run.{list_in}
 use Rattle.channel.specs.declared.Checked.{Checked}
 use Rattle.channel.specs.declared.Checked.TheVariants.{Pass, NoSender, NoList, Element, TooFar, Refused}
@@ -36,10 +36,6 @@ on_elements d r = fault_from d.objects d.slots (first_at d.objects r) (list_in d
 abbrev pub on_list : Dict → Option ℕ → Checked
 on_list d None = NoList
 on_list d (Some r) = cond (eqb (kind_at d.objects r) 0 || eqb (list_count d.objects r) 0) NoList (on_elements d r)
-
--- R12.3: "A U8 of 0 or 240 at 1400h+i/1 gives sender 240, any other value gives itself; an earlier channel that matches that sender takes it."
-abbrev pub sender_for : ℕ → ℕ
-sender_for v = cond (eqb v 0) 240 v
 
 abbrev pub is_at : ℕ → Option ℕ → Bool
 is_at i (Some j) = eqb j i

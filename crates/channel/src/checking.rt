@@ -3,28 +3,28 @@ ghost use Rattle.std.specs.Prelude.{◌≡◌, ◌+◌, ◌<◌, ◌≤◌, leng
 ghost use Rattle.entry.specs.Table.{dict, number_of, slot_place};
 ghost use Rattle.entry.specs.Find.{find_row};
 ghost use Rattle.pdo_channel.specs.Channel.{u8_at, comm_index};
-ghost use Rattle.pdo_step.specs.Outcomes.{Shape};
-ghost use Rattle.channel.specs.Check.{fault_from, is_far, on_elements, on_list, sender_for, has_sender, check_of};
+ghost use Rattle.channel.specs.Check.{fault_from, is_far, on_elements, on_list, has_sender, check_of};
 
 use crate::Checked;
 use answers::Refusal;
 use element::{Fault, word_verdict};
+use entry::{Row, Slot};
 use judge::Dictionary;
+use pdo_channel::{comm_index, first_match, sender_for, u8_at};
 
 // The first fault of a list's elements, of which the first is slot `first`, or what comes last.
-fn first_fault(objects: &[u64], slots: &[u64], first: usize, list: &[u64], last: Checked) -> Checked
-    requires shape { Shape objects.now slots.now }
-    requires elements { (first + length list.now ≤ 6144) × (slot_place (first + length list.now) ≤ length slots.now) }
-    ensures { result ≡ fault_from objects.now slots.now first list.now 0 last }
+fn first_fault(d: &Dictionary, first: usize, list: &[u64], last: Checked) -> Checked
+    requires { (first + length list.now ≤ 6144) × (slot_place (first + length list.now) ≤ length d.now.slots) }
+    ensures { result ≡ fault_from d.now.objects d.now.slots first list.now 0 last }
 {
     for (j, &word) in list.iter().enumerate() {
-        if entry::type_at(slots, first + j) != 8 {
+        if Slot(d.slots, first + j).value_type() != 8 {
             return Checked::Element {
                 element: j + 1,
                 fault: Fault::NotMapping,
             };
         }
-        if let Err(fault) = word_verdict(objects, slots, word) {
+        if let Err(fault) = word_verdict(d, word) {
             return Checked::Element {
                 element: j + 1,
                 fault,
@@ -37,10 +37,7 @@ fn first_fault(objects: &[u64], slots: &[u64], first: usize, list: &[u64], last:
 fn is_far(ends: Option<usize>) -> bool
     ensures { result ≡ is_far ends }
 {
-    match ends {
-        Some(e) => 1490 < e,
-        None => false,
-    }
+    ends.is_some_and(|e| 1490 < e)
 }
 
 // The elements of the list in row r.
@@ -48,15 +45,16 @@ fn check_elements(d: &Dictionary, r: usize) -> Checked
     requires { r < number_of d.now.objects }
     ensures { result ≡ on_elements d.now r }
 {
-    let first = entry::first_at(d.objects, r) as usize;
-    let n = entry::list_count(d.objects, r) as usize;
+    let row = Row(d.objects, r);
+    let first = row.first() as usize;
+    let n = row.list_count() as usize;
     let list = &d.words[first..first + n];
     let last = if is_far(pdo_validator::ends(d.slots, d.words, n, first)) {
         Checked::TooFar
     } else {
         Checked::Pass
     };
-    first_fault(d.objects, d.slots, first, list, last)
+    first_fault(d, first, list, last)
 }
 
 fn check_list(d: &Dictionary, index: u16) -> Checked
@@ -65,39 +63,21 @@ fn check_list(d: &Dictionary, index: u16) -> Checked
     let Some(r) = entry::find(d.objects, index) else {
         return Checked::NoList;
     };
-    if (entry::kind_at(d.objects, r) == 0) | (entry::list_count(d.objects, r) == 0) {
+    let row = Row(d.objects, r);
+    if (row.kind() == 0) | (row.list_count() == 0) {
         return Checked::NoList;
     }
     check_elements(d, r)
-}
-
-// The sender that a channel's number names: 0 is the managing node.
-fn sender_for(v: usize) -> u8
-    requires { v < 256 }
-    ensures { result ≡ sender_for v }
-{
-    if v == 0 {
-        return 240;
-    }
-    v as u8
 }
 
 // Is channel i the first match of a sender?
 fn has_sender(d: &Dictionary, i: u8) -> bool
     ensures { result ≡ has_sender d.now i (u8_at d.now (comm_index i) 1) }
 {
-    let index = 0x1400 + i as u16;
-    let Some(row) = entry::find(d.objects, index) else {
+    let Some(v) = u8_at(d, comm_index(i), 1) else {
         return false;
     };
-    let Some(v) = pdo_channel::u8_in(d, row, index, 1) else {
-        return false;
-    };
-    let sender = sender_for(v);
-    let Some(j) = pdo_channel::first_match(d, sender) else {
-        return false;
-    };
-    j == i as usize
+    first_match(d, sender_for(v)) == Some(i)
 }
 
 // A channel of a dictionary that was judged.

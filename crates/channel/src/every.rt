@@ -10,6 +10,7 @@ use crate::checking::check_judged;
 use crate::numbers::{named, number};
 use answers::Refusal;
 use judge::Dictionary;
+use pdo_channel::comm_index;
 
 // A channel's three numbers.
 fn lay(out: &mut [u64], at: usize, channel: u64, a: Checked)
@@ -27,10 +28,11 @@ fn check_each(d: &Dictionary, out: &mut [u64]) -> usize
 {
     let mut n = 0;
     for i in 0..256u16 {
-        let Some(_) = entry::find(d.objects, 0x1400 + i) else {
+        let channel = i as u8;
+        if entry::find(d.objects, comm_index(channel)).is_none() {
             continue;
-        };
-        let a = check_judged(d, i as u8);
+        }
+        let a = check_judged(d, channel);
         lay(out, n, i as u64, a);
         n += 3;
     }

@@ -5,6 +5,7 @@ ghost use Rattle.channel.specs.Numbers.{answer_number, element_of};
 use crate::Checked;
 use element::fault_number;
 
+// Both are functions, and no `From`: C calls them, and docs/PUBLIC.md names their definitions.
 pub fn number(a: Checked) -> u64
     ensures { result ≡ answer_number a }
 {

@@ -1,10 +1,11 @@
 // What is wrong with an element of a channel's list, by what it maps.
 ghost use Rattle.std.specs.Prelude.{◌≡◌};
-ghost use Rattle.pdo_step.specs.Outcomes.{Shape};
 ghost use Rattle.element.specs.Elements.{fits_in, onto_target, said_of, word_verdict};
 
 use crate::explaining::of_word;
 use crate::{Explained, Fault, Target};
+use entry::Missing;
+use judge::Dictionary;
 
 // Is a field of n bytes a value of the type that takes, or has room for, so many?
 fn fits_in(t: u64, most: u64, n: u16) -> bool
@@ -16,13 +17,13 @@ fn fits_in(t: u64, most: u64, n: u16) -> bool
     n as u64 == most
 }
 
-fn onto_target(n: u16, target: Target) -> Result<(), Fault>
+fn onto_target(n: u16, target: Result<Target, Missing>) -> Result<(), Fault>
     ensures { result ≡ onto_target n target }
 {
     match target {
-        Target::NoObject | Target::NoSub => Err(Fault::NoTarget),
-        Target::Count => Err(Fault::CountTarget),
-        Target::Value { value_type, holds } => {
+        Err(_) => Err(Fault::NoTarget),
+        Ok(Target::Count) => Err(Fault::CountTarget),
+        Ok(Target::Value { value_type, holds }) => {
             if fits_in(value_type, holds, n) {
                 Ok(())
             } else {
@@ -32,7 +33,7 @@ fn onto_target(n: u16, target: Target) -> Result<(), Fault>
     }
 }
 
-// What the check says of an element by itself, from its explanation alone; a refusal explains none.
+// What the check says of an element by itself, from its explanation alone.
 pub fn said(e: Explained) -> Result<(), Fault>
     ensures { result ≡ said_of e }
 {
@@ -48,14 +49,12 @@ pub fn said(e: Explained) -> Result<(), Fault>
             0x1200..=0x12FF => Err(Fault::HandOff),
             _ => onto_target(length, target),
         },
-        Explained::Refused(_) => Ok(()),
     }
 }
 
 // Of a mapping word.
-pub fn word_verdict(objects: &[u64], slots: &[u64], word: u64) -> Result<(), Fault>
-    requires { Shape objects.now slots.now }
-    ensures { result ≡ word_verdict objects.now slots.now word }
+pub fn word_verdict(d: &Dictionary, word: u64) -> Result<(), Fault>
+    ensures { result ≡ word_verdict d.now.objects d.now.slots word }
 {
-    said(of_word(objects, slots, word))
+    said(of_word(d, word))
 }

@@ -1,56 +1,41 @@
 // What an element of a channel's list maps, and onto what.
-ghost use Rattle.std.specs.Prelude.{◌≡◌, ℕ, ◌<◌, ◌≤◌, length};
+ghost use Rattle.std.specs.Prelude.{◌≡◌, ℕ, ◌<◌, ◌≤◌, length, Ok};
 ghost use Rattle.entry.specs.Table.{dict, slot_end};
 ghost use Rattle.entry.specs.declared.Place.TheVariants.{Value};
-ghost use Rattle.pdo_step.specs.Outcomes.{Shape};
-ghost use Rattle.element.specs.Explain.{holds, target_of, of_word, explain_of};
+ghost use Rattle.element.specs.Explain.{target_at, target_of, of_word, explain_of};
 
 use crate::{Explained, Target};
 use answers::Refusal;
-use entry::Place;
+use entry::{Missing, Place, Row, Slot};
 use judge::Dictionary;
 use mapping::PdoMappingEntry;
 
-// How many bytes a value takes: its type's size, or its room.
-fn holds(t: u64, room: u64) -> u64
-    ensures { result ≡ holds t room }
+fn target_value(slot: &Slot) -> Target
+    ensures { result ≡ target_at slot.now.slots slot.now.p }
 {
-    if value::is_text(t) {
-        return room;
-    }
-    value::size_of(t) as u64
-}
-
-fn target_value(slots: &[u64], p: usize) -> Target
-    requires { (p < 6144) × (slot_end p ≤ length slots.now) }
-    ensures { result ≡ target_of slots.now (Value p) }
-{
-    let t = entry::type_at(slots, p);
+    let t = slot.value_type();
     Target::Value {
         value_type: t,
-        holds: holds(t, entry::room_at(slots, p)),
+        holds: value::length_of(t, slot.room()),
     }
 }
 
-fn target_at(slots: &[u64], place: Place) -> Target
-    requires { (p : ℕ) → place ≡ Value p → (p < 6144) × (slot_end p ≤ length slots.now) }
+fn target_at(slots: &[u64], place: Result<Place, Missing>) -> Result<Target, Missing>
+    requires { (p : ℕ) → place ≡ Ok (Value p) → (p < 6144) × (slot_end p ≤ length slots.now) }
     ensures { result ≡ target_of slots.now place }
 {
-    match place {
-        Place::NoObject => Target::NoObject,
-        Place::NoSub => Target::NoSub,
-        Place::Count(_) => Target::Count,
-        Place::Value(p) => target_value(slots, p),
+    match place? {
+        Place::Count(_) => Ok(Target::Count),
+        Place::Value(p) => Ok(target_value(&Slot(slots, p))),
     }
 }
 
 // Of a mapping word.
-pub fn of_word(objects: &[u64], slots: &[u64], word: u64) -> Explained
-    requires { Shape objects.now slots.now }
-    ensures { result ≡ of_word objects.now slots.now word }
+pub fn of_word(d: &Dictionary, word: u64) -> Explained
+    ensures { result ≡ of_word d.now.objects d.now.slots word }
 {
-    let a = aim::aim_of(objects, word);
-    let target = target_at(slots, a.place);
+    let a = aim::aim_of(d.objects, word);
+    let target = target_at(d.slots, a.place);
     let PdoMappingEntry {
         index,
         sub_index,
@@ -76,23 +61,23 @@ pub fn of_word(objects: &[u64], slots: &[u64], word: u64) -> Explained
 }
 
 // Explains an element of a dictionary that was judged.
-pub fn explain_judged(d: &Dictionary, channel: u8, element: u8) -> Explained
+pub fn explain_judged(d: &Dictionary, channel: u8, element: u8) -> Result<Explained, Refusal>
     ensures { result ≡ explain_of d.now channel element }
 {
     let Some(r) = entry::find(d.objects, 0x1600 + channel as u16) else {
-        return Explained::Refused(Refusal::ObjectNotFound);
+        return Err(Refusal::ObjectNotFound);
     };
-    if entry::kind_at(d.objects, r) == 0 {
-        return Explained::Refused(Refusal::ObjectNotFound);
+    if Row(d.objects, r).kind() == 0 {
+        return Err(Refusal::ObjectNotFound);
     }
-    let Place::Value(p) = entry::sub_at(d.objects, r, element) else {
-        return Explained::Refused(Refusal::SubObjectNotFound);
+    let Some(Place::Value(p)) = entry::sub_at(d.objects, r, element) else {
+        return Err(Refusal::SubObjectNotFound);
     };
-    let t = entry::type_at(d.slots, p);
+    let t = Slot(d.slots, p).value_type();
     if t != 8 {
-        return Explained::Other(t);
+        return Ok(Explained::Other(t));
     }
-    of_word(d.objects, d.slots, d.words[p])
+    Ok(of_word(d, d.words[p]))
 }
 
 // Explains an element, from 1, of the list 1600h + channel.
@@ -103,11 +88,9 @@ pub fn explain(
     bytes: &[u8],
     channel: u8,
     element: u8,
-) -> Explained
+) -> Result<Explained, Refusal>
     ensures { result ≡ explain_of (dict objects.now slots.now words.now bytes.now) channel element }
 {
-    let Ok(d) = Dictionary::judged(objects, slots, words, bytes) else {
-        return Explained::Refused(Refusal::Malformed);
-    };
+    let d = Dictionary::judged(objects, slots, words, bytes)?;
     explain_judged(&d, channel, element)
 }

@@ -5,8 +5,8 @@ mod elements;
 mod explaining;
 mod numbers;
 
-use answers::Refusal;
 pub use elements::word_verdict;
+pub use entry::Missing;
 pub use explaining::{explain, explain_judged};
 pub use numbers::{explained_numbers, fault_number};
 
@@ -24,8 +24,6 @@ pub enum Fault {
 // What there is at an index and a sub-index; a value holds so many bytes: its type's size, or its room.
 #[derive(Clone, Copy)]
 pub enum Target {
-    NoObject,
-    NoSub,
     Count,
     Value { value_type: u64, holds: u64 },
 }
@@ -41,7 +39,7 @@ pub enum Explained {
         sub_index: u8,
         offset_bits: u16,
         length_bits: u16,
-        target: Target,
+        target: Result<Target, Missing>,
     },
     // In bytes.
     Field {
@@ -49,7 +47,6 @@ pub enum Explained {
         sub_index: u8,
         start: u16,
         length: u16,
-        target: Target,
+        target: Result<Target, Missing>,
     },
-    Refused(Refusal),
 }

@@ -4,7 +4,10 @@ ghost use Rattle.element.specs.Numbers.{fault_number, verdict_number, there_numb
 
 use crate::elements::said;
 use crate::{Explained, Fault, Target};
+use answers::Refusal;
+use entry::Missing;
 
+// It and `explained_numbers` are no `From`: C's numbers are made of them, and docs/PUBLIC.md names their definitions.
 pub fn fault_number(f: Fault) -> u64
     ensures { result ≡ fault_number f }
 {
@@ -27,41 +30,44 @@ fn verdict_number(v: Result<(), Fault>) -> u64
     }
 }
 
-fn there(t: Target) -> u64
+fn there(t: Result<Target, Missing>) -> u64
     ensures { result ≡ there_number t }
 {
     match t {
-        Target::NoObject => 0,
-        Target::NoSub => 1,
-        Target::Count => 2,
-        Target::Value { .. } => 3,
+        Err(Missing::NoObject) => 0,
+        Err(Missing::NoSub) => 1,
+        Ok(Target::Count) => 2,
+        Ok(Target::Value { .. }) => 3,
     }
 }
 
-fn there_type(t: Target) -> u64
+fn there_type(t: Result<Target, Missing>) -> u64
     ensures { result ≡ there_type t }
 {
     match t {
-        Target::NoObject | Target::NoSub => 0,
-        Target::Count => 5,
-        Target::Value { value_type, .. } => value_type,
+        Err(_) => 0,
+        Ok(Target::Count) => 5,
+        Ok(Target::Value { value_type, .. }) => value_type,
     }
 }
 
-fn there_holds(t: Target) -> u64
+fn there_holds(t: Result<Target, Missing>) -> u64
     ensures { result ≡ there_holds t }
 {
     match t {
-        Target::NoObject | Target::NoSub => 0,
-        Target::Count => 1,
-        Target::Value { holds, .. } => holds,
+        Err(_) => 0,
+        Ok(Target::Count) => 1,
+        Ok(Target::Value { holds, .. }) => holds,
     }
 }
 
 // An explanation in eleven numbers; a refusal explains nothing.
-pub fn explained_numbers(e: Explained) -> [u64; 11]
+pub fn explained_numbers(e: Result<Explained, Refusal>) -> [u64; 11]
     ensures { result ≡ explained_numbers e }
 {
+    let Ok(e) = e else {
+        return [0; 11];
+    };
     match e {
         Explained::Other(t) => [33, t, 0, 0, 0, 0, 0, 0, 0, 0, 0],
         Explained::Misaligned {
@@ -102,6 +108,5 @@ pub fn explained_numbers(e: Explained) -> [u64; 11]
             there_type(target),
             there_holds(target),
         ],
-        Explained::Refused(_) => [0; 11],
     }
 }

@@ -26,7 +26,8 @@ use Rattle.entry.specs.Find.{find_row, place_of}
 use Rattle.entry.specs.Judge.{well_formed}
 use Rattle.entry.specs.Put.{Contents}
 use Rattle.entry.specs.declared.Place.{Place}
-use Rattle.entry.specs.declared.Place.TheVariants.{NoObject, NoSub, Count, Value}
+use Rattle.entry.specs.declared.Place.TheVariants.{Count, Value}
+use Rattle.entry.specs.declared.Missing.{Missing}
 use Rattle.entry.proofs.ValueLaws.{found_lies, list_count_le}
 use Rattle.aim.specs.Aims.{between}
 use Rattle.pdo_step.specs.Outcomes.{part, on_count, on_value, outcome_of, reach}
@@ -63,17 +64,16 @@ module _ (objects slots payload : List ℕ) where
       go true = refl
       go false = refl
 
-  place_kept : (x start n : ℕ) (q : Place) → target (on_place slots payload x start n q) ≡ 0
+  place_kept : (x start n : ℕ) (q : Result Place Missing) → target (on_place slots payload x start n q) ≡ 0
   unfolding on_count
-  place_kept x start n NoObject = refl
-  place_kept x start n NoSub = refl
-  place_kept x start n (Count c) = go (eqb n 0) (is_mapping x)
+  place_kept x start n (Err m) = refl
+  place_kept x start n (Ok (Count c)) = go (eqb n 0) (is_mapping x)
     where
       go : (b m : Bool) → target (cond b (outcome.Undecodable (fault.Value 1 0)) (cond m outcome.Count outcome.CountRefused)) ≡ 0
       go true m = refl
       go false true = refl
       go false false = refl
-  place_kept x start n (Value p) = value_kept p start n (word_at (type_at slots p) (part payload start n))
+  place_kept x start n (Ok (Value p)) = value_kept p start n (word_at (type_at slots p) (part payload start n))
 
   target_small : (w : ℕ) → target (outcome_of objects slots payload w) < 65536
   unfolding on_index

@@ -28,7 +28,8 @@ use Rattle.entry.specs.Table.{kind_at, first_at, type_at, room_at, is_mapping}
 use Rattle.entry.specs.Find.{find_row, place_of}
 use Rattle.entry.specs.Put.{Contents}
 use Rattle.entry.specs.declared.Place.{Place}
-use Rattle.entry.specs.declared.Place.TheVariants.{NoObject, NoSub, Count, Value}
+use Rattle.entry.specs.declared.Place.TheVariants.{Count, Value}
+use Rattle.entry.specs.declared.Missing.{Missing}
 use Rattle.aim.specs.Aims.{between}
 use Rattle.pdo_step.specs.Outcomes.{part, on_count, on_value}
 use Rattle.pdo_step.specs.Effects.{caused_by, effect_of}
@@ -52,7 +53,7 @@ module _ (f : Frame) (w : ℕ) (g : CodecFault) where
     field : field_of (entry_of w) ≡ field_at b m
     within : b + m ≤ length f.payload
 
-  at_value_lem : (q b m : ℕ) → place_of f.objects x sub ≡ Value q → Lies b m → (v : Result ℕ CodecFault) → word_at (type_at f.slots q) (part f.payload b m) ≡ v → on_value f.slots q b m v ≡ outcome.Undecodable g → Undecoded f w g
+  at_value_lem : (q b m : ℕ) → place_of f.objects x sub ≡ Ok (Value q) → Lies b m → (v : Result ℕ CodecFault) → word_at (type_at f.slots q) (part f.payload b m) ≡ v → on_value f.slots q b m v ≡ outcome.Undecodable g → Undecoded f w g
   at_value_lem q b m l h (Err k) e d =
       let z : k ≡ g = cc in
       record { start = b; len = m; type = type_at f.slots q; field = h.field; within = h.within; target = value q l refl; tells = word_tells (type_at f.slots q) (part f.payload b m) g (e ∙ ap Err z) }
@@ -62,7 +63,7 @@ module _ (f : Frame) (w : ℕ) (g : CodecFault) where
       room true d = let z : ◌≡◌ {A = ℕ} 0 1 = cc in absurd (omega arith)
       room false d = let z : ◌≡◌ {A = ℕ} 0 1 = cc in absurd (omega arith)
 
-  at_count : (n b m : ℕ) → place_of f.objects x sub ≡ Count n → Lies b m → on_count x m ≡ outcome.Undecodable g → Undecoded f w g
+  at_count : (n b m : ℕ) → place_of f.objects x sub ≡ Ok (Count n) → Lies b m → on_count x m ≡ outcome.Undecodable g → Undecoded f w g
   unfolding on_count size_of
   at_count n b m l h d = None (eqb m 0) refl (is_mapping x) d
     where
@@ -74,11 +75,10 @@ module _ (f : Frame) (w : ℕ) (g : CodecFault) where
       None false c true d = let z : ◌≡◌ {A = ℕ} 0 1 = cc in absurd (omega arith)
       None false c false d = let z : ◌≡◌ {A = ℕ} 0 1 = cc in absurd (omega arith)
 
-  at_place : (b m : ℕ) → Lies b m → (q : Place) → place_of f.objects x sub ≡ q → on_place f.slots f.payload x b m q ≡ outcome.Undecodable g → Undecoded f w g
-  at_place b m h NoObject l d = let z : ◌≡◌ {A = ℕ} 0 1 = cc in absurd (omega arith)
-  at_place b m h NoSub l d = let z : ◌≡◌ {A = ℕ} 0 1 = cc in absurd (omega arith)
-  at_place b m h (Count n) l d = at_count n b m l h d
-  at_place b m h (Value q) l d = at_value_lem q b m l h (word_at (type_at f.slots q) (part f.payload b m)) refl d
+  at_place : (b m : ℕ) → Lies b m → (q : Result Place Missing) → place_of f.objects x sub ≡ q → on_place f.slots f.payload x b m q ≡ outcome.Undecodable g → Undecoded f w g
+  at_place b m h (Err r) l d = let z : ◌≡◌ {A = ℕ} 0 1 = cc in absurd (omega arith)
+  at_place b m h (Ok (Count n)) l d = at_count n b m l h d
+  at_place b m h (Ok (Value q)) l d = at_value_lem q b m l h (word_at (type_at f.slots q) (part f.payload b m)) refl d
 
   pub undecoded : decided f w ≡ outcome.Undecodable g → Undecoded f w g
   unfolding on_index

@@ -1,5 +1,5 @@
 -- What an event says of the field that it is told of: RULES.md R11.15. Assumes nothing.
-use Rattle.std.specs.Prelude.{ℕ, ◌+◌, ◌-◌, ◌≤◌, ◌≡◌, List, [], ◌∷◌, length, get_or}
+use Rattle.std.specs.Prelude.{ℕ, ◌+◌, ◌-◌, ◌≤◌, ◌≡◌, List, [], ◌∷◌, length, get_or, Ok}
 use Rattle.value.specs.declared.CodecFault.{CodecFault}
 use Rattle.value.specs.declared.CodecFault.TheVariants as fault
 use Rattle.value.specs.Fault.{Tells}
@@ -17,8 +17,8 @@ use Rattle.pdo_run.specs.Run.{Frame, decided}
 
 -- the type of what a word maps: a value's own, and U8 of a list's count
 pub data TargetType (objects slots : List ℕ) (x sub t : ℕ) : Type 0 where
-  value : (p : ℕ) → place_of objects x sub ≡ Value p → t ≡ type_at slots p → TargetType objects slots x sub t
-  count : (n : ℕ) → place_of objects x sub ≡ Count n → t ≡ 5 → TargetType objects slots x sub t
+  value : (p : ℕ) → place_of objects x sub ≡ Ok (Value p) → t ≡ type_at slots p → TargetType objects slots x sub t
+  count : (n : ℕ) → place_of objects x sub ≡ Ok (Count n) → t ≡ 5 → TargetType objects slots x sub t
 
 -- a word's field, which lies within the payload, does not decode, and the fault says why: places and counts are the field's own
 pub record Undecoded (f : Frame) (w : ℕ) (g : CodecFault) : Type 0 where

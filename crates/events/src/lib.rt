@@ -8,7 +8,7 @@ use answers::Refusal;
 use event::EventRecord;
 pub use receiving::{consume_by_value, consume_pdo_payload};
 
-// An answer, and the event list after it.
+// An answer, and the event list after it: what `consume_by_value` answers.
 #[derive(Clone, Copy)]
 pub struct Heard {
     pub answer: Result<usize, Refusal>,

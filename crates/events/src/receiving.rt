@@ -50,7 +50,7 @@ pub fn consume_pdo_payload(
     answer
 }
 
-// The same with the list by value, in and out: for programs.
+// The same with the list by value, in and out: for programs. It stays beside the lending call, since docs/PUBLIC.md names it.
 pub fn consume_by_value(
     objects: &[u64],
     slots: &[u64],

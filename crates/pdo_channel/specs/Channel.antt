@@ -1,16 +1,16 @@
 -- The channel that a sender has, and its version: RULES.md 11. Assumes nothing.
-use Rattle.std.specs.Prelude.{ℕ, zero, suc, ◌+◌, ◌/◌, ◌%◌, Bool, false, cond, not, ◌&&◌, ◌||◌, eqb, leb, ltb, get_or, Option, Some, None}
+use Rattle.std.specs.Prelude.{ℕ, zero, suc, ◌+◌, ◌/◌, ◌%◌, Bool, false, cond, not, ◌&&◌, ◌||◌, eqb, leb, ltb, get_or, Option, Some, None, Result, Ok, Err}
 use Rattle.entry.specs.Table.{Dict, type_at}
 use Rattle.entry.specs.Find.{place_of}
 use Rattle.entry.specs.declared.Place.{Place}
-use Rattle.entry.specs.declared.Place.TheVariants.{NoObject, NoSub, Count, Value}
+use Rattle.entry.specs.declared.Place.TheVariants.{Count, Value}
+use Rattle.entry.specs.declared.Missing.{Missing}
 
 -- a U8 at a place, or none
-abbrev pub u8_in : Dict → Place → Option ℕ
-u8_in d NoObject = None
-u8_in d NoSub = None
-u8_in d (Count n) = None
-u8_in d (Value p) = cond (eqb (type_at d.slots p) 5) (Some (get_or d.words p 0)) None
+abbrev pub u8_in : Dict → Result Place Missing → Option ℕ
+u8_in d (Err m) = None
+u8_in d (Ok (Count n)) = None
+u8_in d (Ok (Value p)) = cond (eqb (type_at d.slots p) 5) (Some (get_or d.words p 0)) None
 
 -- the U8 at a sub-index above 0, which only lists have
 abbrev pub u8_at : Dict → ℕ → ℕ → Option ℕ
@@ -19,6 +19,10 @@ u8_at d x sub = u8_in d (place_of d.objects x sub)
 -- R11.2: "matches the sender: equal to a sender that is not 0, or 0 with sender 240"
 abbrev pub is_sender : ℕ → ℕ → Bool
 is_sender sender v = (eqb v sender && not (eqb sender 0)) || (eqb v 0 && eqb sender 240)
+
+-- R12.3: "A U8 of 0 or 240 at 1400h+i/1 gives sender 240, any other value gives itself; an earlier channel that matches that sender takes it."
+abbrev pub sender_for : ℕ → ℕ
+sender_for v = cond (eqb v 0) 240 v
 
 abbrev pub matches_in : ℕ → Option ℕ → Bool
 matches_in sender (Some v) = is_sender sender v

@@ -1,21 +1,24 @@
 -- One payload's turn in a cycle. Assumes nothing.
-use mathlib.Core.Path.{◌≡◌, sym, ap, ◌∙◌}
+use mathlib.Core.Path.{◌≡◌, sym, ap, ap₂, ◌∙◌}
 use mathlib.Core.Bool.{true}
 use mathlib.Core.List.{List, [], map}
 use Prim.Native.Nat.{ℕ, suc, ◌+◌, ◌-◌, ◌<◌, ◌≤◌}
 use native.Mathlib.Omega.{arith}
 use borrow.Author.Tests.{lt-ltb, le-ltb}
-use lib.ListN.{length, length-append, length-map}
+use borrow.Rule.Slice.PartMut.{put_mid}
+use lib.ListN.{length, length-append, length-map, take, drop, drop_of_length-le}
+use lib.Seq.{drop-drop}
+use Rattle.std.proofs.lemmas.List.{length-drop, take_all, append-nil}
 use Rattle.lists.specs.Numbers.{Bytes}
 use Rattle.lists.specs.Lists.{over}
-use Rattle.lists.proofs.ListLaws.{over_none, over-over}
+use Rattle.lists.proofs.ListLaws.{over_none, over-over, length_over}
 use Rattle.lists.proofs.NumberLaws.{bytes_take, bytes_drop}
 use Rattle.event.specs.declared.EventRecord.{EventRecord}
 use Rattle.event.specs.Record.{event_number}
 use Rattle.entry.specs.Table.{dict}
 use Rattle.entry.specs.Judge.{well_formed}
 use Rattle.entry.specs.Put.{Contents}
-use Rattle.pdo_run.specs.Run.{frame, Ran, Logged, finished}
+use Rattle.pdo_run.specs.Run.{frame, Ran, Logged, logged, finished}
 use Rattle.pdo_handler.proofs.ConsumeLaws.{Sane, received_sane}
 use Rattle.pdo_handler.proofs.EventLaws.{map-append, received_few}
 use Rattle.pdo_cycle.specs.Payloads.{start_of, length_of, sender_of, version_of, ready_of, payload_of}
@@ -49,6 +52,27 @@ module _ (l : List ℕ) (n i : ℕ) where
       let y : n + (length es + length x.events) ≡ n + length es + length x.events = omega arith in
       let z : i + (1 + x.consumed) ≡ i + 1 + x.consumed = omega arith in
       rw (map-append event_number es x.events, over-over l n (map event_number es) (n + length es) (map event_number x.events) (omega (arith, m)) (omega (arith, m, h)), length-append es x.events, y, z)
+
+-- ---- what a run leaves in the rest of the log, that was lent, it leaves in the whole
+module _ (r : Ran) (l : List ℕ) (n : ℕ) where
+  abbrev pub rest : List ℕ
+  rest = take (length l - n) (drop n l)
+
+  rest-over : (xs : List ℕ) → put_mid n (length l - n) l (over rest 0 xs) ≡ over l n xs
+  unfolding over
+  rest-over xs =
+      let z : 0 + length xs ≡ length xs = omega arith in
+      let y : length (drop n l) ≤ length l - n = omega (arith, length-drop n l) in
+      rw (take_all (length l - n) (drop n l) y, drop_of_length-le (drop n l) y, z, drop-drop (length xs) n l, append-nil)
+
+  pub lent : (c : Contents) (new : List ℕ) (k : ℕ) → logged c new k ≡ finished r rest 0 → logged c (put_mid n (length l - n) l new) (n + k) ≡ finished r l n
+  lent c new k q =
+      let z : n + (0 + length r.events) ≡ n + length r.events = omega arith in
+      ap (λ (x : Logged). logged x.contents (put_mid n (length l - n) l x.log) (n + x.count)) q
+      ∙ ap₂ (logged r.contents) (rest-over (map event_number r.events)) z
+
+  pub logged_length : n + length r.events ≤ length l → (x : Logged) → x ≡ finished r l n → length x.log ≡ length l
+  logged_length h x q = ap (λ (y : Logged). length y.log) q ∙ length_over l n (map event_number r.events) (omega (arith, h, length-map r.events event_number))
 
 -- ---- a payload leaves a well-formed dictionary of bytes, and has at most 254 events
 module _ (v : Delivery) (c : Contents) (i : ℕ) (w : well_formed (dict v.objects v.slots c.words c.bytes) ≡ true) where

@@ -1,56 +1,44 @@
 // The numbers of the payloads: five for each.
-ghost use Rattle.std.specs.Prelude.{◌≡◌, ◌+◌, ◌*◌, ◌≤◌, ◌<◌, length};
-ghost use Rattle.pdo_cycle.specs.Payloads.{number_at, is_placed, is_short, are_shaped, are_placed, are_short};
+ghost use Rattle.std.specs.Prelude.{◌≡◌, ◌+◌, ◌*◌, ◌≤◌, length, take, drop};
+ghost use Rattle.std.specs.List.{list_all};
+ghost use Rattle.pdo_cycle.specs.Payloads.{is_placed, is_short, are_shaped};
 
-pub fn number_at(payloads: &[u64], i: usize, k: usize) -> u64
-    requires { (k < 5) × (5 * i + 5 ≤ length payloads.now) }
-    ensures { result ≡ number_at payloads.now i k }
+// The numbers of payload i.
+pub fn numbers_of(payloads: &[u64], i: usize) -> [u64; 5]
+    requires { 5 * i + 5 ≤ length payloads.now }
+    ensures { result ≡ take 5 (drop (5 * i) payloads.now) }
 {
-    payloads[5 * i + k]
+    payloads.as_chunks::<5>().0[i]
 }
 
-// Does payload i lie within so many bytes, and have a sender and a version?
-fn placed(size: u64, payloads: &[u64], i: usize) -> bool
-    requires { 5 * i + 5 ≤ length payloads.now }
-    ensures { result ≡ is_placed size payloads.now i }
+// Does a payload lie within so many bytes, and have a sender and a version?
+fn placed(size: u64, numbers: &[u64; 5]) -> bool
+    ensures { result ≡ is_placed size numbers.now 0 }
 {
-    let start = number_at(payloads, i, 0);
-    let length = number_at(payloads, i, 1);
-    let sender = number_at(payloads, i, 2);
-    let version = number_at(payloads, i, 3);
+    let [start, length, sender, version, _] = *numbers;
     if size < length {
         return false;
     }
     (start <= size - length) & ((sender <= 255) & (version <= 255))
 }
 
-fn short(payloads: &[u64], i: usize) -> bool
-    requires { 5 * i + 5 ≤ length payloads.now }
-    ensures { result ≡ is_short payloads.now i }
+fn short(numbers: &[u64; 5]) -> bool
+    ensures { result ≡ is_short numbers.now 0 }
 {
-    number_at(payloads, i, 1) <= 1490
+    let [_, length, ..] = *numbers;
+    length <= 1490
 }
 
-// Whether all payloads are placed, and whether all are short.
-#[derive(Clone, Copy)]
-pub struct Judged {
-    pub placed: bool,
-    pub short: bool,
+pub fn all_placed(size: u64, each: &[[u64; 5]]) -> bool
+    ensures { result ≡ list_all (λ numbers. is_placed size numbers 0) each.now }
+{
+    each.iter().all(|numbers| placed(size, numbers))
 }
 
-pub fn judge(size: u64, payloads: &[u64]) -> Judged
-    ensures { (result.placed ≡ are_placed size payloads.now) × (result.short ≡ are_short payloads.now) }
+pub fn all_short(each: &[[u64; 5]]) -> bool
+    ensures { result ≡ list_all (λ numbers. is_short numbers 0) each.now }
 {
-    let mut all_placed = true;
-    let mut all_short = true;
-    for i in 0..payloads.len() / 5 {
-        all_placed = placed(size, payloads, i) & all_placed;
-        all_short = short(payloads, i) & all_short;
-    }
-    Judged {
-        placed: all_placed,
-        short: all_short,
-    }
+    each.iter().all(short)
 }
 
 pub fn shaped(payloads: &[u64]) -> bool

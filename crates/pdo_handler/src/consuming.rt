@@ -1,126 +1,65 @@
 // Consuming a payload: its channel, its version, its words.
-ghost use Rattle.std.specs.Prelude.{◌≡◌, true, ℕ, ◌+◌, ◌<◌, ◌≤◌, length, Some};
+ghost use Rattle.std.specs.Prelude.{◌≡◌, ℕ, ◌<◌, ◌≤◌, length, Some};
 ghost use Rattle.entry.specs.Table.{dict};
-ghost use Rattle.entry.specs.Judge.{well_formed};
 ghost use Rattle.entry.specs.Put.{contents};
-ghost use Rattle.pdo_run.specs.Run.{frame, logged, finished};
+ghost use Rattle.pdo_step.specs.Receiving.{dict_of, held_in, Same};
+ghost use Rattle.pdo_run.specs.Run.{framed, logged, finished};
 ghost use Rattle.pdo_handler.specs.Consume.{on_channel, consumed_by, received_by, after_consume, consume_of};
 
 use answers::Refusal;
 use event::packed;
-use judge::Dictionary;
 use pdo_channel::{first_match, right_version, version_of};
-use pdo_run::{note, run_list};
+use pdo_run::{Payload, note, run_list};
+use pdo_step::Receiving;
 
-// A payload that is ready, of a sender whose channel is known, or that has none; the number of events in the log, where so many had
-// begun it.
+// A payload that is ready, of a sender whose channel is known, or that has none; the number of events, which the log begins with.
 pub fn consume_on_channel(
-    objects: &[u64],
-    slots: &[u64],
-    words: &mut [u64],
-    bytes: &mut [u8],
-    payload: &[u8],
-    sender: u8,
-    version: u8,
-    number: u64,
-    channel: Option<usize>,
+    d: &mut Receiving,
+    payload: &Payload,
+    channel: Option<u8>,
     log: &mut [u64],
-    begun: usize,
 ) -> usize
-    requires bytes_value { well_formed (dict objects.now slots.now words.old bytes.old) ≡ true }
-    requires payload_len_bound { (length payload.now ≤ 1490) × (number < 1024) × (begun + 254 ≤ length log.old) }
-    requires by_index { (i : ℕ) → channel ≡ Some i → i < 256 }
-    ensures { logged (contents words.new bytes.new) log.new result ≡ finished (on_channel (frame objects.now slots.now payload.now sender number) (contents words.old bytes.old) version channel) log.old begun }
+    requires { 254 ≤ length log.old }
+    ensures same { Same d.old d.new }
+    ensures left { logged (held_in d.new) log.new result ≡ finished (on_channel (framed d.old payload.now) (held_in d.old) payload.now.version channel) log.old 0 }
 {
     let Some(i) = channel else {
-        return begun;
+        return 0;
     };
-    let d = Dictionary {
-        objects,
-        slots,
-        words: &*words,
-        bytes: &*bytes,
-    };
-    let expected = version_of(&d, i);
-    if right_version(expected, version) {
-        return run_list(
-            objects,
-            slots,
-            words,
-            bytes,
-            payload,
-            sender,
-            number,
-            0x1600 + i as u16,
-            log,
-            begun,
-        );
+    let expected = version_of(&d.shown(), i);
+    if right_version(expected, payload.version) {
+        return run_list(d, payload, 0x1600 + i as u16, log);
     }
-    pdo_step::set_bit(objects, slots, words, bytes, 0x1C80, sender);
-    note(log, begun, packed(number, 1, 0, 0, 0, 0))
+    pdo_step::mark(d, 0x1C80, payload.sender);
+    note(log, 0, packed(payload.number, 1, 0, 0, 0, 0))
 }
 
-// A payload that is ready; the number of events in the log, where so many had begun it.
-fn consume_ready(
-    objects: &[u64],
-    slots: &[u64],
-    words: &mut [u64],
-    bytes: &mut [u8],
-    payload: &[u8],
-    sender: u8,
-    version: u8,
-    number: u64,
-    log: &mut [u64],
-    begun: usize,
-) -> usize
-    requires bytes_value { well_formed (dict objects.now slots.now words.old bytes.old) ≡ true }
-    requires payload_len_bound { (length payload.now ≤ 1490) × (number < 1024) × (begun + 254 ≤ length log.old) }
-    ensures { logged (contents words.new bytes.new) log.new result ≡ finished (consumed_by (frame objects.now slots.now payload.now sender number) (contents words.old bytes.old) version) log.old begun }
+// A payload that is ready; the number of events, which the log begins with.
+fn consume_ready(d: &mut Receiving, payload: &Payload, log: &mut [u64]) -> usize
+    requires { 254 ≤ length log.old }
+    ensures same { Same d.old d.new }
+    ensures left { logged (held_in d.new) log.new result ≡ finished (consumed_by (framed d.old payload.now) (held_in d.old) payload.now.version) log.old 0 }
 {
-    let d = Dictionary {
-        objects,
-        slots,
-        words: &*words,
-        bytes: &*bytes,
-    };
-    let channel = first_match(&d, sender);
-    consume_on_channel(
-        objects, slots, words, bytes, payload, sender, version, number, channel, log, begun,
-    )
+    let channel = first_match(&d.shown(), payload.sender);
+    consume_on_channel(d, payload, channel, log)
 }
 
 // A payload, ready or not.
-pub fn receive(
-    objects: &[u64],
-    slots: &[u64],
-    words: &mut [u64],
-    bytes: &mut [u8],
-    payload: &[u8],
-    sender: u8,
-    version: u8,
-    ready: bool,
-    number: u64,
-    log: &mut [u64],
-    begun: usize,
-) -> usize
-    requires bytes_value { well_formed (dict objects.now slots.now words.old bytes.old) ≡ true }
-    requires payload_len_bound { (length payload.now ≤ 1490) × (number < 1024) × (begun + 254 ≤ length log.old) }
-    ensures { logged (contents words.new bytes.new) log.new result ≡ finished (received_by (frame objects.now slots.now payload.now sender number) (contents words.old bytes.old) version ready) log.old begun }
+pub fn receive(d: &mut Receiving, payload: &Payload, ready: bool, log: &mut [u64]) -> usize
+    requires { 254 ≤ length log.old }
+    ensures same { Same d.old d.new }
+    ensures left { logged (held_in d.new) log.new result ≡ finished (received_by (framed d.old payload.now) (held_in d.old) payload.now.version ready) log.old 0 }
 {
     if !ready {
-        return begun;
+        return 0;
     }
-    consume_ready(
-        objects, slots, words, bytes, payload, sender, version, number, log, begun,
-    )
+    consume_ready(d, payload, log)
 }
 
-// Consumes a payload into a dictionary that was judged.
+// Consumes a payload into a dictionary that was judged. The room stands beside the log, whose own length is not it: it is judged in the
+// core, after Malformed and before PayloadTooLong (docs/DECISIONS.md, 39).
 pub fn consume_logged_judged(
-    objects: &[u64],
-    slots: &[u64],
-    words: &mut [u64],
-    bytes: &mut [u8],
+    d: &mut Receiving,
     payload: &[u8],
     sender: u8,
     version: u8,
@@ -128,9 +67,9 @@ pub fn consume_logged_judged(
     room: usize,
     log: &mut [u64],
 ) -> Result<usize, Refusal>
-    requires bytes_value { well_formed (dict objects.now slots.now words.old bytes.old) ≡ true }
-    requires in_bounds { 254 ≤ room → 254 ≤ length log.old }
-    ensures { after_consume result (contents words.new bytes.new) log.new ≡ consume_of (dict objects.now slots.now words.old bytes.old) payload.now sender version ready room log.old }
+    requires { 254 ≤ room → 254 ≤ length log.old }
+    ensures same { Same d.old d.new }
+    ensures left { after_consume result (held_in d.new) log.new ≡ consume_of (dict_of d.old) payload.now sender version ready room log.old }
 {
     if room < 254 {
         return Err(Refusal::NoEventRoom);
@@ -138,9 +77,13 @@ pub fn consume_logged_judged(
     if 1490 < payload.len() {
         return Err(Refusal::PayloadTooLong);
     }
-    Ok(receive(
-        objects, slots, words, bytes, payload, sender, version, ready, 0, log, 0,
-    ))
+    let payload = Payload {
+        bytes: payload,
+        sender,
+        version,
+        number: 0,
+    };
+    Ok(receive(d, &payload, ready, log))
 }
 
 // Consumes a payload, where the event list has room for so many records; each event is a number of the log, from the first on.
@@ -162,7 +105,11 @@ pub fn consume_logged(
     if !judge::well_formed(objects, slots, words, bytes) {
         return Err(Refusal::Malformed);
     }
-    consume_logged_judged(
-        objects, slots, words, bytes, payload, sender, version, ready, room, log,
-    )
+    let mut d = Receiving {
+        objects,
+        slots,
+        words,
+        bytes,
+    };
+    consume_logged_judged(&mut d, payload, sender, version, ready, room, log)
 }

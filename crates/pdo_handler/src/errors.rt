@@ -6,7 +6,7 @@ ghost use Rattle.pdo_handler.specs.Errors.{after_update, update_of};
 
 use answers::Refusal;
 
-// Sets the bit in a dictionary that was judged.
+// Sets the bit in a dictionary that was judged, by slices and the clause, as `set_bit` does.
 pub fn update_pdo_error_object_judged(
     objects: &[u64],
     slots: &[u64],

@@ -1,6 +1,6 @@
 -- One word's turn. Assumes nothing.
 use Rattle.std.specs.Prelude.{Option, Some, None}
-use mathlib.Core.Path.{◌≡◌, refl, sym, subst}
+use mathlib.Core.Path.{◌≡◌, refl}
 use mathlib.Core.Bool.{Bool, true, false, cond}
 use mathlib.Core.List.{List, [], map}
 use mathlib.Core.Logic.{◌≢◌}
@@ -11,21 +11,17 @@ use borrow.Author.Tests.{eq-eqb, ne_eqb}
 use lib.Dec.{eqb}
 use lib.ListN.{length, drop, get_or, set, drop_of_length-le}
 use lib.Seq.{drop-cons}
-use Rattle.lists.specs.Numbers.{Bytes}
 use Rattle.lists.proofs.ListLaws.{over_none, over_first}
 use Rattle.event.specs.declared.Event.{Event}
 use Rattle.event.specs.Record.{event_number, record_at}
 use Rattle.event.proofs.RecordLaws.{number_some}
-use Rattle.entry.specs.Table.{Dict, edition_of, type_at}
-use Rattle.entry.specs.Judge.{well_formed}
-use Rattle.entry.specs.Put.{Contents, contents, filled}
+use Rattle.entry.specs.Table.{edition_of, type_at}
+use Rattle.entry.specs.Put.{Contents}
 use Rattle.pdo_step.specs.declared.Outcome.{Outcome}
 use Rattle.pdo_step.specs.declared.Outcome.TheVariants as outcome
-use Rattle.pdo_step.specs.Outcomes.{outcome_of}
 use Rattle.pdo_step.specs.Effects.{effect_of, sets_bit}
 use Rattle.pdo_step.specs.Steps.{applied}
-use Rattle.pdo_step.proofs.OutcomeLaws.{step_keeps}
-use Rattle.pdo_run.specs.Run.{recorded, code_of, Frame, frame, decided, marked, act_of, Ran, ran, behind, run_from, logged, finished, noted_log, noted_count}
+use Rattle.pdo_run.specs.Run.{recorded, code_of, Frame, decided, marked, act_of, Ran, ran, behind, run_from, logged, finished, noted_log, noted_count}
 
 -- ---- the act: the bit, or the put
 pub act_marked : (f : Frame) (c : Contents) (o : Outcome) → sets_bit (edition_of f.objects) o ≡ true → act_of f c o ≡ marked f c 0x1C81
@@ -49,26 +45,6 @@ marked_idle edition slots payload c outcome.CountRefused e = refl
 marked_idle edition slots payload c (outcome.Undecodable f) e = refl
 marked_idle edition slots payload c outcome.TooLong e = refl
 marked_idle edition slots payload c (outcome.Stored p start n) e = let z : ◌≡◌ {A = ℕ} 0 1 = cc in absurd (omega arith)
-
--- and it stops the run
-goes_on_lem : (edition : ℕ) (o : Outcome) → (effect_of o).stops ≡ false → sets_bit edition o ≡ false
-goes_on_lem edition outcome.Misaligned s = refl
-goes_on_lem edition outcome.Short s = let z : ◌≡◌ {A = ℕ} 0 1 = cc in absurd (omega arith)
-goes_on_lem edition (outcome.Server x start n) s = refl
-goes_on_lem edition (outcome.Client x start n) s = refl
-goes_on_lem edition outcome.NoTarget s = refl
-goes_on_lem edition outcome.Count s = refl
-goes_on_lem edition outcome.CountRefused s = refl
-goes_on_lem edition (outcome.Undecodable f) s = let z : ◌≡◌ {A = ℕ} 0 1 = cc in absurd (omega arith)
-goes_on_lem edition outcome.TooLong s = refl
-goes_on_lem edition (outcome.Stored p start n) s = refl
-
--- a word that does not stop the run keeps the dictionary well-formed
-pub act_keeps : (d : Dict) (payload : List ℕ) (sender i w : ℕ) → well_formed d ≡ true → Bytes payload → (o : Outcome) → o ≡ outcome_of d.objects d.slots payload w → (effect_of o).stops ≡ false
-    → well_formed (filled d (act_of (frame d.objects d.slots payload sender i) (contents d.words d.bytes) o)) ≡ true
-unfolding act_of
-act_keeps d payload sender i w e b o q s =
-    rw (goes_on_lem (edition_of d.objects) o s) (subst (λ (x : Outcome). well_formed (filled d (applied d.slots payload (contents d.words d.bytes) x)) ≡ true) (sym q) (step_keeps d payload w e b))
 
 -- ---- the run, one word at a time
 module _ (f : Frame) (p : ℕ) (list : List ℕ) (j : ℕ) (c : Contents) where

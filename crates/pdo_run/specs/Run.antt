@@ -7,10 +7,12 @@ use Rattle.event.specs.Record.{event_number, record_at}
 use Rattle.entry.specs.Table.{Dict, dict, edition_of, kind_at, list_count, first_at, type_at}
 use Rattle.entry.specs.Put.{Contents, contents}
 use Rattle.pdo_step.specs.declared.Outcome.{Outcome}
+use Rattle.pdo_step.specs.declared.receiving.Receiving.{Receiving}
 use Rattle.pdo_step.specs.Outcomes.{outcome_of}
 use Rattle.pdo_step.specs.Effects.{effect_of, sets_bit}
 use Rattle.pdo_step.specs.Steps.{applied}
 use Rattle.pdo_step.specs.Bits.{marked_in}
+use Rattle.pdo_run.specs.declared.payload.Payload.{Payload}
 use Rattle.pdo_run.specs.declared.Turn.{Turn}
 
 -- ---- R11.9 and R11.13: the record of element k of payload i, where there is an event; and its number, 0 where there is none
@@ -39,6 +41,9 @@ pub record Frame : Type 0 where
 
 abbrev pub frame : List ℕ → List ℕ → List ℕ → ℕ → ℕ → Frame
 frame objects slots payload sender i = record { objects = objects; slots = slots; payload = payload; sender = sender; number = i }
+
+abbrev pub framed : Receiving → Payload → Frame
+framed d p = frame d.objects.now d.slots.now p.bytes.now p.sender p.number
 
 abbrev pub decided : Frame → ℕ → Outcome
 decided f w = outcome_of f.objects f.slots f.payload w

@@ -1,23 +1,26 @@
 // The gathered words of a channel, in turn.
 #![tactic(auto)]
 
+mod payload;
+
 ghost use Rattle.std.specs.Prelude.{◌≡◌, true, false, ◌+◌, ◌<◌, ◌≤◌, length, take, drop, Some};
-ghost use Rattle.entry.specs.Table.{dict, edition_of, number_of, values_of};
+ghost use Rattle.entry.specs.Table.{edition_of, number_of, values_of};
 ghost use Rattle.entry.specs.Find.{find_row};
-ghost use Rattle.entry.specs.Judge.{well_formed};
-ghost use Rattle.entry.specs.Put.{contents};
-ghost use Rattle.pdo_run.specs.Run.{code_of, turn, turn_of, frame, act_of, run_from, run_in, run_on, logged, finished, noted_log, noted_count};
+ghost use Rattle.pdo_run.specs.Run.{code_of, turn, turn_of, framed, act_of, run_from, run_in, run_on, logged, finished, noted_log, noted_count};
 ghost use Rattle.pdo_step.specs.Outcomes.{reach, outcome_of};
+ghost use Rattle.pdo_step.specs.Receiving.{held_in, Same};
 ghost use Rattle.pdo_step.specs.Effects.{caused_by, is_short};
 ghost use Rattle.value.specs.Fault.{first_told, second_told};
 ghost use Rattle.event.specs.declared.Event.TheVariants.{PayloadShort};
 
+use entry::{Row, Slot};
 use event::packed;
-use pdo_step::Outcome;
+pub use payload::Payload;
+use pdo_step::{Outcome, Receiving};
 use value::CodecFault;
 
 // What an outcome leaves to do: its event's number, or 0; the sender's bit in 1C81h; to stop the run.
-// No Option for the number: the definitions `code_of` and `noted_count`, which `note`'s clauses cite, say no event by 0.
+// No Option for the number: the definition `turn_of`, and `note`'s clauses, say no event by 0.
 #[derive(Clone, Copy)]
 pub struct Turn {
     pub event: u64,
@@ -98,64 +101,32 @@ pub fn note(log: &mut [u64], n: usize, e: u64) -> usize
 }
 
 // One word, element k: decided, and done.
-fn act_on(
-    objects: &[u64],
-    slots: &[u64],
-    words: &mut [u64],
-    bytes: &mut [u8],
-    payload: &[u8],
-    sender: u8,
-    number: u64,
-    k: u64,
-    word: u64,
-) -> Turn
-    requires bytes_value { well_formed (dict objects.now slots.now words.old bytes.old) ≡ true }
-    requires payload_len_bound { (length payload.now ≤ 1490) × (number < 1024) × (k < 256) }
-    ensures turn { result ≡ turn_of (edition_of objects.now) number k (outcome_of objects.now slots.now payload.now word) }
-    ensures held { contents words.new bytes.new ≡ act_of (frame objects.now slots.now payload.now sender number) (contents words.old bytes.old) (outcome_of objects.now slots.now payload.now word) }
+fn act_on(d: &mut Receiving, payload: &Payload, k: u64, word: u64) -> Turn
+    requires { k < 256 }
+    ensures same { Same d.old d.new }
+    ensures turn { result ≡ turn_of (edition_of d.old.objects.now) payload.now.number k (outcome_of d.old.objects.now d.old.slots.now payload.now.bytes.now word) }
+    ensures held { held_in d.new ≡ act_of (framed d.old payload.now) (held_in d.old) (outcome_of d.old.objects.now d.old.slots.now payload.now.bytes.now word) }
 {
-    let o = pdo_step::step(objects, slots, words, bytes, payload, word);
-    let t = turn_of(entry::edition_of(objects), number, k, o);
+    let o = pdo_step::step(d, payload.bytes, word);
+    let t = turn_of(entry::edition_of(d.objects), payload.number, k, o);
     if t.bit {
-        pdo_step::set_bit(objects, slots, words, bytes, 0x1C81, sender);
+        pdo_step::mark(d, 0x1C81, payload.sender);
     }
     t
 }
 
-// The words of a list in turn, until one stops; the number of events in the log, where so many had begun it.
-fn run(
-    objects: &[u64],
-    slots: &[u64],
-    words: &mut [u64],
-    bytes: &mut [u8],
-    payload: &[u8],
-    sender: u8,
-    number: u64,
-    first: usize,
-    list: &[u64],
-    log: &mut [u64],
-    begun: usize,
-) -> usize
-    requires bytes_value { well_formed (dict objects.now slots.now words.old bytes.old) ≡ true }
-    requires list_bound { (first + length list.now ≤ values_of objects.now) × (length list.now ≤ 254) × (length payload.now ≤ 1490) × (number < 1024) × (begun + length list.now ≤ length log.old) }
-    ensures { logged (contents words.new bytes.new) log.new result ≡ finished (run_from (frame objects.now slots.now payload.now sender number) first list.now 0 (contents words.old bytes.old)) log.old begun }
+// The words of a list in turn, until one stops; the number of events, which the log begins with.
+fn run(d: &mut Receiving, payload: &Payload, first: usize, list: &[u64], log: &mut [u64]) -> usize
+    requires { (first + length list.now ≤ values_of d.old.objects.now) × (length list.now ≤ 254) × (length list.now ≤ length log.old) }
+    ensures same { Same d.old d.new }
+    ensures left { logged (held_in d.new) log.new result ≡ finished (run_from (framed d.old payload.now) first list.now 0 (held_in d.old)) log.old 0 }
 {
-    let mut n = begun;
+    let mut n = 0;
     for (j, &word) in list.iter().enumerate() {
-        if entry::type_at(slots, first + j) != 8 {
+        if Slot(d.slots, first + j).value_type() != 8 {
             continue;
         }
-        let t = act_on(
-            objects,
-            slots,
-            words,
-            bytes,
-            payload,
-            sender,
-            number,
-            j as u64 + 1,
-            word,
-        );
+        let t = act_on(d, payload, j as u64 + 1, word);
         n = note(log, n, t.event);
         if t.stops {
             return n;
@@ -165,91 +136,45 @@ fn run(
 }
 
 // The n words from the first on, with zeros behind them.
-fn gather<const N: usize>(words: &[u64], first: usize, n: usize) -> [u64; N]
-    requires { (n ≤ N) × (first + n ≤ length words.now) }
-    ensures { (length result ≡ N) × (take n result ≡ take n (drop first words.now)) }
+fn gather<const N: usize>(d: &Receiving, first: usize, n: usize) -> [u64; N]
+    requires { (n ≤ N) × (first + n ≤ length d.now.words.now) }
+    ensures { (length result ≡ N) × (take n result ≡ take n (drop first d.now.words.now)) }
 {
+    let words = &*d.words;
     let mut list = [0u64; N];
     list[..n].copy_from_slice(&words[first..first + n]);
     list
 }
 
 // The words of the list in row r: all are gathered before the first is acted on.
-fn run_row(
-    objects: &[u64],
-    slots: &[u64],
-    words: &mut [u64],
-    bytes: &mut [u8],
-    payload: &[u8],
-    sender: u8,
-    number: u64,
-    r: usize,
-    log: &mut [u64],
-    begun: usize,
-) -> usize
-    requires bytes_value { well_formed (dict objects.now slots.now words.old bytes.old) ≡ true }
-    requires r_bound { (r < number_of objects.now) × (length payload.now ≤ 1490) × (number < 1024) × (begun + 254 ≤ length log.old) }
-    ensures { logged (contents words.new bytes.new) log.new result ≡ finished (run_in (frame objects.now slots.now payload.now sender number) (contents words.old bytes.old) r) log.old begun }
+fn run_row(d: &mut Receiving, payload: &Payload, r: usize, log: &mut [u64]) -> usize
+    requires { (r < number_of d.old.objects.now) × (254 ≤ length log.old) }
+    ensures same { Same d.old d.new }
+    ensures left { logged (held_in d.new) log.new result ≡ finished (run_in (framed d.old payload.now) (held_in d.old) r) log.old 0 }
 {
-    let first = entry::first_at(objects, r) as usize;
-    let n = entry::list_count(objects, r) as usize;
+    let row = Row(d.objects, r);
+    let first = row.first() as usize;
+    let n = row.list_count() as usize;
     // An array is made and handed back as a whole, and 2 KB of zeros cost more than a short list.
     if n <= 16 {
-        let few = gather::<16>(words, first, n);
-        return run(
-            objects,
-            slots,
-            words,
-            bytes,
-            payload,
-            sender,
-            number,
-            first,
-            &few[..n],
-            log,
-            begun,
-        );
+        let few = gather::<16>(d, first, n);
+        return run(d, payload, first, &few[..n], log);
     }
-    let list = gather::<254>(words, first, n);
-    run(
-        objects,
-        slots,
-        words,
-        bytes,
-        payload,
-        sender,
-        number,
-        first,
-        &list[..n],
-        log,
-        begun,
-    )
+    let list = gather::<254>(d, first, n);
+    run(d, payload, first, &list[..n], log)
 }
 
 // The list of a channel, or none.
-pub fn run_list(
-    objects: &[u64],
-    slots: &[u64],
-    words: &mut [u64],
-    bytes: &mut [u8],
-    payload: &[u8],
-    sender: u8,
-    number: u64,
-    index: u16,
-    log: &mut [u64],
-    begun: usize,
-) -> usize
-    requires bytes_value { well_formed (dict objects.now slots.now words.old bytes.old) ≡ true }
-    requires payload_len_bound { (length payload.now ≤ 1490) × (number < 1024) × (begun + 254 ≤ length log.old) }
-    ensures { logged (contents words.new bytes.new) log.new result ≡ finished (run_on (frame objects.now slots.now payload.now sender number) (contents words.old bytes.old) (find_row objects.now index)) log.old begun }
+pub fn run_list(d: &mut Receiving, payload: &Payload, index: u16, log: &mut [u64]) -> usize
+    requires { 254 ≤ length log.old }
+    ensures same { Same d.old d.new }
+    ensures left { logged (held_in d.new) log.new result ≡ finished (run_on (framed d.old payload.now) (held_in d.old) (find_row d.old.objects.now index)) log.old 0 }
 {
-    let Some(r) = entry::find(objects, index) else {
-        return begun;
+    let Some(r) = entry::find(d.objects, index) else {
+        return 0;
     };
-    if entry::kind_at(objects, r) == 0 {
-        return begun;
+    if Row(d.objects, r).kind() == 0 {
+        return 0;
     }
-    run_row(
-        objects, slots, words, bytes, payload, sender, number, r, log, begun,
-    )
+    run_row(d, payload, r, log)
 }

@@ -1,5 +1,5 @@
 -- An outcome by the word's field, its index and its place in turn, as proofs take it apart. Assumes nothing.
-use Rattle.std.specs.Prelude.{Option, Some, None}
+use Rattle.std.specs.Prelude.{Option, Some, None, Result, Ok, Err}
 use Rattle.mapping.specs.declared.Field.{Field}
 use mathlib.Core.Path.{◌≡◌, refl}
 use mathlib.Core.Bool.{Bool, true, false, cond}
@@ -13,18 +13,18 @@ use Rattle.mapping.specs.declared.PdoMappingEntry.{PdoMappingEntry}
 use Rattle.entry.specs.Table.{type_at}
 use Rattle.entry.specs.Find.{place_of}
 use Rattle.entry.specs.declared.Place.{Place}
-use Rattle.entry.specs.declared.Place.TheVariants.{NoObject, NoSub, Count, Value}
+use Rattle.entry.specs.declared.Place.TheVariants.{Count, Value}
+use Rattle.entry.specs.declared.Missing.{Missing}
 use Rattle.aim.specs.Aims.{between, class_at, class_in, class_of}
 use Rattle.aim.specs.declared.Class.TheVariants as class
 use Rattle.pdo_step.specs.declared.Outcome.{Outcome}
 use Rattle.pdo_step.specs.declared.Outcome.TheVariants as outcome
 use Rattle.pdo_step.specs.Outcomes.{part, on_count, on_value, on_class, inside, outcome_of}
 
-abbrev pub on_place : List ℕ → List ℕ → ℕ → ℕ → ℕ → Place → Outcome
-on_place slots payload x start n NoObject = outcome.NoTarget
-on_place slots payload x start n NoSub = outcome.NoTarget
-on_place slots payload x start n (Count c) = on_count x n
-on_place slots payload x start n (Value p) = on_value slots p start n (word_at (type_at slots p) (part payload start n))
+abbrev pub on_place : List ℕ → List ℕ → ℕ → ℕ → ℕ → Result Place Missing → Outcome
+on_place slots payload x start n (Err m) = outcome.NoTarget
+on_place slots payload x start n (Ok (Count c)) = on_count x n
+on_place slots payload x start n (Ok (Value p)) = on_value slots p start n (word_at (type_at slots p) (part payload start n))
 
 unfoldable pub on_index : List ℕ → List ℕ → List ℕ → PdoMappingEntry → ℕ → ℕ → Outcome
 on_index objects slots payload e start n =
@@ -48,11 +48,10 @@ outcome_form objects slots payload w = fielded (field_of (entry_of w))
     sub : ℕ
     sub = (entry_of w).sub_index
 
-    placed : (start n : ℕ) (q : Place) → on_class slots payload x (class_at start n q) ≡ on_place slots payload x start n q
-    placed start n NoObject = refl
-    placed start n NoSub = refl
-    placed start n (Count k) = refl
-    placed start n (Value p) = refl
+    placed : (start n : ℕ) (q : Result Place Missing) → on_class slots payload x (class_at start n q) ≡ on_place slots payload x start n q
+    placed start n (Err m) = refl
+    placed start n (Ok (Count k)) = refl
+    placed start n (Ok (Value p)) = refl
 
     ranged : (start n : ℕ) (server client : Bool)
         → on_class slots payload x (cond server (class.Server start n) (cond client (class.Client start n) (class_at start n (place_of objects x sub))))

@@ -1,4 +1,5 @@
 pub mod BitLaws
+pub mod ReceivingLaws
 pub mod FormLaws
 pub mod OutcomeLaws
 pub mod CaseLaws

@@ -22,7 +22,8 @@ use Rattle.entry.specs.Table.{Dict, type_at, start_at, room_at, is_mapping}
 use Rattle.entry.specs.Find.{place_of}
 use Rattle.entry.specs.Judge.{well_formed}
 use Rattle.entry.specs.declared.Place.{Place}
-use Rattle.entry.specs.declared.Place.TheVariants.{NoObject, NoSub, Count, Value}
+use Rattle.entry.specs.declared.Place.TheVariants.{Count, Value}
+use Rattle.entry.specs.declared.Missing.{Missing}
 use Rattle.entry.proofs.ValueLaws.{rows_of, element_of_lem, element_facts}
 use Rattle.entry.specs.Put.{contents, filled, put_in}
 use Rattle.entry.proofs.PutLaws.{put_text, put_fixed}
@@ -42,7 +43,7 @@ pub record StoredBy (d : Dict) (payload : List ℕ) (p start n : ℕ) : Type 0 w
   pub index : ℕ
   pub sub : ℕ
   pub word : ℕ
-  pub place : place_of d.objects index sub ≡ Value p
+  pub place : place_of d.objects index sub ≡ Ok (Value p)
   pub within : start + n ≤ length payload
   pub small : start + n ≤ 16382
   pub fits : Fits d p (part payload start n) word
@@ -52,7 +53,7 @@ module _ (d : Dict) (payload : List ℕ) (p a n : ℕ) where
     within : b + m ≤ length payload
     small : b + m ≤ 16382
 
-  at_value_lem : (x sub q b m : ℕ) → place_of d.objects x sub ≡ Value q → Lies b m → (w : Result ℕ CodecFault) → word_at (type_at d.slots q) (part payload b m) ≡ w → on_value d.slots q b m w ≡ outcome.Stored p a n → StoredBy d payload p a n
+  at_value_lem : (x sub q b m : ℕ) → place_of d.objects x sub ≡ Ok (Value q) → Lies b m → (w : Result ℕ CodecFault) → word_at (type_at d.slots q) (part payload b m) ≡ w → on_value d.slots q b m w ≡ outcome.Stored p a n → StoredBy d payload p a n
   at_value_lem x sub q b m l h (Err f) k e = let z : ◌≡◌ {A = ℕ} 0 1 = cc in absurd (omega arith)
   at_value_lem x sub q b m l h (Ok w) k e = room (is_text (type_at d.slots q) && ltb (room_at d.slots q) m) refl e
     where
@@ -73,11 +74,10 @@ module _ (d : Dict) (payload : List ℕ) (p a n : ℕ) where
       none false true e = let z : ◌≡◌ {A = ℕ} 0 1 = cc in absurd (omega arith)
       none false false e = let z : ◌≡◌ {A = ℕ} 0 1 = cc in absurd (omega arith)
 
-  at_place : (x sub b m : ℕ) → Lies b m → (q : Place) → place_of d.objects x sub ≡ q → on_place d.slots payload x b m q ≡ outcome.Stored p a n → StoredBy d payload p a n
-  at_place x sub b m h NoObject l e = let z : ◌≡◌ {A = ℕ} 0 1 = cc in absurd (omega arith)
-  at_place x sub b m h NoSub l e = let z : ◌≡◌ {A = ℕ} 0 1 = cc in absurd (omega arith)
-  at_place x sub b m h (Count c) l e = at_count x m e
-  at_place x sub b m h (Value q) l e = at_value_lem x sub q b m l h (word_at (type_at d.slots q) (part payload b m)) refl e
+  at_place : (x sub b m : ℕ) → Lies b m → (q : Result Place Missing) → place_of d.objects x sub ≡ q → on_place d.slots payload x b m q ≡ outcome.Stored p a n → StoredBy d payload p a n
+  at_place x sub b m h (Err r) l e = let z : ◌≡◌ {A = ℕ} 0 1 = cc in absurd (omega arith)
+  at_place x sub b m h (Ok (Count c)) l e = at_count x m e
+  at_place x sub b m h (Ok (Value q)) l e = at_value_lem x sub q b m l h (word_at (type_at d.slots q) (part payload b m)) refl e
 
   pub stored_by : (w : ℕ) → outcome_of d.objects d.slots payload w ≡ outcome.Stored p a n → StoredBy d payload p a n
   unfolding on_index
@@ -117,17 +117,16 @@ module _ (objects slots payload : List ℕ) (w : ℕ) where
       go true = omega arith
       go false = omega (arith, h)
 
-  reach-place : (x b m : ℕ) → b + m ≤ length payload → (q : Place) → reach (on_place slots payload x b m q) ≤ length payload + 16
+  reach-place : (x b m : ℕ) → b + m ≤ length payload → (q : Result Place Missing) → reach (on_place slots payload x b m q) ≤ length payload + 16
   unfolding on_count
-  reach-place x b m h NoObject = omega arith
-  reach-place x b m h NoSub = omega arith
-  reach-place x b m h (Count n) = go (eqb m 0) (is_mapping x)
+  reach-place x b m h (Err r) = omega arith
+  reach-place x b m h (Ok (Count n)) = go (eqb m 0) (is_mapping x)
     where
       go : (c e : Bool) → reach (cond c (outcome.Undecodable (fault.Value 1 0)) (cond e outcome.Count outcome.CountRefused)) ≤ length payload + 16
       go true e = omega arith
       go false true = omega arith
       go false false = omega arith
-  reach-place x b m h (Value q) = reach-value q b m h (word_at (type_at slots q) (part payload b m)) refl
+  reach-place x b m h (Ok (Value q)) = reach-value q b m h (word_at (type_at slots q) (part payload b m)) refl
 
   pub reach_within : reach (outcome_of objects slots payload w) ≤ length payload + 16
   unfolding on_index

@@ -49,7 +49,7 @@ outcome_of objects slots payload w =
 -- what deciding needs
 pub record Shape (objects slots : List ℕ) : Type 0 where
   pub rows : Rows objects
-  pub value : (x sub p : ℕ) → place_of objects x sub ≡ Value p → (p < 6144) × (slot_end p ≤ length slots)
+  pub value : (x sub p : ℕ) → place_of objects x sub ≡ Ok (Value p) → (p < 6144) × (slot_end p ≤ length slots)
 
 -- where the field of an outcome ends, or the numbers that its fault tells
 abbrev pub reach : Outcome → ℕ

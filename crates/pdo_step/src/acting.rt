@@ -1,31 +1,23 @@
 // A mapping word's act.
-ghost use Rattle.std.specs.Prelude.{◌≡◌, true};
-ghost use Rattle.entry.specs.Table.{dict};
-ghost use Rattle.entry.specs.Judge.{well_formed};
-ghost use Rattle.entry.specs.Put.{contents};
+ghost use Rattle.std.specs.Prelude.{◌≡◌};
 ghost use Rattle.pdo_step.specs.Outcomes.{outcome_of};
 ghost use Rattle.pdo_step.specs.Steps.{applied};
+ghost use Rattle.pdo_step.specs.Receiving.{held_in, Same};
 
-use crate::Outcome;
 use crate::deciding::decide;
+use crate::{Outcome, Receiving};
 
 // Decides a word and does what was decided.
-pub fn step(
-    objects: &[u64],
-    slots: &[u64],
-    words: &mut [u64],
-    bytes: &mut [u8],
-    payload: &[u8],
-    word: u64,
-) -> Outcome
-    requires { well_formed (dict objects.now slots.now words.old bytes.old) ≡ true }
-    ensures outcome { result ≡ outcome_of objects.now slots.now payload.now word }
-    ensures held { contents words.new bytes.new ≡ applied slots.now payload.now (contents words.old bytes.old) result }
+pub fn step(d: &mut Receiving, payload: &[u8], word: u64) -> Outcome
+    ensures outcome { result ≡ outcome_of d.old.objects.now d.old.slots.now payload.now word }
+    ensures same { Same d.old d.new }
+    ensures held { held_in d.new ≡ applied d.old.slots.now payload.now (held_in d.old) result }
 {
-    let o = decide(objects, slots, payload, word);
+    let o = decide(d.objects, d.slots, payload, word);
     let Outcome::Stored { p, start, len } = o else {
         return o;
     };
-    entry::put_value(slots, words, bytes, p, &payload[start..start + len]);
+    let field = &payload[start..start + len];
+    entry::put_value(d.slots, d.words, d.bytes, p, field);
     o
 }

@@ -7,6 +7,7 @@ ghost use Rattle.pdo_step.specs.Outcomes.{part, Shape, on_count, on_value, on_cl
 
 use crate::Outcome;
 use aim::Class;
+use entry::Slot;
 use value::CodecFault;
 
 // At a list's count, a U8.
@@ -22,14 +23,15 @@ fn at_count(index: u16, len: usize) -> Outcome
     Outcome::CountRefused
 }
 
-// At value p: decoding, then room.
+// At value p: decoding, then room. It takes p and no `Slot`, since p is answered as well.
 fn at_value(slots: &[u64], payload: &[u8], p: usize, start: usize, len: usize) -> Outcome
     requires p_bound { (p < 6144) × (slot_end p ≤ length slots.now) }
     requires len_in_bounds { start + len ≤ length payload.now }
     ensures { result ≡ on_value slots.now p start len (word_at (type_at slots.now p) (part payload.now start len)) }
 {
-    let t = entry::type_at(slots, p);
-    let room = entry::room_at(slots, p);
+    let slot = Slot(slots, p);
+    let t = slot.value_type();
+    let room = slot.room();
     match value::decode_word(t, &payload[start..start + len]) {
         Err(f) => Outcome::Undecodable(f),
         Ok(_) => if value::is_text(t) & (room < len as u64) {

@@ -1,5 +1,4 @@
 -- `pdo_channel::first_match` meets its contract: the scan from here on gives what the whole scan gives. Assumes nothing.
-use Rattle.std.specs.Prelude.{None}
 use mathlib.Core.Path.{◌≡◌}
 use Prim.Native.Nat.{◌-◌, ◌≤◌}
 use Rattle.entry.specs.Table.{number_of}
@@ -8,7 +7,6 @@ use Rattle.pdo_channel.proofs.first_match.Given as goal
 
 abbrev pub invariant-loop-i : goal.invariant-loop-i
 invariant-loop-i l = record {
-  none_yet : l.found ≡ None;
   row_in_range : l.r ≤ number_of l.d.objects;
   rest_is : channel_from l.d l.sender (256 - l.i) l.i ≡ first_match l.d l.sender;
 }

@@ -1,6 +1,6 @@
 -- `channel::checking::check_elements` meets its contract: how far the elements reach comes last. Assumes nothing.
 use mathlib.Core.List.{List}
-use mathlib.Core.Path.{◌≡◌, ap}
+use mathlib.Core.Path.{◌≡◌, sym, ap}
 use Prim.Native.Nat.{ℕ, ◌+◌, ◌-◌, ◌<◌, ◌≤◌}
 use lib.ListN.{length, take, drop, length-drop}
 use lib.Seq.{length-take-le}
@@ -8,7 +8,6 @@ use native.Mathlib.Omega.{arith}
 use Rattle.entry.specs.Table.{Dict, number_of, slot_place}
 use Rattle.entry.specs.Find.{Elements}
 use Rattle.entry.proofs.ValueLaws.{row_lies}
-use Rattle.pdo_step.proofs.OutcomeLaws.{shape_of}
 use Rattle.channel.proofs.CheckLaws.{list_lies}
 use Rattle.channel.proofs.checking.check_elements.Goals as goal
 
@@ -24,38 +23,30 @@ reaches slots words n first e =
 below : (d v : Dict) (r : ℕ) → d ≡ v → r < number_of v.objects → r < number_of d.objects
 below d v r s h = omega (arith, ap (λ (e : Dict). number_of e.objects) s, h)
 
-pub first_at-first-requires : goal.first_at-first-requires
-first_at-first-requires c =
-    let l = row_lies _ c.d.invariant c.args.r (below _ _ c.args.r c.d.view_is c.requires) in
-    (l.small, l.inside)
-
-pub list_count-n-requires : goal.list_count-n-requires
-list_count-n-requires c =
+pub invariant_of-row : goal.invariant_of-row
+invariant_of-row c =
     let l = row_lies _ c.d.invariant c.args.r (below _ _ c.args.r c.d.view_is c.requires) in
     (l.small, l.inside)
 
 pub ends-requires : goal.ends-requires
-ends-requires c = list_lies _ c.d.invariant c.args.r (below _ _ c.args.r c.d.view_is c.requires) _ _ c.list_count-n.ensures c.first_at-first.ensures
+ends-requires c = list_lies _ c.d.invariant c.args.r (below _ _ c.args.r c.d.view_is c.requires) _ _ c.list_count-n.ensures c.first-first.ensures
 
 pub overflow_add-list : goal.overflow_add-list
 overflow_add-list c =
-    let e = list_lies _ c.d.invariant c.args.r (below _ _ c.args.r c.d.view_is c.requires) _ _ c.list_count-n.ensures c.first_at-first.ensures in
+    let e = list_lies _ c.d.invariant c.args.r (below _ _ c.args.r c.d.view_is c.requires) _ _ c.list_count-n.ensures c.first-first.ensures in
     omega (arith, e.low)
 
 pub offset_bounds-d-inside-first : goal.offset_bounds-d-inside-first
 offset_bounds-d-inside-first c =
-    let e = list_lies _ c.d.invariant c.args.r (below _ _ c.args.r c.d.view_is c.requires) _ _ c.list_count-n.ensures c.first_at-first.ensures in
+    let e = list_lies _ c.d.invariant c.args.r (below _ _ c.args.r c.d.view_is c.requires) _ _ c.list_count-n.ensures c.first-first.ensures in
     omega (arith, e.low)
 
 pub slice_bounds-list-end : goal.slice_bounds-list-end
 slice_bounds-list-end c =
-    let e = list_lies _ c.d.invariant c.args.r (below _ _ c.args.r c.d.view_is c.requires) _ _ c.list_count-n.ensures c.first_at-first.ensures in
+    let e = list_lies _ c.d.invariant c.args.r (below _ _ c.args.r c.d.view_is c.requires) _ _ c.list_count-n.ensures c.first-first.ensures in
     omega (arith, e.worded)
 
-pub first_fault-requires-clause-elements : goal.first_fault-requires-clause-elements
-first_fault-requires-clause-elements c =
-    let e = list_lies _ c.d.invariant c.args.r (below _ _ c.args.r c.d.view_is c.requires) _ _ c.list_count-n.ensures c.first_at-first.ensures in
-    reaches _ _ _ _ e
-
-pub first_fault-requires-clause-shape : goal.first_fault-requires-clause-shape
-first_fault-requires-clause-shape c = shape_of _ c.d.invariant
+pub first_fault-requires : goal.first_fault-requires
+first_fault-requires c =
+    let e = list_lies _ c.d.invariant c.args.r (below _ _ c.args.r c.d.view_is c.requires) _ _ c.list_count-n.ensures c.first-first.ensures in
+    rw (sym c.d.view_is) (reaches _ _ _ _ e)

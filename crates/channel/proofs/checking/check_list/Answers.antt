@@ -8,13 +8,8 @@ use Rattle.channel.proofs.checking.check_list.Goals as goal
 pub find-requires : goal.find-requires
 find-requires c = rows_of _ c.d.invariant
 
-pub kind_at-requires : goal.kind_at-requires
-kind_at-requires c =
-    let l = found_lies _ c.d.invariant c.args.index c.in-Some.r (sym c.find.ensures ∙ c.in-Some.is) in
-    (l.small, l.inside)
-
-pub list_count-requires : goal.list_count-requires
-list_count-requires c =
+pub invariant_of-row : goal.invariant_of-row
+invariant_of-row c =
     let l = found_lies _ c.d.invariant c.args.index c.in-Some.r (sym c.find.ensures ∙ c.in-Some.is) in
     (l.small, l.inside)
 

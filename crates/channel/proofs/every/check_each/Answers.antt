@@ -10,24 +10,30 @@ use Rattle.pdo_channel.specs.Channel.{comm_index}
 use Rattle.channel.specs.Check.{check_of}
 use Rattle.channel.specs.Numbers.{answer_number, element_of}
 use Rattle.channel.specs.All.{lines_from, laid_on}
-use Rattle.channel.proofs.AllLaws.{turned, lines_end, laid_none, laid_line}
+use Rattle.channel.proofs.AllLaws.{none_of, some_of, turned, lines_end, laid_none, laid_line}
 use native.Mathlib.Omega.{arith}
 use Rattle.channel.proofs.every.check_each.Goals as goal
 
 pub find-requires : goal.find-requires
 find-requires c = rows_of _ c.d.invariant
 
-pub loop-i-preserved-in_default : goal.loop-i-preserved-in_default
-loop-i-preserved-in_default c =
+pub loop-i-preserved-then-is_none : goal.loop-i-preserved-then-is_none
+loop-i-preserved-then-is_none c =
     let d : Dict = c.args.d.now in
+    let f : c.find.result ≡ find_row d.objects (comm_index c.loop-i.i) =
+    c.find.ensures ∙ ap (find_row c.d.inside.objects.now) c.comm_index.ensures ∙ ap (λ (d : Dict). find_row d.objects (comm_index c.loop-i.i)) c.d.view_is
+    in
     record {
       few = omega (arith, c.loop-i.invariant.few);
-      rest_is = turned d c.args.out.now 0 c.loop-i.i c.loop-i.out c.loop-i.n c.loop-i-test.true c.loop-i.invariant.rest_is _ (sym c.in_default.is ∙ c.find.ensures ∙ ap (λ (d : Dict). find_row d.objects (comm_index c.loop-i.i)) c.d.view_is);
+      rest_is = turned d c.args.out.now 0 c.loop-i.i c.loop-i.out c.loop-i.n c.loop-i-test.true c.loop-i.invariant.rest_is _ (sym (none_of _ _ c.is_none.ensures c.if-is_none.true) ∙ f);
     }
 
 pub loop-i-preserved : goal.loop-i-preserved
 loop-i-preserved c =
     let d : Dict = c.args.d.now in
+    let f : c.find.result ≡ find_row d.objects (comm_index c.loop-i.i) =
+    c.find.ensures ∙ ap (find_row c.d.inside.objects.now) c.comm_index.ensures ∙ ap (λ (d : Dict). find_row d.objects (comm_index c.loop-i.i)) c.d.view_is
+    in
     let x = check_of d c.loop-i.i in
     let q : c.lay.new.out ≡ over c.loop-i.out c.loop-i.n (c.loop-i.i ∷ answer_number x ∷ element_of x ∷ []) =
     c.lay.ensures ∙ ap (λ a. over c.loop-i.out c.loop-i.n (c.loop-i.i ∷ answer_number a ∷ element_of a ∷ [])) c.check_judged-a.ensures
@@ -40,7 +46,7 @@ loop-i-preserved c =
           ∙ sym
           (laid_line c.loop-i.out c.loop-i.n c.loop-i.i (answer_number x) (element_of x) rest
           (omega (arith, c.loop-i-test.true, c.loop-i.invariant.few, c.loop-i.auto.out, c.requires)))
-          ∙ turned d c.args.out.now 0 c.loop-i.i c.loop-i.out c.loop-i.n c.loop-i-test.true c.loop-i.invariant.rest_is _ (sym c.in-Some.is ∙ c.find.ensures ∙ ap (λ (d : Dict). find_row d.objects (comm_index c.loop-i.i)) c.d.view_is);
+          ∙ turned d c.args.out.now 0 c.loop-i.i c.loop-i.out c.loop-i.n c.loop-i-test.true c.loop-i.invariant.rest_is _ (sym (some_of _ _ c.is_none.ensures c.if-is_none.false).1 ∙ f);
     }
 
 pub returns : goal.returns

@@ -6,19 +6,19 @@ use borrow.Author.Tests.{lt-ltb, le-ltb}
 use Rattle.pdo_handler.specs.Consume.{consume_done, consume_of}
 use Rattle.pdo_handler.proofs.consuming.consume_logged_judged.Goals as goal
 
-pub returns-then-room-lt254 : goal.returns-then-room-lt254
+pub returns-then-room-lt254-clause-left : goal.returns-then-room-lt254-clause-left
 unfolding consume_of
-returns-then-room-lt254 c = simp (c.requires.bytes_value, lt-ltb c.args.room 254 (omega arith))
+returns-then-room-lt254-clause-left c = simp (c.args.d.now.judged, lt-ltb c.args.room 254 (omega arith))
 
-pub returns-then-payload-gt1490 : goal.returns-then-payload-gt1490
+pub returns-then-payload-gt1490-clause-left : goal.returns-then-payload-gt1490-clause-left
 unfolding consume_of
-returns-then-payload-gt1490 c = simp (c.requires.bytes_value, le-ltb c.args.room 254 (omega arith), lt-ltb 1490 (length c.args.payload.now) (omega arith))
+returns-then-payload-gt1490-clause-left c = simp (c.args.d.now.judged, le-ltb c.args.room 254 (omega arith), lt-ltb 1490 (length c.args.payload.now) (omega arith))
 
-pub receive-requires-clause-payload_len_bound : goal.receive-requires-clause-payload_len_bound
-receive-requires-clause-payload_len_bound c = (omega arith, omega arith, c.requires.in_bounds (omega arith))
+pub receive-requires : goal.receive-requires
+receive-requires c = c.requires (omega arith)
 
-pub returns : goal.returns
+pub returns-clause-left : goal.returns-clause-left
 unfolding consume_of
-returns c =
-    ap consume_done c.receive.ensures
-    ∙ sym (simp (c.requires.bytes_value, le-ltb c.args.room 254 (omega arith), le-ltb 1490 (length c.args.payload.now) (omega arith)))
+returns-clause-left c =
+    ap consume_done c.receive.ensures.left
+    ∙ sym (simp (c.args.d.now.judged, le-ltb c.args.room 254 (omega arith), le-ltb 1490 (length c.args.payload.now) (omega arith)))

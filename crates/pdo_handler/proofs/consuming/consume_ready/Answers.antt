@@ -1,21 +1,20 @@
 -- `pdo_handler::consuming::consume_ready` meets its contract: the channel is the sender's first match. Assumes nothing.
-use mathlib.Core.Path.{sym, ap, ◌∙◌}
-use Rattle.entry.specs.Table.{dict}
-use Rattle.entry.specs.Put.{contents}
-use Rattle.pdo_run.specs.Run.{frame, finished}
+use Rattle.std.specs.Prelude.{ℕ, Option}
+use mathlib.Core.Path.{◌≡◌, sym, ap, ◌∙◌}
+use Rattle.entry.specs.Table.{Dict}
+use Rattle.pdo_step.specs.Receiving.{dict_of, held_in}
+use Rattle.pdo_run.specs.Run.{framed, finished}
 use Rattle.pdo_handler.specs.Consume.{on_channel, consumed_by}
-use Rattle.pdo_channel.proofs.ChannelLaws.{channel_below}
-use native.Mathlib.Omega.{arith}
+use Rattle.pdo_channel.specs.Channel.{first_match}
 use Rattle.pdo_handler.proofs.consuming.consume_ready.Goals as goal
 
-pub consume_on_channel-requires-clause-by_index : goal.consume_on_channel-requires-clause-by_index
-consume_on_channel-requires-clause-by_index c i e =
-    let a = c.args in
-    omega (arith, channel_below (dict a.objects.now a.slots.now a.words.now a.bytes.now) a.sender 256 0 i (sym c.first_match-channel.ensures ∙ e))
+-- the match in what is shown is that in the dictionary
+matched : (shown d : Dict) (sender : ℕ) (m : Option ℕ) → m ≡ first_match shown sender → shown ≡ d → m ≡ first_match d sender
+matched shown d sender m h e = h ∙ ap (λ x. first_match x sender) e
 
-pub returns : goal.returns
+pub returns-clause-left : goal.returns-clause-left
 unfolding consumed_by
-returns c =
+returns-clause-left c =
     let a = c.args in
-    c.consume_on_channel.ensures
-    ∙ ap (λ x. finished (on_channel (frame a.objects.now a.slots.now a.payload.now a.sender a.number) (contents a.words.now a.bytes.now) a.version x) a.log.now a.begun) c.first_match-channel.ensures
+    c.consume_on_channel.ensures.left
+    ∙ ap (λ x. finished (on_channel (framed a.d.now a.payload.now) (held_in a.d.now) a.payload.now.version x) a.log.now 0) (matched _ (dict_of a.d.now) _ _ c.first_match-channel.ensures c.shown.ensures)

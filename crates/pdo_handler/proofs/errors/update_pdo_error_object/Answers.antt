@@ -8,4 +8,4 @@ unfolding update_of
 returns-then-not-well_formed c = simp (sym c.well_formed-2.ensures ∙ c.if-not-well_formed.true)
 
 pub update_pdo_error_object_judged-requires : goal.update_pdo_error_object_judged-requires
-update_pdo_error_object_judged-requires c = let e = c in sym e.well_formed-2.ensures ∙ e.if-not-well_formed.false
+update_pdo_error_object_judged-requires c = sym c.well_formed-2.ensures ∙ c.if-not-well_formed.false

@@ -7,5 +7,4 @@ use Rattle.pdo_handler.proofs.errors.update_pdo_error_object_judged.Goals as goa
 pub returns : goal.returns
 unfolding update_of
 returns c =
-    let b = c in
-    ap (after_update (Ok tt)) b.set_bit.ensures ∙ sym (simp b.requires)
+    ap (after_update (Ok tt)) c.set_bit.ensures ∙ sym (simp c.requires)

@@ -40,40 +40,34 @@ find-requires c = rows_of _ c.d.invariant
 pub returns-in_err-i : goal.returns-in_err-i
 returns-in_err-i c = c.from_residual.ensures ∙ found _ _ c.args.index c.args.node _ _ c.d.view_is c.if-node.false c.find.ensures c.in_err-i.was
 
-pub kind_at-requires : goal.kind_at-requires
-kind_at-requires c = let r = lies _ c.args.index _ _ c.d.invariant c.find.ensures c.in_ok-i.was in (r.small, r.inside)
+pub invariant_of-row : goal.invariant_of-row
+invariant_of-row c = let r = lies _ c.args.index _ _ c.d.invariant c.find.ensures c.in_ok-i.was in (r.small, r.inside)
 
-pub returns-then-kind_at-ne0 : goal.returns-then-kind_at-ne0
-returns-then-kind_at-ne0 c = sym (rw (ne_eqb _ 0 (λ z. c.if-kind_at-ne0.true (c.kind_at.ensures ∙ z)))) ∙ found _ _ c.args.index c.args.node _ _ c.d.view_is c.if-node.false c.find.ensures c.in_ok-i.was
-
-pub first_at-p-requires : goal.first_at-p-requires
-first_at-p-requires c = let r = lies _ c.args.index _ _ c.d.invariant c.find.ensures c.in_ok-i.was in (r.small, r.inside)
+pub returns-then-kind-ne0 : goal.returns-then-kind-ne0
+returns-then-kind-ne0 c = sym (rw (ne_eqb _ 0 (λ z. c.if-kind-ne0.true (c.kind.ensures ∙ z)))) ∙ found _ _ c.args.index c.args.node _ _ c.d.view_is c.if-node.false c.find.ensures c.in_ok-i.was
 
 pub overflow_sub-k : goal.overflow_sub-k
 overflow_sub-k c = omega (arith, has_bit c.args.node c.if-node.false)
 
 pub offset_bounds-d-inside-p : goal.offset_bounds-d-inside-p
-offset_bounds-d-inside-p c = omega (arith, (there _ c.args.index _ _ _ c.d.invariant c.find.ensures c.in_ok-i.was c.kind_at.ensures c.if-kind_at-ne0.false).low, c.first_at-p.ensures)
+offset_bounds-d-inside-p c = omega (arith, (there _ c.args.index _ _ _ c.d.invariant c.find.ensures c.in_ok-i.was c.kind.ensures c.if-kind-ne0.false).low, c.first-p.ensures)
 
 pub bounds-d-inside-p : goal.bounds-d-inside-p
-bounds-d-inside-p c = omega (arith, (there _ c.args.index _ _ _ c.d.invariant c.find.ensures c.in_ok-i.was c.kind_at.ensures c.if-kind_at-ne0.false).word, c.first_at-p.ensures)
+bounds-d-inside-p c = omega (arith, (there _ c.args.index _ _ _ c.d.invariant c.find.ensures c.in_ok-i.was c.kind.ensures c.if-kind-ne0.false).word, c.first-p.ensures)
 
-pub type_at-requires : goal.type_at-requires
-type_at-requires c = let v = there _ c.args.index _ _ _ c.d.invariant c.find.ensures c.in_ok-i.was c.kind_at.ensures c.if-kind_at-ne0.false in rw c.first_at-p.ensures (v.low, v.slot)
-
-pub start_at-requires : goal.start_at-requires
-start_at-requires c = let v = there _ c.args.index _ _ _ c.d.invariant c.find.ensures c.in_ok-i.was c.kind_at.ensures c.if-kind_at-ne0.false in rw c.first_at-p.ensures (v.low, v.slot)
+pub invariant_of-slot : goal.invariant_of-slot
+invariant_of-slot c = let v = there _ c.args.index _ _ _ c.d.invariant c.find.ensures c.in_ok-i.was c.kind.ensures c.if-kind-ne0.false in rw c.first-p.ensures (v.low, v.slot)
 
 pub overflow_add-result : goal.overflow_add-result
 overflow_add-result c =
-    let v = there _ c.args.index _ _ _ c.d.invariant c.find.ensures c.in_ok-i.was c.kind_at.ensures c.if-kind_at-ne0.false in
-    omega (arith, c.start_at.ensures ∙ ap (start_at c.d.inside.slots.now) c.first_at-p.ensures, v.within, v.total, c.well_formed)
+    let v = there _ c.args.index _ _ _ c.d.invariant c.find.ensures c.in_ok-i.was c.kind.ensures c.if-kind-ne0.false in
+    omega (arith, c.start.ensures ∙ ap (start_at c.d.inside.slots.now) c.first-p.ensures, v.within, v.total, c.well_formed)
 
-pub returns-then-type_at-k : goal.returns-then-type_at-k
-returns-then-type_at-k c =
-    ap (λ n. Some (n + byte_of c.args.node)) (c.start_at.ensures ∙ ap (start_at c.d.inside.slots.now) c.first_at-p.ensures)
-    ∙ sym (rw (eq-eqb _ 0 (sym c.kind_at.ensures ∙ c.if-kind_at-ne0.false), tested _ _ _ c.args.node c.in_ok-i.i _ _ c.first_at-p.ensures c.type_at.ensures ∙ c.if-type_at-k.true)) ∙ found _ _ c.args.index c.args.node _ _ c.d.view_is c.if-node.false c.find.ensures c.in_ok-i.was
+pub returns-then-value_type-k : goal.returns-then-value_type-k
+returns-then-value_type-k c =
+    ap (λ n. Some (n + byte_of c.args.node)) (c.start.ensures ∙ ap (start_at c.d.inside.slots.now) c.first-p.ensures)
+    ∙ sym (rw (eq-eqb _ 0 (sym c.kind.ensures ∙ c.if-kind-ne0.false), tested _ _ _ c.args.node c.in_ok-i.i _ _ c.first-p.ensures c.value_type.ensures ∙ c.if-value_type-k.true)) ∙ found _ _ c.args.index c.args.node _ _ c.d.view_is c.if-node.false c.find.ensures c.in_ok-i.was
 
 pub returns : goal.returns
 returns c =
-    sym (rw (eq-eqb _ 0 (sym c.kind_at.ensures ∙ c.if-kind_at-ne0.false), tested _ _ _ c.args.node c.in_ok-i.i _ _ c.first_at-p.ensures c.type_at.ensures ∙ c.if-type_at-k.false)) ∙ found _ _ c.args.index c.args.node _ _ c.d.view_is c.if-node.false c.find.ensures c.in_ok-i.was
+    sym (rw (eq-eqb _ 0 (sym c.kind.ensures ∙ c.if-kind-ne0.false), tested _ _ _ c.args.node c.in_ok-i.i _ _ c.first-p.ensures c.value_type.ensures ∙ c.if-value_type-k.false)) ∙ found _ _ c.args.index c.args.node _ _ c.d.view_is c.if-node.false c.find.ensures c.in_ok-i.was

@@ -10,8 +10,8 @@ returns-then-len-eq0 c = rw (eq-eqb _ 0 c.if-len-eq0.true)
 
 pub returns-then-is_mapping : goal.returns-then-is_mapping
 unfolding on_count
-returns-then-is_mapping c = let i = c in rw (ne_eqb _ 0 i.if-len-eq0.false, sym i.is_mapping.ensures ∙ c.if-is_mapping.true)
+returns-then-is_mapping c = rw (ne_eqb _ 0 c.if-len-eq0.false, sym c.is_mapping.ensures ∙ c.if-is_mapping.true)
 
 pub returns : goal.returns
 unfolding on_count
-returns c = let i = c in rw (ne_eqb _ 0 i.if-len-eq0.false, sym i.is_mapping.ensures ∙ c.if-is_mapping.false)
+returns c = rw (ne_eqb _ 0 c.if-len-eq0.false, sym c.is_mapping.ensures ∙ c.if-is_mapping.false)

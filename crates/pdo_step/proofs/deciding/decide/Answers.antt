@@ -1,5 +1,5 @@
 -- `pdo_step::deciding::decide` meets its contract: each way out is a case of the definition. Assumes nothing.
-use Rattle.std.specs.Prelude.{Option}
+use Rattle.std.specs.Prelude.{Option, Ok}
 use Rattle.mapping.specs.declared.Field.{Field}
 use mathlib.Core.Path.{◌≡◌, sym, ap, ◌∙◌}
 use mathlib.Core.Bool.{cond}
@@ -49,7 +49,7 @@ pub at_class-requires : goal.at_class-requires
 at_class-requires c b n p e =
     let v = class_value c.aim_of-a.result b n p (sym c.classify.ensures ∙ e) in
     let h = same_field c.in-Some.field.start c.in-Some.field.length b n (sym c.in-Some.is ∙ v.field) in
-    let q : place_of c.args.objects.now (entry_of c.args.word).index (entry_of c.args.word).sub_index ≡ Value p = sym (ap (λ (z : Aim). z.place) c.aim_of-a.ensures) ∙ v.placed in
+    let q : place_of c.args.objects.now (entry_of c.args.word).index (entry_of c.args.word).sub_index ≡ Ok (Value p) = sym (ap (λ (z : Aim). z.place) c.aim_of-a.ensures) ∙ v.placed in
     let r = c.requires.value _ _ _ q in
     (r.0, r.1, omega (arith, h.0, h.1))
 
