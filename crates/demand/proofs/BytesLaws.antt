@@ -21,8 +21,9 @@ use Rattle.given.specs.declared.Head.{Head}
 use Rattle.given.specs.Given.{type_in, room_in, length_in, held, room_of, given, count_in, obj_in}
 use Rattle.placing.specs.Place.{inserted}
 use Rattle.insertion.specs.Insert.{below, answer_of, memory_after, memory_of}
-use Rattle.writing.specs.declared.Judged.{Judged}
-use Rattle.writing.specs.declared.Judged.TheVariants as judged
+use Rattle.writing.specs.declared.Act.{Act}
+use Rattle.writing.specs.declared.Act.TheVariants as act
+use Rattle.writing.specs.declared.WriteFault.{WriteFault}
 use Rattle.writing.specs.Judging.{judge_of}
 use Rattle.writing.specs.Writing as writing
 use Rattle.writing.specs.Writing.{write_of}
@@ -123,20 +124,19 @@ pub write_bytes : (d : Dict) (store : List ℕ) (x sub t : ℕ) (s : List ℕ) �
 unfolding write_of writing.write_act_of
 write_bytes d store x sub t s w bs b = rw w (go (judge_of d (length store) x sub t s) refl)
   where
-    put : (p : ℕ) → judge_of d (length store) x sub t s ≡ judged.Put p → (y : Bool) → is_text (type_at d.slots p) ≡ y → Bytes (put_in d.slots (contents d.words d.bytes) p s).bytes
+    put : (p : ℕ) → judge_of d (length store) x sub t s ≡ Ok (act.Put p) → (y : Bool) → is_text (type_at d.slots p) ≡ y → Bytes (put_in d.slots (contents d.words d.bytes) p s).bytes
     put p q true y i =
         let f = judged_facts d w (length store) x sub t s p q in
         rw (ap (λ (c : Contents). c.bytes) (put_text d.slots (contents d.words d.bytes) p s y)) (bytes_over d.bytes (start_at d.slots p) s (omega (arith, f.within, f.bytes)) b bs i)
     put p q false y i = rw (ap (λ (c : Contents). c.bytes) (put_fixed d.slots (contents d.words d.bytes) p s y)) (b i)
 
-    go : (j : Judged) → judge_of d (length store) x sub t s ≡ j → Bytes (writing.write_act_of d store sub s j).bytes
-    go (judged.Put p) q = put p q (is_text (type_at d.slots p)) refl
-    go judged.Accepted q = b
-    go (judged.Keep i n) q = b
-    go judged.Save q = b
-    go judged.Restore q = b
-    go (judged.NoValue f) q = b
-    go (judged.Refused r) q = b
+    go : (j : Result Act WriteFault) → judge_of d (length store) x sub t s ≡ j → Bytes (writing.write_act_of d store sub s j).bytes
+    go (Ok (act.Put p)) q = put p q (is_text (type_at d.slots p)) refl
+    go (Ok act.Accepted) q = b
+    go (Ok (act.Keep i n)) q = b
+    go (Ok act.Save) q = b
+    go (Ok act.Restore) q = b
+    go (Err f) q = b
 
 -- ---- payloads
 pub consume_bytes : (d : Dict) (payload : List ℕ) (sender version : ℕ) (ready : Bool) (room : ℕ) (log : List ℕ) → well_formed d ≡ true → Bytes payload → Bytes d.bytes → Bytes (consume_of d payload sender version ready room log).contents.bytes

@@ -28,9 +28,10 @@ use Rattle.answers.specs.declared.Refusal.TheVariants.{Malformed}
 use Rattle.rows.specs.Rows.{kept_in}
 use Rattle.rows.proofs.KeptLaws.{kept_rows}
 use Rattle.entry.proofs.SameLaws.{kind-same, count_same, first_same, row_same}
-use Rattle.writing.specs.declared.Judged.{Judged}
-use Rattle.writing.specs.declared.Judged.TheVariants as judged
-use Rattle.writing.specs.declared.Wrote.TheVariants as wrote
+use Rattle.writing.specs.declared.Act.{Act}
+use Rattle.writing.specs.declared.Act.TheVariants as act
+use Rattle.writing.specs.declared.WriteFault.{WriteFault}
+use Rattle.writing.specs.declared.WriteFault.TheVariants as write-fault
 use Rattle.writing.specs.Judging.{judge_of}
 use Rattle.writing.specs.Writing.{after_write, written_in, write_act_of, write_of}
 use Rattle.demand.specs.Lasting.{SameRow, Shaped}
@@ -57,16 +58,15 @@ pub write_shaped : (d : Dict) (store : List ℕ) (x sub t : ℕ) (s : List ℕ) 
 unfolding write_of write_act_of
 write_shaped d store x sub t s = formed (well_formed d)
   where
-    acted : (j : Judged) → Shaped d (written_in d (write_act_of d store sub s j))
-    acted (judged.Put p) = filled_shaped d _
-    acted judged.Accepted = filled_shaped d (contents d.words d.bytes)
-    acted (judged.Keep i n) = kept_shaped d i n
-    acted judged.Save = filled_shaped d (contents d.words d.bytes)
-    acted judged.Restore = filled_shaped d (contents d.words d.bytes)
-    acted (judged.NoValue f) = filled_shaped d (contents d.words d.bytes)
-    acted (judged.Refused r) = filled_shaped d (contents d.words d.bytes)
+    acted : (j : Result Act WriteFault) → Shaped d (written_in d (write_act_of d store sub s j))
+    acted (Ok (act.Put p)) = filled_shaped d _
+    acted (Ok act.Accepted) = filled_shaped d (contents d.words d.bytes)
+    acted (Ok (act.Keep i n)) = kept_shaped d i n
+    acted (Ok act.Save) = filled_shaped d (contents d.words d.bytes)
+    acted (Ok act.Restore) = filled_shaped d (contents d.words d.bytes)
+    acted (Err f) = filled_shaped d (contents d.words d.bytes)
 
-    formed : (b : Bool) → Shaped d (written_in d (cond b (write_act_of d store sub s (judge_of d (length store) x sub t s)) (after_write (wrote.Refused Malformed) d.objects d.words d.bytes store)))
+    formed : (b : Bool) → Shaped d (written_in d (cond b (write_act_of d store sub s (judge_of d (length store) x sub t s)) (after_write (Err (write-fault.Refused Malformed)) d.objects d.words d.bytes store)))
     formed true = acted (judge_of d (length store) x sub t s)
     formed false = filled_shaped d (contents d.words d.bytes)
 

@@ -1,5 +1,5 @@
 -- A clean word stores its field, whole, of every payload that is long enough and has good text there. Assumes nothing.
-use Rattle.std.specs.Prelude.{Option, Some, None, Ok, Err}
+use Rattle.std.specs.Prelude.{Option, Some, None, Ok, Err, Result}
 use Rattle.mapping.specs.declared.Field.{Field}
 use mathlib.Core.Path.{◌≡◌, refl}
 use mathlib.Core.Bool.{Bool, true, false, cond, not, ◌&&◌}
@@ -16,7 +16,8 @@ use Rattle.mapping.specs.Word.{entry_of, field_of, field_at}
 use Rattle.entry.specs.Table.{type_at, room_at}
 use Rattle.entry.specs.Find.{place_of}
 use Rattle.entry.specs.declared.Place.{Place}
-use Rattle.entry.specs.declared.Place.TheVariants.{NoObject, NoSub, Count, Value}
+use Rattle.entry.specs.declared.Place.TheVariants.{Count, Value}
+use Rattle.entry.specs.declared.Missing.{Missing}
 use Rattle.entry.proofs.JudgeLaws.{and_true}
 use Rattle.aim.specs.Aims.{aim_of, between, class_of}
 use Rattle.aim.specs.declared.Class.TheVariants as class
@@ -34,7 +35,7 @@ pub record CleanWord (objects slots : List ℕ) (w : ℕ) : Type 0 where
   pub len : ℕ
   pub field : field_of (entry_of w) ≡ field_at start len
   pub away : between 0x1200 0x12FF (entry_of w).index ≡ false
-  pub placed : place_of objects (entry_of w).index (entry_of w).sub_index ≡ Value target
+  pub placed : place_of objects (entry_of w).index (entry_of w).sub_index ≡ Ok (Value target)
   pub fits : length_fits (type_at slots target) (room_at slots target) len ≡ true
 
 pub clean_word : (objects slots : List ℕ) (w : ℕ) → word_verdict objects slots w ≡ (Ok tt) → CleanWord objects slots w
@@ -44,16 +45,15 @@ clean_word objects slots w e = fielded (field_of (entry_of w)) refl e
     x : ℕ
     x = (entry_of w).index
 
-    length_is : (s n p : ℕ) → field_of (entry_of w) ≡ field_at s n → between 0x1200 0x12FF x ≡ false → place_of objects x (entry_of w).sub_index ≡ Value p
+    length_is : (s n p : ℕ) → field_of (entry_of w) ≡ field_at s n → between 0x1200 0x12FF x ≡ false → place_of objects x (entry_of w).sub_index ≡ Ok (Value p)
         → (b : Bool) → length_fits (type_at slots p) (room_at slots p) n ≡ b → cond b (Ok (tt {0})) (Err fault.WrongLength) ≡ Ok (tt {0}) → CleanWord objects slots w
     length_is s n p f a q true l e = record { target = p; start = s; len = n; field = f; away = a; placed = q; fits = l }
     length_is s n p f a q false l e = let z : ◌≡◌ {A = ℕ} 0 1 = cc in absurd (omega arith)
 
-    target_is : (s n : ℕ) → field_of (entry_of w) ≡ field_at s n → between 0x1200 0x12FF x ≡ false → (q : Place) → place_of objects x (entry_of w).sub_index ≡ q → on_target slots n q ≡ (Ok tt) → CleanWord objects slots w
-    target_is s n f a NoObject q e = let z : ◌≡◌ {A = ℕ} 0 1 = cc in absurd (omega arith)
-    target_is s n f a NoSub q e = let z : ◌≡◌ {A = ℕ} 0 1 = cc in absurd (omega arith)
-    target_is s n f a (Count k) q e = let z : ◌≡◌ {A = ℕ} 0 1 = cc in absurd (omega arith)
-    target_is s n f a (Value p) q e = length_is s n p f a q (length_fits (type_at slots p) (room_at slots p) n) refl e
+    target_is : (s n : ℕ) → field_of (entry_of w) ≡ field_at s n → between 0x1200 0x12FF x ≡ false → (q : Result Place Missing) → place_of objects x (entry_of w).sub_index ≡ q → on_target slots n q ≡ (Ok tt) → CleanWord objects slots w
+    target_is s n f a (Err m) q e = let z : ◌≡◌ {A = ℕ} 0 1 = cc in absurd (omega arith)
+    target_is s n f a (Ok (Count k)) q e = let z : ◌≡◌ {A = ℕ} 0 1 = cc in absurd (omega arith)
+    target_is s n f a (Ok (Value p)) q e = length_is s n p f a q (length_fits (type_at slots p) (room_at slots p) n) refl e
 
     range : (s n : ℕ) → field_of (entry_of w) ≡ field_at s n → (b : Bool) → between 0x1200 0x12FF x ≡ b → cond b (Err fault.HandOff) (on_target slots n (place_of objects x (entry_of w).sub_index)) ≡ (Ok tt) → CleanWord objects slots w
     range s n f true a e = let z : ◌≡◌ {A = ℕ} 0 1 = cc in absurd (omega arith)

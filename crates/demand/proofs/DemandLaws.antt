@@ -16,14 +16,14 @@ use Rattle.entry.specs.Find.{find_row}
 use Rattle.entry.specs.Judge.{well_formed}
 use Rattle.entry.specs.Put.{contents}
 use Rattle.pdo_validator.specs.Counting.{ends_from}
-use Rattle.pdo_channel.specs.Channel.{u8_at, comm_index, first_match}
+use Rattle.pdo_channel.specs.Channel.{u8_at, comm_index, first_match, sender_for}
 use Rattle.pdo_run.specs.Run.{frame, list_in}
 use Rattle.pdo_handler.specs.Consume.{consumed_by, after_consume, consume_done, consume_of}
 use Rattle.pdo_run.proofs.RunLaws.{finished_none}
 use Rattle.channel.specs.declared.Checked.{Checked}
 use Rattle.channel.specs.declared.Checked.TheVariants.{Pass, NoSender, NoList, TooFar, Refused}
 use Rattle.element.specs.Elements.{verdict_of}
-use Rattle.channel.specs.Check.{on_verdict, fault_from, is_far, last_of, on_elements, on_list, sender_for, is_at, has_sender, check_of}
+use Rattle.channel.specs.Check.{on_verdict, fault_from, is_far, last_of, on_elements, on_list, is_at, has_sender, check_of}
 use Rattle.demand.specs.Demand.{Admitted, Written, put_all}
 use Rattle.demand.specs.Saying.{AllClean}
 use Rattle.demand.proofs.PassLaws.{clean_run}

@@ -18,14 +18,14 @@ use Rattle.entry.specs.Judge.{well_formed}
 use Rattle.entry.specs.Put.{Contents, contents}
 use Rattle.entry.proofs.ValueLaws.{list_count_le, found_lies, elements_lie}
 use Rattle.pdo_validator.specs.Counting.{ends_from}
-use Rattle.pdo_channel.specs.Channel.{u8_at, matches_in, comm_index, channel_from, first_match, or_zero, expected_of}
+use Rattle.pdo_channel.specs.Channel.{u8_at, matches_in, comm_index, channel_from, first_match, or_zero, expected_of, sender_for}
 use Rattle.pdo_run.specs.Run.{Frame, frame, list_in}
 use Rattle.channel.specs.declared.Checked.{Checked}
 use Rattle.channel.specs.declared.Checked.TheVariants.{Pass}
-use Rattle.channel.specs.Check.{fault_from, is_far, last_of, sender_for, check_of}
+use Rattle.channel.specs.Check.{fault_from, is_far, last_of, check_of}
 use Rattle.demand.specs.Demand.{Long, put_word, AllWhole, Admits, Demand}
 use Rattle.demand.specs.Saying.{AllClean}
-use Rattle.channel.proofs.CheckLaws.{u8_small}
+use Rattle.pdo_channel.proofs.ChannelLaws.{u8_small}
 use Rattle.demand.proofs.PassLaws.{clean_element}
 use Rattle.demand.proofs.WholeLaws.{whole_clean}
 use Rattle.demand.proofs.DemandLaws.{passed, pass_writes}

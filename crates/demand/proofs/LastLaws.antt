@@ -13,7 +13,7 @@ use lib.ListN.{length, get_or}
 use Rattle.lists.specs.Numbers.{Bytes}
 use Rattle.mapping.specs.Word.{entry_of}
 use Rattle.entry.specs.Table.{Dict, kind_at, count_at, first_at, type_at, room_at}
-use Rattle.entry.specs.Find.{find_row, sub_at, place_of}
+use Rattle.entry.specs.Find.{find_row, sub_at, or_no_sub, place_of}
 use Rattle.entry.specs.Judge.{well_formed}
 use Rattle.entry.specs.Put.{contents}
 use Rattle.entry.specs.declared.Place.TheVariants.{Value}
@@ -32,26 +32,26 @@ use Rattle.demand.proofs.DemandLaws.{passed}
 use Rattle.demand.proofs.ExactLaws.{list_length}
 
 -- ---- a value's place, type and room in a dictionary of the same shape
-pub same_target : (d d' : Dict) → Shaped d d' → well_formed d ≡ true → (x sub p : ℕ) → place_of d.objects x sub ≡ Value p → SameTarget d d' x sub p
+pub same_target : (d d' : Dict) → Shaped d d' → well_formed d ≡ true → (x sub p : ℕ) → place_of d.objects x sub ≡ Ok (Value p) → SameTarget d d' x sub p
 unfolding sub_at
 same_target d d' shape w x sub p q =
     let e = element_of_lem d w x sub p q in
     let s = shape x e.row e.found in
     record {
       place = first_at d'.objects s.row + e.k;
-      placed = rw s.found (there e s (eqb (kind_at d.objects e.row) 0) refl);
+      placed = rw s.found (ap or_no_sub (there e s (eqb (kind_at d.objects e.row) 0) refl));
       type = s.types e.k e.inside ∙ ap (type_at d.slots) (sym e.place);
       room = s.rooms e.k e.inside ∙ ap (room_at d.slots) (sym e.place);
     }
   where
-    there : (e : Element d x sub p) (s : SameRow d d' x e.row) (b : Bool) → eqb (kind_at d.objects e.row) 0 ≡ b → sub_at d'.objects s.row sub ≡ Value (first_at d'.objects s.row + e.k)
+    there : (e : Element d x sub p) (s : SameRow d d' x e.row) (b : Bool) → eqb (kind_at d.objects e.row) 0 ≡ b → sub_at d'.objects s.row sub ≡ Some (Value (first_at d'.objects s.row + e.k))
     there e s true h =
         let z = e.variable (eqb-true _ _ h) in
-        rw (s.kind, h, eq-eqb sub 0 z.0) (ap Value (omega (arith, z.1)))
+        rw (s.kind, h, eq-eqb sub 0 z.0) (ap (λ p. Some (Value p)) (omega (arith, z.1)))
     there e s false h =
         let z = e.list (λ u. let v : ◌≡◌ {A = ℕ} 0 1 = cc in absurd (omega arith)) in
         rw (s.kind, h, ne_eqb sub 0 (λ u. omega (arith, u, z)), le-leb sub (count_at d'.objects s.row) (omega (arith, s.count, e.inside, z)))
-        (ap (λ n. Value (first_at d'.objects s.row + n)) (omega (arith, z)))
+        (ap (λ n. Some (Value (first_at d'.objects s.row + n))) (omega (arith, z)))
 
 -- ---- a clean word stays clean where its target is the same
 pub word_clean : (objects slots : List ℕ) (w : ℕ) → CleanWord objects slots w → word_verdict objects slots w ≡ Ok tt
@@ -61,7 +61,7 @@ word_clean objects slots w c = rw (c.field, c.away, c.placed, c.fits)
 module _ (d d' : Dict) where
   -- what a word maps is the same
   abbrev Mapped : ℕ → Type 0
-  Mapped w = (p : ℕ) → place_of d.objects (entry_of w).index (entry_of w).sub_index ≡ Value p → SameTarget d d' (entry_of w).index (entry_of w).sub_index p
+  Mapped w = (p : ℕ) → place_of d.objects (entry_of w).index (entry_of w).sub_index ≡ Ok (Value p) → SameTarget d d' (entry_of w).index (entry_of w).sub_index p
 
   kept_word : (w : ℕ) → Mapped w → word_verdict d.objects d.slots w ≡ (Ok tt) → word_verdict d'.objects d'.slots w ≡ Ok tt
   kept_word w same e =

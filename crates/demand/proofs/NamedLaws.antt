@@ -14,14 +14,14 @@ use Rattle.entry.specs.Table.{Dict, kind_at, list_count, first_at, type_at}
 use Rattle.entry.specs.Find.{find_row}
 use Rattle.entry.specs.Judge.{well_formed}
 use Rattle.pdo_validator.specs.Counting.{ends_from}
-use Rattle.pdo_channel.specs.Channel.{u8_at, comm_index, first_match}
+use Rattle.pdo_channel.specs.Channel.{u8_at, comm_index, first_match, sender_for}
 use Rattle.pdo_run.specs.Run.{frame}
 use Rattle.element.specs.declared.Fault.{Fault}
 use Rattle.channel.specs.declared.Checked.{Checked}
 use Rattle.channel.specs.declared.Checked.TheVariants.{Pass, NoSender, NoList, Element, TooFar}
 use Rattle.element.specs.Elements.{verdict_of}
-use Rattle.channel.specs.Check.{fault_from, is_far, last_of, sender_for, is_at, has_sender, check_of}
-use Rattle.channel.proofs.CheckLaws.{u8_small}
+use Rattle.channel.specs.Check.{fault_from, is_far, last_of, is_at, has_sender, check_of}
+use Rattle.pdo_channel.proofs.ChannelLaws.{u8_small}
 use Rattle.demand.specs.Saying.{list_start, list_words, verdict_at, AllClean, Unsent, Sender, Unlisted, Listed, Never, Reaches, Says, malformed, senderless, listless, named, far, passes}
 use Rattle.demand.proofs.WholeLaws.{whole_clean}
 use Rattle.demand.proofs.ExactLaws.{long_at, list_length, list_word, list_most, sent_by, sender_small, pass_demand}

@@ -29,7 +29,8 @@ use Rattle.entry.specs.Find.{place_of}
 use Rattle.entry.specs.Put.{Contents}
 use Rattle.entry.specs.Encode.{encoding_in}
 use Rattle.entry.specs.declared.Place.{Place}
-use Rattle.entry.specs.declared.Place.TheVariants.{NoObject, NoSub, Count, Value}
+use Rattle.entry.specs.declared.Place.TheVariants.{Count, Value}
+use Rattle.entry.specs.declared.Missing.{Missing}
 use Rattle.aim.specs.Aims.{aim_of, between}
 use Rattle.aim.proofs.RangeLaws.{joined_range, no_server, no_client}
 use Rattle.aim.proofs.ClassLaws.{value_class}
@@ -66,20 +67,20 @@ module _ (f : Frame) (c : Contents) (w : ℕ) (reach : end_of (entry_of w) ≤ l
       go false b true e = client s n q (reached s n q ∙ rw (b, e))
       go false b false e = let u = joined_range (entry_of w).index b e in let z : ◌≡◌ {A = ℕ} 0 1 = cc in absurd (omega arith)
 
-  placed : (s n : ℕ) → field_of (entry_of w) ≡ field_at s n → between 0x1200 0x12FF (entry_of w).index ≡ false → (g : Place) → place_of f.objects (entry_of w).index (entry_of w).sub_index ≡ g → decided f w ≡ on_place f.slots f.payload (entry_of w).index s n g
+  placed : (s n : ℕ) → field_of (entry_of w) ≡ field_at s n → between 0x1200 0x12FF (entry_of w).index ≡ false → (g : Result Place Missing) → place_of f.objects (entry_of w).index (entry_of w).sub_index ≡ g → decided f w ≡ on_place f.slots f.payload (entry_of w).index s n g
   unfolding on_index
   placed s n q a g e = reached s n q ∙ rw (no_server (entry_of w).index a, no_client (entry_of w).index a, e)
 
-  counted : (s n k : ℕ) → field_of (entry_of w) ≡ field_at s n → between 0x1200 0x12FF (entry_of w).index ≡ false → place_of f.objects (entry_of w).index (entry_of w).sub_index ≡ Count k → Counted f w
+  counted : (s n k : ℕ) → field_of (entry_of w) ≡ field_at s n → between 0x1200 0x12FF (entry_of w).index ≡ false → place_of f.objects (entry_of w).index (entry_of w).sub_index ≡ Ok (Count k) → Counted f w
   unfolding on_count
   counted s n k q a e = go (eqb n 0) refl (is_mapping (entry_of w).index) refl
     where
       go : (b : Bool) → eqb n 0 ≡ b → (d : Bool) → is_mapping (entry_of w).index ≡ d → Counted f w
-      go true b d m = empty (placed s n q a (Count k) e ∙ rw b)
-      go false b true m = ignored (placed s n q a (Count k) e ∙ rw (b, m))
-      go false b false m = refused (placed s n q a (Count k) e ∙ rw (b, m))
+      go true b d m = empty (placed s n q a (Ok (Count k)) e ∙ rw b)
+      go false b true m = ignored (placed s n q a (Ok (Count k)) e ∙ rw (b, m))
+      go false b false m = refused (placed s n q a (Ok (Count k)) e ∙ rw (b, m))
 
-  misfit : (s n p : ℕ) → field_of (entry_of w) ≡ field_at s n → between 0x1200 0x12FF (entry_of w).index ≡ false → place_of f.objects (entry_of w).index (entry_of w).sub_index ≡ Value p
+  misfit : (s n p : ℕ) → field_of (entry_of w) ≡ field_at s n → between 0x1200 0x12FF (entry_of w).index ≡ false → place_of f.objects (entry_of w).index (entry_of w).sub_index ≡ Ok (Value p)
       → length_fits (type_at f.slots p) (room_at f.slots p) n ≡ false → Misfit f c w p s n
   unfolding word_verdict
   misfit s n p q a e l = go (word_at (type_at f.slots p) (part f.payload s n)) refl
@@ -95,13 +96,13 @@ module _ (f : Frame) (c : Contents) (w : ℕ) (reach : end_of (entry_of w) ≤ l
           let z : ◌≡◌ {A = ℕ} 0 1 = cc in absurd (omega arith)
 
       took : (v : ℕ) → word_at (type_at f.slots p) (part f.payload s n) ≡ Ok v → (b : Bool) → is_text (type_at f.slots p) ≡ b → (r : Bool) → ltb (room_at f.slots p) n ≡ r → Misfit f c w p s n
-      took v k true b true r = over-room b (ltb-true _ _ r) (placed s n q a (Value p) e ∙ rw (k, b, r))
+      took v k true b true r = over-room b (ltb-true _ _ r) (placed s n q a (Ok (Value p)) e ∙ rw (k, b, r))
       took v k true b false r =
           let o = not_odd f.objects f.slots f.payload w p s n q p (inside s n q) b v k in
           let u : length_fits (type_at f.slots p) (room_at f.slots p) n ≡ true = rw (b, le-leb n (room_at f.slots p) (ltb-false _ _ r)) o in
           let z : ◌≡◌ {A = ℕ} 0 1 = cc in absurd (omega arith)
       took v k false b r h =
-          let d : decided f w ≡ outcome.Stored p s n = placed s n q a (Value p) e ∙ rw (k, b) in
+          let d : decided f w ≡ outcome.Stored p s n = placed s n q a (Ok (Value p)) e ∙ rw (k, b) in
           let u : n ≡ size_of (type_at f.slots p) → ⊥ = eqb-false n _ (rw b at l) in
           let long = (word_fixed (type_at f.slots p) v (part f.payload s n) k b).0 in
           cut b (omega (arith, u, long, size)) d (other d)
@@ -115,9 +116,9 @@ module _ (f : Frame) (c : Contents) (w : ℕ) (reach : end_of (entry_of w) ≤ l
 
       failed : (g : CodecFault) → word_at (type_at f.slots p) (part f.payload s n) ≡ Err g → Tells (type_at f.slots p) (part f.payload s n) g → Misfit f c w p s n
       failed (cause.Value needed had) k y =
-          too_short y.fixed (omega (arith, y.fewer, y.needed-is, y.had-is, size)) (placed s n q a (Value p) e ∙ rw (k, y.needed-is, y.had-is, size))
-      failed (cause.Text at) k y = no_text y.visible (roomy y.visible (ltb (room_at f.slots p) n) refl) at y.stops (placed s n q a (Value p) e ∙ rw k)
-      failed cause.Odd k y = odd y.unicode (rw size at y.odd) (placed s n q a (Value p) e ∙ rw k)
+          too_short y.fixed (omega (arith, y.fewer, y.needed-is, y.had-is, size)) (placed s n q a (Ok (Value p)) e ∙ rw (k, y.needed-is, y.had-is, size))
+      failed (cause.Text at) k y = no_text y.visible (roomy y.visible (ltb (room_at f.slots p) n) refl) at y.stops (placed s n q a (Ok (Value p)) e ∙ rw k)
+      failed cause.Odd k y = odd y.unicode (rw size at y.odd) (placed s n q a (Ok (Value p)) e ∙ rw k)
 
       go : (g : Result ℕ CodecFault) → word_at (type_at f.slots p) (part f.payload s n) ≡ g → Misfit f c w p s n
       go (Err g) k = failed g k (word_tells (type_at f.slots p) (part f.payload s n) g k)
@@ -131,16 +132,15 @@ module _ (f : Frame) (c : Contents) (w : ℕ) (reach : end_of (entry_of w) ≤ l
       is : (g : Fault) → ◌≡◌ {A = Result (Unit {0}) Fault} (Err g) (Err v) → Reason g f c t w → Reason v f c t w
       is g q r = let u : g ≡ v = cc in subst (λ (h : Fault). Reason h f c t w) u r
 
-      length_is : (s n p : ℕ) → field_of (entry_of w) ≡ field_at s n → between 0x1200 0x12FF (entry_of w).index ≡ false → place_of f.objects (entry_of w).index (entry_of w).sub_index ≡ Value p
+      length_is : (s n p : ℕ) → field_of (entry_of w) ≡ field_at s n → between 0x1200 0x12FF (entry_of w).index ≡ false → place_of f.objects (entry_of w).index (entry_of w).sub_index ≡ Ok (Value p)
           → (b : Bool) → length_fits (type_at f.slots p) (room_at f.slots p) n ≡ b → cond b (Ok (tt {0})) (Err fault.WrongLength) ≡ Err v → Reason v f c t w
       length_is s n p q a g true l e = let z : ◌≡◌ {A = ℕ} 0 1 = cc in absurd (omega arith)
       length_is s n p q a g false l e = is fault.WrongLength e (record { target = p; start = s; len = n; class = value_class (aim_of f.objects w) s n p (record { field = q; away = a; placed = g }); how = misfit s n p q a g l })
 
-      target_is : (s n : ℕ) → field_of (entry_of w) ≡ field_at s n → between 0x1200 0x12FF (entry_of w).index ≡ false → (g : Place) → place_of f.objects (entry_of w).index (entry_of w).sub_index ≡ g → on_target f.slots n g ≡ Err v → Reason v f c t w
-      target_is s n q a NoObject g e = is fault.NoTarget e (placed s n q a NoObject g)
-      target_is s n q a NoSub g e = is fault.NoTarget e (placed s n q a NoSub g)
-      target_is s n q a (Count k) g e = is fault.CountTarget e (counted s n k q a g)
-      target_is s n q a (Value p) g e = length_is s n p q a g (length_fits (type_at f.slots p) (room_at f.slots p) n) refl e
+      target_is : (s n : ℕ) → field_of (entry_of w) ≡ field_at s n → between 0x1200 0x12FF (entry_of w).index ≡ false → (g : Result Place Missing) → place_of f.objects (entry_of w).index (entry_of w).sub_index ≡ g → on_target f.slots n g ≡ Err v → Reason v f c t w
+      target_is s n q a (Err m) g e = is fault.NoTarget e (placed s n q a (Err m) g)
+      target_is s n q a (Ok (Count k)) g e = is fault.CountTarget e (counted s n k q a g)
+      target_is s n q a (Ok (Value p)) g e = length_is s n p q a g (length_fits (type_at f.slots p) (room_at f.slots p) n) refl e
 
       range : (s n : ℕ) → field_of (entry_of w) ≡ field_at s n → (b : Bool) → between 0x1200 0x12FF (entry_of w).index ≡ b → cond b (Err fault.HandOff) (on_target f.slots n (place_of f.objects (entry_of w).index (entry_of w).sub_index)) ≡ Err v → Reason v f c t w
       range s n q true a e = is fault.HandOff e (handed_off s n q a)

@@ -1,5 +1,6 @@
 -- R11.8: "of two fields with one target the later stands": after a payload that is written, a target encodes the last field that is mapped onto it, and
 -- what no element maps is encoded as before. Assumes nothing.
+use Rattle.std.specs.Prelude.{Ok}
 use Rattle.mapping.proofs.WordLaws.{same_field}
 use mathlib.Core.Path.{◌≡◌, refl, sym, ap, ◌∙◌, subst}
 use mathlib.Core.Bool.{Bool, true, false}
@@ -58,7 +59,7 @@ same_encodes d d' q v v' e = encoding-val d' q v' ∙ ap (λ (x : Val). encoding
 module _ (f : Frame) (b : Bytes f.payload) where
   -- ---- a whole element's step puts its field at its target
   record Puts (c : Contents) (w : ℕ) (h : Whole f c w) : Type 0 where
-    placed : place_of f.objects (entry_of w).index (entry_of w).sub_index ≡ Value h.target
+    placed : place_of f.objects (entry_of w).index (entry_of w).sub_index ≡ Ok (Value h.target)
     acts : act_of f c (decided f w) ≡ put_word f c w
     puts : put_word f c w ≡ put_in f.slots c h.target (part f.payload h.start h.len)
 
@@ -73,21 +74,21 @@ module _ (f : Frame) (b : Bytes f.payload) where
   next c w h s = subst (Sane f) (whole_puts c w h).acts (act_sane f b c w s)
 
   -- another value is encoded as before
-  step_stays : (c : Contents) (w : ℕ) → Sane f c → Whole f c w → (q : ℕ) → q < values_of f.objects → (place_of f.objects (entry_of w).index (entry_of w).sub_index ≡ Value q → ⊥)
+  step_stays : (c : Contents) (w : ℕ) → Sane f c → Whole f c w → (q : ℕ) → q < values_of f.objects → (place_of f.objects (entry_of w).index (entry_of w).sub_index ≡ Ok (Value q) → ⊥)
       → encoding_in f.slots (put_word f c w).words (put_word f c w).bytes q ≡ encoding_in f.slots c.words c.bytes q
   step_stays c w s h q l n =
       let d = held f c in
       let u = whole_puts c w h in
       let x = stored_by d f.payload h.target h.start h.len w h.stores in
       let y = element_facts d s.well (element_of_lem d s.well (entry_of w).index (entry_of w).sub_index h.target u.placed) in
-      let away : q ≢ h.target = λ e. n (u.placed ∙ ap Value (sym e)) in
+      let away : q ≢ h.target = λ e. n (u.placed ∙ ap (λ p. Ok (Value p)) (sym e)) in
       let o = put_other d s.well h.target (part f.payload h.start h.len) x.word y.below x.fits q away l in
       let t = next c w h s in
       same_encodes d (held f (put_word f c w)) q (every_value d s.well q l) (every_value (held f (put_word f c w)) t.well q l) (ap (λ (k : Contents). val_at (held f k) q) u.puts ∙ o)
 
   -- ---- and so it is after all elements, where none maps it
   pub others_stay : (p : ℕ) (ws : List ℕ) (j : ℕ) (c : Contents) → Sane f c → AllWhole f p ws j c → (q : ℕ) → q < values_of f.objects
-      → ((m : ℕ) → m < length ws → place_of f.objects (entry_of (get_or ws m 0)).index (entry_of (get_or ws m 0)).sub_index ≡ Value q → ⊥)
+      → ((m : ℕ) → m < length ws → place_of f.objects (entry_of (get_or ws m 0)).index (entry_of (get_or ws m 0)).sub_index ≡ Ok (Value q) → ⊥)
       → encoding_in f.slots (put_all f ws c).words (put_all f ws c).bytes q ≡ encoding_in f.slots c.words c.bytes q
   unfolding put_all
   others_stay p [] j c s a q l n = refl
@@ -96,8 +97,8 @@ module _ (f : Frame) (b : Bytes f.payload) where
 
   -- ---- the theorem: element k + 1 is the last that maps q
   pub later_stands : (p : ℕ) (ws : List ℕ) (j : ℕ) (c : Contents) → Sane f c → AllWhole f p ws j c → (k : ℕ) → k < length ws → (q start n : ℕ)
-      → field_of (entry_of (get_or ws k 0)) ≡ field_at start n → place_of f.objects (entry_of (get_or ws k 0)).index (entry_of (get_or ws k 0)).sub_index ≡ Value q
-      → ((m : ℕ) → k < m → m < length ws → place_of f.objects (entry_of (get_or ws m 0)).index (entry_of (get_or ws m 0)).sub_index ≡ Value q → ⊥)
+      → field_of (entry_of (get_or ws k 0)) ≡ field_at start n → place_of f.objects (entry_of (get_or ws k 0)).index (entry_of (get_or ws k 0)).sub_index ≡ Ok (Value q)
+      → ((m : ℕ) → k < m → m < length ws → place_of f.objects (entry_of (get_or ws m 0)).index (entry_of (get_or ws m 0)).sub_index ≡ Ok (Value q) → ⊥)
       → encoding_in f.slots (put_all f ws c).words (put_all f ws c).bytes q ≡ part f.payload start n
   unfolding put_all
   later_stands p [] j c s a k l q start n fi pl la = absurd (omega (arith, l))
@@ -115,7 +116,7 @@ module _ (f : Frame) (b : Bytes f.payload) where
 
 -- ---- of the call: the last element that maps an index and a sub-index is what is read there afterwards
 pub consumes_stand : (d : Dict) → well_formed d ≡ true → Bytes d.bytes → (payload : List ℕ) → Bytes payload → (sender version : ℕ) (ready : Bool) (es : List EventRecord) (p : ℕ) (ws : List ℕ) → Consumes d payload sender version ready es p ws
-    → (k : ℕ) → k < length ws → (q start n : ℕ) → let e = entry_of (get_or ws k 0) in field_of e ≡ field_at start n → place_of d.objects e.index e.sub_index ≡ Value q
+    → (k : ℕ) → k < length ws → (q start n : ℕ) → let e = entry_of (get_or ws k 0) in field_of e ≡ field_at start n → place_of d.objects e.index e.sub_index ≡ Ok (Value q)
     → ((m : ℕ) → k < m → m < length ws → (entry_of (get_or ws m 0)).index ≡ e.index → (entry_of (get_or ws m 0)).sub_index ≡ e.sub_index → ⊥)
     → let c = (received_of d payload sender version ready es).contents in encoding_in d.slots c.words c.bytes q ≡ part payload start n
 consumes_stand d w b payload bp sender version ready es p ws u k l q start n fi pl la =
@@ -127,7 +128,7 @@ consumes_stand d w b payload bp sender version ready es p ws u k l q start n fi 
 
 -- and what no element maps is read as before
 pub consumes_others : (d : Dict) → well_formed d ≡ true → Bytes d.bytes → (payload : List ℕ) → Bytes payload → (sender version : ℕ) (ready : Bool) (es : List EventRecord) (p : ℕ) (ws : List ℕ) → Consumes d payload sender version ready es p ws
-    → (x sub q : ℕ) → place_of d.objects x sub ≡ Value q → ((m : ℕ) → m < length ws → (entry_of (get_or ws m 0)).index ≡ x → (entry_of (get_or ws m 0)).sub_index ≡ sub → ⊥)
+    → (x sub q : ℕ) → place_of d.objects x sub ≡ Ok (Value q) → ((m : ℕ) → m < length ws → (entry_of (get_or ws m 0)).index ≡ x → (entry_of (get_or ws m 0)).sub_index ≡ sub → ⊥)
     → let c = (received_of d payload sender version ready es).contents in encoding_in d.slots c.words c.bytes q ≡ encoding_in d.slots d.words d.bytes q
 consumes_others d w b payload bp sender version ready es p ws u x sub q pl n =
     let f = frame d.objects d.slots payload sender 0 in

@@ -19,7 +19,8 @@ use Rattle.entry.specs.Table.{type_at, room_at, is_mapping}
 use Rattle.entry.specs.Find.{place_of}
 use Rattle.entry.specs.Put.{Contents}
 use Rattle.entry.specs.declared.Place.{Place}
-use Rattle.entry.specs.declared.Place.TheVariants.{NoObject, NoSub, Count, Value}
+use Rattle.entry.specs.declared.Place.TheVariants.{Count, Value}
+use Rattle.entry.specs.declared.Missing.{Missing}
 use Rattle.aim.specs.Aims.{between}
 use Rattle.aim.proofs.RangeLaws.{joined_range}
 use Rattle.pdo_step.specs.declared.Outcome.TheVariants as outcome
@@ -33,7 +34,7 @@ use Rattle.demand.specs.Demand.{Whole}
 pub record StoredAt (objects slots payload : List ℕ) (w p start n : ℕ) : Type 0 where
   pub within_payload : start + n ≤ length payload
   pub away : between 0x1200 0x12FF (entry_of w).index ≡ false
-  pub placed : place_of objects (entry_of w).index (entry_of w).sub_index ≡ Value p
+  pub placed : place_of objects (entry_of w).index (entry_of w).sub_index ≡ Ok (Value p)
   pub even : is_text (type_at slots p) ≡ true → not (eqb (type_at slots p) 13 && eqb (n % 2) 1) ≡ true
   pub roomy : is_text (type_at slots p) ≡ true → n ≤ room_at slots p
 
@@ -58,7 +59,7 @@ module _ (objects slots payload : List ℕ) (w p start n : ℕ) (f : field_of (e
       go false a true r e = let z : ◌≡◌ {A = ℕ} 0 1 = cc in absurd (omega arith)
       go false a false r e = refl
 
-  at_value_lem : (q : ℕ) → place_of objects x sub ≡ Value q → start + n ≤ length payload → between 0x1200 0x12FF x ≡ false → (v : Result ℕ CodecFault) → word_at (type_at slots q) (part payload start n) ≡ v → on_value slots q start n v ≡ outcome.Stored p start n → StoredAt objects slots payload w p start n
+  at_value_lem : (q : ℕ) → place_of objects x sub ≡ Ok (Value q) → start + n ≤ length payload → between 0x1200 0x12FF x ≡ false → (v : Result ℕ CodecFault) → word_at (type_at slots q) (part payload start n) ≡ v → on_value slots q start n v ≡ outcome.Stored p start n → StoredAt objects slots payload w p start n
   at_value_lem q l h a (Err c) k e = let z : ◌≡◌ {A = ℕ} 0 1 = cc in absurd (omega arith)
   at_value_lem q l h a (Ok v) k e = room (is_text (type_at slots q)) refl (ltb (room_at slots q) n) refl e
     where
@@ -70,17 +71,16 @@ module _ (objects slots payload : List ℕ) (w p start n : ℕ) (f : field_of (e
       room true t false r e = let u : q ≡ p = cc in same u (λ y. ltb-false _ _ r)
       room false t b r e = let u : q ≡ p = cc in same u (λ y. let z : ◌≡◌ {A = ℕ} 0 1 = cc in absurd (omega arith))
 
-  at_place : (q : Place) → place_of objects x sub ≡ q → start + n ≤ length payload → between 0x1200 0x12FF x ≡ false → on_place slots payload x start n q ≡ outcome.Stored p start n → StoredAt objects slots payload w p start n
+  at_place : (q : Result Place Missing) → place_of objects x sub ≡ q → start + n ≤ length payload → between 0x1200 0x12FF x ≡ false → on_place slots payload x start n q ≡ outcome.Stored p start n → StoredAt objects slots payload w p start n
   unfolding on_count
-  at_place NoObject l h a e = let z : ◌≡◌ {A = ℕ} 0 1 = cc in absurd (omega arith)
-  at_place NoSub l h a e = let z : ◌≡◌ {A = ℕ} 0 1 = cc in absurd (omega arith)
-  at_place (Count c) l h a e = go (eqb n 0) (is_mapping x) e
+  at_place (Err m) l h a e = let z : ◌≡◌ {A = ℕ} 0 1 = cc in absurd (omega arith)
+  at_place (Ok (Count c)) l h a e = go (eqb n 0) (is_mapping x) e
     where
       go : (u v : Bool) → cond u (outcome.Undecodable (cause.Value 1 0)) (cond v outcome.Count outcome.CountRefused) ≡ outcome.Stored p start n → StoredAt objects slots payload w p start n
       go true v e = let z : ◌≡◌ {A = ℕ} 0 1 = cc in absurd (omega arith)
       go false true e = let z : ◌≡◌ {A = ℕ} 0 1 = cc in absurd (omega arith)
       go false false e = let z : ◌≡◌ {A = ℕ} 0 1 = cc in absurd (omega arith)
-  at_place (Value q) l h a e = at_value_lem q l h a (word_at (type_at slots q) (part payload start n)) refl e
+  at_place (Ok (Value q)) l h a e = at_value_lem q l h a (word_at (type_at slots q) (part payload start n)) refl e
 
   pub stored_at : outcome_of objects slots payload w ≡ outcome.Stored p start n → StoredAt objects slots payload w p start n
   unfolding on_index

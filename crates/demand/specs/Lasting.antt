@@ -40,7 +40,7 @@ SameWords d d' i = (r r' : ℕ) → find_row d.objects (0x1600 + i) ≡ Some r �
 -- a value's place, type and room in another dictionary
 pub record SameTarget (d d' : Dict) (x sub p : ℕ) : Type 0 where
   pub place : ℕ
-  pub placed : place_of d'.objects x sub ≡ Value place
+  pub placed : place_of d'.objects x sub ≡ Ok (Value place)
   pub type : type_at d'.slots place ≡ type_at d.slots p
   pub room : room_at d'.slots place ≡ room_at d.slots p
 
@@ -49,7 +49,7 @@ pub record KeepsList (d d' : Dict) (i r : ℕ) : Type 0 where
   pub list : SameRow d d' (0x1600 + i) r
   pub words : list_in d'.objects d'.words list.row ≡ list_in d.objects d.words r
   pub targets : (k : ℕ) → k < list_count d.objects r
-      → let e = entry_of (get_or (list_in d.objects d.words r) k 0) in (p : ℕ) → place_of d.objects e.index e.sub_index ≡ Value p → SameTarget d d' e.index e.sub_index p
+      → let e = entry_of (get_or (list_in d.objects d.words r) k 0) in (p : ℕ) → place_of d.objects e.index e.sub_index ≡ Ok (Value p) → SameTarget d d' e.index e.sub_index p
 
 abbrev pub Keeps : Dict → Dict → ℕ → Type 0
 Keeps d d' i = (r : ℕ) → find_row d.objects (0x1600 + i) ≡ Some r → KeepsList d d' i r

@@ -1,12 +1,12 @@
 -- The twelve cases, one table under one theorem: RULES.md 14. Assumes nothing.
-use Rattle.std.specs.Prelude.{ℕ, ◌-◌, ◌≡◌, refl, Bool, true, false, List, [], ◌∷◌, negsuc, length, set}
+use Rattle.std.specs.Prelude.{ℕ, ◌-◌, ◌≡◌, refl, Bool, true, false, List, [], ◌∷◌, negsuc, length, set, Result, Ok}
 use Rattle.lists.specs.Numbers.{number}
 use Rattle.lists.specs.Lists.{over}
 use Rattle.text.specs.Machine.{judge_at}
 use Rattle.mapping.specs.Word.{entry_of, word_of, field_of}
 use Rattle.mapping.specs.declared.PdoMappingEntry.{PdoMappingEntry}
-use Rattle.value.specs.declared.Decoded.{Decoded}
-use Rattle.value.specs.declared.Decoded.TheVariants.{Value}
+use Rattle.value.specs.declared.DecodeFault.{DecodeFault}
+use Rattle.value.specs.declared.ObjectValue.{ObjectValue}
 use Rattle.value.specs.declared.ObjectValue.TheVariants.{Integer16}
 use Rattle.value.specs.Meaning.{readings}
 use Rattle.value.specs.Codec.{size_of, word_at, text_word, decode_of}
@@ -69,7 +69,7 @@ pub data Asked : Type 0 where
 pub data Answered : Type 0 where
   entry : PdoMappingEntry → Answered
   word : ℕ → Answered
-  read_as : Decoded → Answered
+  read_as : Result ObjectValue DecodeFault → Answered
   right : Bool → Answered
   errors : List ℕ → Answered
   run : Ran → Answered
@@ -101,8 +101,8 @@ abbrev pub table : List (List Line)
 table =
     (asks (taken-apart 0x00200010AB036200) (entry (record { index = 0x6200; sub_index = 3; offset_bits = 16; length_bits = 32 })) ∷ [])
     ∷ (asks (encoded-again 0x00200010AB036200) (word 0x0020001000036200) ∷ [])
-    ∷ (asks (decoded 2 (0xFF ∷ 0xFF ∷ [])) (read_as (Value (Integer16 (negsuc 0)))) ∷ [])
-    ∷ (asks (decoded 2 (0x00 ∷ 0x80 ∷ [])) (read_as (Value (Integer16 (negsuc 32767)))) ∷ [])
+    ∷ (asks (decoded 2 (0xFF ∷ 0xFF ∷ [])) (read_as (Ok (Integer16 (negsuc 0)))) ∷ [])
+    ∷ (asks (decoded 2 (0x00 ∷ 0x80 ∷ [])) (read_as (Ok (Integer16 (negsuc 32767)))) ∷ [])
     ∷ (asks (versions 0x00 0x00) (right true) ∷ [])
     ∷ (asks (versions 0x10 0x12) (right true) ∷ asks (versions 0x12 0x11) (right false) ∷ asks (versions 0x12 0x22) (right false) ∷ [])
     ∷ (asks (bit-set 239) (errors (set zeros 29 0x40)) ∷ asks (bit-set 240) (errors zeros) ∷ [])

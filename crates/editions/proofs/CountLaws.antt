@@ -13,9 +13,11 @@ use Rattle.answers.specs.declared.Refusal.TheVariants.{Malformed}
 use Rattle.entry.specs.Table.{Dict, edition_of, count_at, list_count}
 use Rattle.entry.specs.Judge.{well_formed}
 use Rattle.rows.specs.Rows.{kept_in}
-use Rattle.writing.specs.declared.Judged.{Judged}
-use Rattle.writing.specs.declared.Judged.TheVariants.{Put, Accepted, Keep, Save, Restore, NoValue, Refused}
-use Rattle.writing.specs.declared.Wrote.TheVariants as wrote
+use Rattle.std.specs.Prelude.{Result, Ok, Err}
+use Rattle.writing.specs.declared.Act.{Act}
+use Rattle.writing.specs.declared.Act.TheVariants.{Put, Accepted, Keep, Save, Restore}
+use Rattle.writing.specs.declared.WriteFault.{WriteFault}
+use Rattle.writing.specs.declared.WriteFault.TheVariants.{Refused}
 use Rattle.writing.specs.Judging.{judge_of}
 use Rattle.writing.specs.Writing.{after_write, write_act_of, write_of}
 use Rattle.writing.proofs.CountLaws.{judged_keep}
@@ -30,10 +32,10 @@ pub write_rows : (d : Dict) (store : List ℕ) (x sub t : ℕ) (s : List ℕ) �
 unfolding write_of write_act_of
 write_rows d store x sub t s = formed (well_formed d) refl
   where
-    acted : well_formed d ≡ true → (j : Judged) → judge_of d (length store) x sub t s ≡ j → ((write_act_of d store sub s j).objects ≡ d.objects) ⊎ KeptCount d x sub s (write_act_of d store sub s j)
-    acted w (Put p) q = inl refl
-    acted w Accepted q = inl refl
-    acted w (Keep i n) q =
+    acted : well_formed d ≡ true → (j : Result Act WriteFault) → judge_of d (length store) x sub t s ≡ j → ((write_act_of d store sub s j).objects ≡ d.objects) ⊎ KeptCount d x sub s (write_act_of d store sub s j)
+    acted w (Ok (Put p)) q = inl refl
+    acted w (Ok Accepted) q = inl refl
+    acted w (Ok (Keep i n)) q =
         let k = judged_keep d w (length store) x sub t s i n q in
         let c = k.counted in
         inr
@@ -49,12 +51,11 @@ write_rows d store x sub t s = formed (well_formed d) refl
           words = refl;
           bytes = refl;
         })
-    acted w Save q = inl refl
-    acted w Restore q = inl refl
-    acted w (NoValue f) q = inl refl
-    acted w (Refused r) q = inl refl
+    acted w (Ok Save) q = inl refl
+    acted w (Ok Restore) q = inl refl
+    acted w (Err f) q = inl refl
 
-    formed : (b : Bool) → well_formed d ≡ b → let a = cond b (write_act_of d store sub s (judge_of d (length store) x sub t s)) (after_write (wrote.Refused Malformed) d.objects d.words d.bytes store) in (a.objects ≡ d.objects) ⊎ KeptCount d x sub s a
+    formed : (b : Bool) → well_formed d ≡ b → let a = cond b (write_act_of d store sub s (judge_of d (length store) x sub t s)) (after_write (Err (Refused Malformed)) d.objects d.words d.bytes store) in (a.objects ≡ d.objects) ⊎ KeptCount d x sub s a
     formed true w = acted w (judge_of d (length store) x sub t s) refl
     formed false w = inl refl
 

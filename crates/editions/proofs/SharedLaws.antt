@@ -1,7 +1,7 @@
 -- Dictionaries that differ in their edition, their kept counts or their ranges alone have the same first match, expected version and right
 -- versions, and a mapping word comes to the same outcome in them.
 -- Assumes nothing.
-use Rattle.std.specs.Prelude.{Option, Some, None}
+use Rattle.std.specs.Prelude.{Option, Some, None, Result, Ok, Err}
 use Rattle.mapping.specs.declared.Field.{Field}
 use Prim.Native.Nat.{ℕ, zero, suc}
 use mathlib.Core.Path.{◌≡◌, refl, sym, ap, ◌∙◌}
@@ -12,18 +12,18 @@ use Rattle.entry.specs.Table.{dict}
 use Rattle.entry.specs.Find.{place_of}
 use Rattle.entry.specs.Same.{SameRows, uncounted}
 use Rattle.entry.specs.declared.Place.{Place}
-use Rattle.entry.specs.declared.Place.TheVariants.{NoObject, NoSub, Count, Value}
+use Rattle.entry.specs.declared.Place.TheVariants.{Count, Value}
+use Rattle.entry.specs.declared.Missing.{Missing}
 use Rattle.entry.proofs.SameLaws.{place-uncounted}
 use Rattle.aim.specs.Aims.{class_in, class_of}
 use Rattle.pdo_step.specs.Outcomes.{inside, on_class, outcome_of}
 use Rattle.pdo_channel.specs.Channel.{u8_in, u8_at, comm_index, channel_from, first_match, or_zero, expected_of, right_version}
 
 -- ---- a number that a record holds
-u8_uncounted : (a b s w y : List ℕ) (q : Place) → u8_in (dict a s w y) q ≡ u8_in (dict b s w y) (uncounted q)
-u8_uncounted a b s w y NoObject = refl
-u8_uncounted a b s w y NoSub = refl
-u8_uncounted a b s w y (Count n) = refl
-u8_uncounted a b s w y (Value p) = refl
+u8_uncounted : (a b s w y : List ℕ) (q : Result Place Missing) → u8_in (dict a s w y) q ≡ u8_in (dict b s w y) (uncounted q)
+u8_uncounted a b s w y (Err m) = refl
+u8_uncounted a b s w y (Ok (Count n)) = refl
+u8_uncounted a b s w y (Ok (Value p)) = refl
 
 pub u8_same : {a b : List ℕ} → SameRows a b → (s w y : List ℕ) (x sub : ℕ) → u8_at (dict a s w y) x sub ≡ u8_at (dict b s w y) x sub
 u8_same {a} {b} h s w y x sub =
@@ -46,12 +46,11 @@ pub version_same : {a b : List ℕ} → SameRows a b → (s w y : List ℕ) (i v
 version_same h s w y i version = ap (λ e. right_version e version) (expected_same h s w y i)
 
 -- ---- stepping
-class_uncounted : (x : ℕ) (q : Place) (f : Option Field) → class_in x q f ≡ class_in x (uncounted q) f
+class_uncounted : (x : ℕ) (q : Result Place Missing) (f : Option Field) → class_in x q f ≡ class_in x (uncounted q) f
 class_uncounted x q None = refl
-class_uncounted x NoObject (Some v) = refl
-class_uncounted x NoSub (Some v) = refl
-class_uncounted x (Count k) (Some v) = refl
-class_uncounted x (Value p) (Some v) = refl
+class_uncounted x (Err m) (Some v) = refl
+class_uncounted x (Ok (Count k)) (Some v) = refl
+class_uncounted x (Ok (Value p)) (Some v) = refl
 
 pub outcome_same : {a b : List ℕ} → SameRows a b → (s payload : List ℕ) (w : ℕ) → outcome_of a s payload w ≡ outcome_of b s payload w
 unfolding outcome_of class_of

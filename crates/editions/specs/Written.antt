@@ -1,5 +1,5 @@
 -- What a write does to the rows: RULES.md R8.7, "at most that one word changes". Assumes nothing.
-use Rattle.std.specs.Prelude.{ℕ, ◌+◌, ◌≤◌, ◌≡◌, true, List, get_or, Some}
+use Rattle.std.specs.Prelude.{ℕ, ◌+◌, ◌≤◌, ◌≡◌, true, List, get_or, Some, Ok}
 use Rattle.entry.specs.Table.{Dict, edition_of, is_mapping, count_at}
 use Rattle.entry.specs.Find.{find_row}
 use Rattle.rows.specs.Rows.{kept_in}
@@ -14,7 +14,7 @@ pub record KeptCount (d : Dict) (x sub : ℕ) (s : List ℕ) (a : AfterWrite) : 
   pub mapping : is_mapping x ≡ true
   pub count : sub ≡ 0
   pub few : get_or s 0 0 ≤ count_at d.objects row
-  pub answer : a.answer ≡ Done
+  pub answer : a.answer ≡ Ok Done
   pub objects : a.objects ≡ kept_in row (get_or s 0 0) d.objects
   pub words : a.words ≡ d.words
   pub bytes : a.bytes ≡ d.bytes

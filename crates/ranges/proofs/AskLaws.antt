@@ -1,6 +1,6 @@
 -- Reading, counting up, the mapping count, names, nodes and error bits, on rows that are alike.
 -- Assumes nothing.
-use Rattle.std.specs.Prelude.{Option, Some, None}
+use Rattle.std.specs.Prelude.{Option, Some, None, Result, Ok, Err}
 use Prim.Native.Nat.{ℕ, zero, suc}
 use mathlib.Core.Path.{◌≡◌, refl, ap, ◌∙◌}
 use mathlib.Core.Bool.{cond}
@@ -8,7 +8,9 @@ use mathlib.Core.List.{List}
 use Rattle.entry.specs.Table.{dict, sends}
 use Rattle.entry.specs.Find.{find_row, sub_at, place_of}
 use Rattle.entry.specs.declared.Place.{Place}
-use Rattle.entry.specs.declared.Place.TheVariants.{NoObject, NoSub, Count, Value}
+use Rattle.entry.specs.declared.Place.TheVariants.{Count, Value}
+use Rattle.entry.specs.declared.Missing.{Missing}
+use Rattle.entry.specs.declared.Missing.TheVariants.{NoObject, NoSub}
 use Rattle.od.specs.Read.{read_at}
 use Rattle.counter.specs.Counter.{of_u32, in_row, counter_at}
 use Rattle.pdo_validator.specs.Counting.{u16_at, limit_of, count_on, count_of}
@@ -19,21 +21,20 @@ use Rattle.ranges.specs.Alike.{Alike}
 use Rattle.entry.proofs.SameLaws.{index_same, kind-same, count_same, first_same, name_same, name_length-same, row_same}
 use Rattle.ranges.proofs.RowLaws.{sub_same, place_same}
 
-read_at_same : (a b s w y : List ℕ) (q : Place) → read_at (dict a s w y) q ≡ read_at (dict b s w y) q
-read_at_same a b s w y NoObject = refl
-read_at_same a b s w y NoSub = refl
-read_at_same a b s w y (Count n) = refl
-read_at_same a b s w y (Value p) = refl
+read_at_same : (a b s w y : List ℕ) (q : Result Place Missing) → read_at (dict a s w y) q ≡ read_at (dict b s w y) q
+read_at_same a b s w y (Err NoObject) = refl
+read_at_same a b s w y (Err NoSub) = refl
+read_at_same a b s w y (Ok (Count n)) = refl
+read_at_same a b s w y (Ok (Value p)) = refl
 
 pub read_same : {a b : List ℕ} → Alike a b → (s w y : List ℕ) (x sub : ℕ) → read_at (dict a s w y) (place_of a x sub) ≡ read_at (dict b s w y) (place_of b x sub)
 read_same {a} {b} h s w y x sub = read_at_same a b s w y (place_of a x sub) ∙ ap (read_at (dict b s w y)) (place_same h x sub)
 
 -- ---- the counter
-u32_same : (a b s w y : List ℕ) (q : Place) → of_u32 (dict a s w y) q ≡ of_u32 (dict b s w y) q
-u32_same a b s w y NoObject = refl
-u32_same a b s w y NoSub = refl
-u32_same a b s w y (Count n) = refl
-u32_same a b s w y (Value p) = refl
+u32_same : (a b s w y : List ℕ) (q : Option Place) → of_u32 (dict a s w y) q ≡ of_u32 (dict b s w y) q
+u32_same a b s w y None = refl
+u32_same a b s w y (Some (Count n)) = refl
+u32_same a b s w y (Some (Value p)) = refl
 
 in_row-same : {a b : List ℕ} → Alike a b → (s w y : List ℕ) (sub : ℕ) (f : Option ℕ) → in_row (dict a s w y) sub f ≡ in_row (dict b s w y) sub f
 in_row-same {a} {b} h s w y sub (Some i) = rw (kind-same h.rows i) (rw (sub_same h i sub) (rw (u32_same a b s w y (sub_at b i sub)) refl))
@@ -44,11 +45,10 @@ unfolding counter_at
 counter_same {a} {b} h s w y x sub = in_row-same h s w y sub (find_row a x) ∙ ap (in_row (dict b s w y) sub) (row_same h.rows x)
 
 -- ---- the mapping count
-u16_same : (a b s w y : List ℕ) (q : Place) → u16_at (dict a s w y) q ≡ u16_at (dict b s w y) q
-u16_same a b s w y NoObject = refl
-u16_same a b s w y NoSub = refl
-u16_same a b s w y (Count n) = refl
-u16_same a b s w y (Value p) = refl
+u16_same : (a b s w y : List ℕ) (q : Result Place Missing) → u16_at (dict a s w y) q ≡ u16_at (dict b s w y) q
+u16_same a b s w y (Err m) = refl
+u16_same a b s w y (Ok (Count n)) = refl
+u16_same a b s w y (Ok (Value p)) = refl
 
 limit_same : {a b : List ℕ} → Alike a b → (s w y : List ℕ) (x : ℕ) → limit_of (dict a s w y) x ≡ limit_of (dict b s w y) x
 unfolding limit_of

@@ -9,13 +9,13 @@ use Rattle.mapping.specs.Word.{entry_of}
 use Rattle.entry.specs.Table.{dict, first_at}
 use Rattle.entry.specs.Find.{find_row, sub_at}
 use Rattle.entry.specs.declared.Place.{Place}
-use Rattle.entry.specs.declared.Place.TheVariants.{NoObject, NoSub, Count, Value}
-use Rattle.pdo_channel.specs.Channel.{u8_at, comm_index}
+use Rattle.entry.specs.declared.Place.TheVariants.{Count, Value}
+use Rattle.pdo_channel.specs.Channel.{u8_at, comm_index, sender_for}
 use Rattle.pdo_run.specs.Run.{list_in}
 use Rattle.element.specs.Explain.{of_place, of_list}
 use Rattle.element.specs.Elements.{word_verdict}
 use Rattle.channel.specs.declared.Checked.{Checked}
-use Rattle.channel.specs.Check.{fault_from, last_of, on_list, sender_for, has_sender}
+use Rattle.channel.specs.Check.{fault_from, last_of, on_list, has_sender}
 use Rattle.editions.proofs.SharedLaws.{u8_same, match_same}
 use Rattle.ranges.specs.Alike.{Alike}
 use Rattle.entry.proofs.SameLaws.{kind-same, first_same, row_same}
@@ -48,11 +48,10 @@ pub checked_list_same : {a b : List ℕ} → Alike a b → (s w y : List ℕ) (x
 checked_list_same {a} {b} h s w y x = rw (row_same h.rows x) (on_list_same h s w y (find_row b x))
 
 -- ---- explaining
-of_place-same : {a b : List ℕ} → Alike a b → (s w y : List ℕ) (q : Place) → of_place (dict a s w y) q ≡ of_place (dict b s w y) q
-of_place-same h s w y NoObject = refl
-of_place-same h s w y NoSub = refl
-of_place-same h s w y (Count n) = refl
-of_place-same h s w y (Value p) = let e = entry_of (get_or w p 0) in rw (place_same h e.index e.sub_index) refl
+of_place-same : {a b : List ℕ} → Alike a b → (s w y : List ℕ) (q : Option Place) → of_place (dict a s w y) q ≡ of_place (dict b s w y) q
+of_place-same h s w y None = refl
+of_place-same h s w y (Some (Count n)) = refl
+of_place-same h s w y (Some (Value p)) = let e = entry_of (get_or w p 0) in rw (place_same h e.index e.sub_index) refl
 
 of_list_same : {a b : List ℕ} → Alike a b → (s w y : List ℕ) (k : ℕ) (f : Option ℕ) → of_list (dict a s w y) k f ≡ of_list (dict b s w y) k f
 of_list_same h s w y k None = refl

@@ -9,8 +9,6 @@ use Rattle.mapping.specs.Word.{entry_of}
 use Rattle.entry.specs.Table.{dict, first_at}
 use Rattle.entry.specs.Find.{find_row, place_of}
 use Rattle.entry.specs.Put.{Contents}
-use Rattle.entry.specs.declared.Place.{Place}
-use Rattle.entry.specs.declared.Place.TheVariants.{NoObject, NoSub, Count, Value}
 use Rattle.pdo_step.specs.Outcomes.{outcome_of}
 use Rattle.pdo_step.specs.declared.Outcome.{Outcome}
 use Rattle.pdo_channel.specs.Channel.{u8_in, u8_at, comm_index, channel_from, first_match}

@@ -99,7 +99,7 @@ received_ignores d w payload sender version ready es =
 pub save_ignores : (d : Dict) (store : List ℕ) (l : ℕ) → save_of d store l ≡ save_of (rangeless d) store l
 unfolding save_of
 save_ignores d store l =
-    rw (offered-same (cleared_alike d.objects) d.slots d.words d.bytes (range_of l).first (range_of l).last) refl
+    rw (offered-same (cleared_alike d.objects) d.slots d.words d.bytes (range_of l).start (range_of l).end) refl
 
 either_way : (q : Bool) (x y x' y' : AfterRestore) (b : List ℕ) → (x.answer ≡ x'.answer) × (rowed x.memory b ≡ x'.memory) → (y.answer ≡ y'.answer) × (rowed y.memory b ≡ y'.memory)
     → ((cond q x y).answer ≡ (cond q x' y').answer) × (rowed (cond q x y).memory b ≡ (cond q x' y').memory)

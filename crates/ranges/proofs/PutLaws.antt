@@ -1,6 +1,6 @@
 -- Where a write puts a value of the range's type, the value lies between the ends; so where the call changes a word.
 -- Assumes nothing.
-use Rattle.std.specs.Prelude.{Some}
+use Rattle.std.specs.Prelude.{Some, Result, Ok, Err}
 use Prim.Native.Nat.{ℕ, ◌≤◌}
 use mathlib.Core.Path.{◌≡◌, refl, sym, ap, ◌∙◌}
 use mathlib.Core.Bool.{Bool, true, false, cond, not, ◌&&◌, ◌||◌}
@@ -17,9 +17,10 @@ use Rattle.entry.specs.Table.{Dict, extra_at}
 use Rattle.entry.specs.Find.{find_row}
 use Rattle.entry.specs.Judge.{well_formed}
 use Rattle.entry.proofs.JudgeLaws.{and_true}
-use Rattle.writing.specs.declared.Judged.{Judged}
-use Rattle.writing.specs.declared.Judged.TheVariants.{Put, Accepted, Keep, Save, Restore, NoValue, Refused}
-use Rattle.writing.specs.declared.Wrote.TheVariants as wrote
+use Rattle.writing.specs.declared.Act.{Act}
+use Rattle.writing.specs.declared.Act.TheVariants.{Put, Accepted, Keep, Save, Restore}
+use Rattle.writing.specs.declared.WriteFault.{WriteFault}
+use Rattle.writing.specs.declared.WriteFault.TheVariants.{Refused}
 use Rattle.writing.specs.Judging.{outside, judge_of}
 use Rattle.writing.specs.Writing.{after_write, write_act_of, write_of}
 use Rattle.writing.proofs.PutLaws.{judged_put}
@@ -33,7 +34,7 @@ within e t w one r o =
     let q = and_true (ordered t e.low w) (ordered t w e.high) (not-false (ordered t e.low w && ordered t w e.high) (sym (outside_of e t w held).test ∙ o)) in
     record { above = q.0; below = q.1 }
 
-pub put_in_range : (d : Dict) (n x sub t : ℕ) (s : List ℕ) (p i : ℕ) → judge_of d n x sub t s ≡ Put p → find_row d.objects x ≡ Some i → 1 ≤ t → (extra_at d.objects i).ranged ≡ t → Between t (number s) (extra_at d.objects i)
+pub put_in_range : (d : Dict) (n x sub t : ℕ) (s : List ℕ) (p i : ℕ) → judge_of d n x sub t s ≡ Ok (Put p) → find_row d.objects x ≡ Some i → 1 ≤ t → (extra_at d.objects i).ranged ≡ t → Between t (number s) (extra_at d.objects i)
 put_in_range d n x sub t s p i e f one r =
     let j = (judged_put d n x sub t s p e).1 in
     let row : j.row ≡ i = cc in
@@ -45,12 +46,11 @@ pub written_in_range : (d : Dict) (store : List ℕ) (x sub t : ℕ) (s : List �
 unfolding write_of write_act_of
 written_in_range d store x sub t s i f one r changed = go (well_formed d) (judge_of d (length store) x sub t s) refl changed
   where
-    go : (b : Bool) (j : Judged) → judge_of d (length store) x sub t s ≡ j → ((cond b (write_act_of d store sub s j) (after_write (wrote.Refused Malformed) d.objects d.words d.bytes store)).words ≡ d.words → ⊥) → Between t (number s) (extra_at d.objects i)
+    go : (b : Bool) (j : Result Act WriteFault) → judge_of d (length store) x sub t s ≡ j → ((cond b (write_act_of d store sub s j) (after_write (Err (Refused Malformed)) d.objects d.words d.bytes store)).words ≡ d.words → ⊥) → Between t (number s) (extra_at d.objects i)
     go false j e c = absurd (c refl)
-    go true (Put p) e c = put_in_range d (length store) x sub t s p i e f one r
-    go true Accepted e c = absurd (c refl)
-    go true (Keep k m) e c = absurd (c refl)
-    go true Save e c = absurd (c refl)
-    go true Restore e c = absurd (c refl)
-    go true (NoValue g) e c = absurd (c refl)
-    go true (Refused q) e c = absurd (c refl)
+    go true (Ok (Put p)) e c = put_in_range d (length store) x sub t s p i e f one r
+    go true (Ok Accepted) e c = absurd (c refl)
+    go true (Ok (Keep k m)) e c = absurd (c refl)
+    go true (Ok Save) e c = absurd (c refl)
+    go true (Ok Restore) e c = absurd (c refl)
+    go true (Err g) e c = absurd (c refl)

@@ -5,7 +5,7 @@ use Prim.Native.Nat.{ℕ}
 use mathlib.Core.Path.{◌≡◌, refl, ap, ◌∙◌}
 use mathlib.Core.List.{List}
 use Rattle.entry.specs.Table.{list_count}
-use Rattle.entry.specs.Find.{find_row, sub_at, on_row, place_of}
+use Rattle.entry.specs.Find.{find_row, sub_at, or_no_sub, on_row, place_of}
 use Rattle.entry.proofs.SameLaws.{index_same, kind-same, count_same, first_same, row_same}
 use Rattle.ranges.specs.Alike.{Alike}
 
@@ -18,7 +18,7 @@ unfolding sub_at
 sub_same h i sub = rw (kind-same h.rows i) (rw (first_same h.rows i) (rw (list_same h i) (rw (count_same h.rows i) refl)))
 
 on_same : {a b : List ℕ} → Alike a b → (sub : ℕ) (f : Option ℕ) → on_row a sub f ≡ on_row b sub f
-on_same h sub (Some i) = sub_same h i sub
+on_same h sub (Some i) = ap or_no_sub (sub_same h i sub)
 on_same h sub None = refl
 
 pub place_same : {a b : List ℕ} → Alike a b → (x sub : ℕ) → place_of a x sub ≡ place_of b x sub

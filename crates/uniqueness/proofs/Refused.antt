@@ -25,10 +25,12 @@ use Rattle.counter.specs.Counter.{counter_of}
 use Rattle.commands.specs.Save as commands
 use Rattle.commands.specs.Save.{fits, save_of}
 use Rattle.image.specs.Image.{new_table}
-use Rattle.writing.specs.declared.Judged.{Judged}
-use Rattle.writing.specs.declared.Judged.TheVariants as judged
+use Rattle.writing.specs.declared.Act.{Act}
+use Rattle.writing.specs.declared.Act.TheVariants.{Put, Accepted, Keep, Save, Restore}
 use Rattle.writing.specs.declared.Wrote.{Wrote}
-use Rattle.writing.specs.declared.Wrote.TheVariants as wrote
+use Rattle.writing.specs.declared.Wrote.TheVariants.{Done, RestoreRequested}
+use Rattle.writing.specs.declared.WriteFault.{WriteFault}
+use Rattle.writing.specs.declared.WriteFault.TheVariants.{NoValue, Refused}
 use Rattle.writing.specs.Judging.{judge_of}
 use Rattle.writing.specs.Writing as writing
 use Rattle.writing.specs.Writing.{write_of}
@@ -100,51 +102,33 @@ cns_refused d out = join (well_formed d) _ _ (join (ltb (length out) (length (no
     join = either (λ (y : AfterListing). y.answer) Err same
 
 -- ---- writing and restoring
-pub write_refused : (d : Dict) (store : List ℕ) (x sub t : ℕ) (s : List ℕ) → Refuses writing.AfterWrite Wrote (λ y. y.answer) wrote.Refused (λ a. writing.after_write a d.objects d.words d.bytes store) (write_of d store x sub t s)
+pub write_faulty : (d : Dict) (store : List ℕ) (x sub t : ℕ) (s : List ℕ) → Refuses writing.AfterWrite (Result Wrote WriteFault) (λ y. y.answer) Err (λ a. writing.after_write a d.objects d.words d.bytes store) (write_of d store x sub t s)
 unfolding write_of writing.write_act_of save_of
-write_refused d store x sub t s = join (well_formed d) _ _ (act (judge_of d (length store) x sub t s)) (λ r e. ap same e)
+write_faulty d store x sub t s = join (well_formed d) _ _ (act (judge_of d (length store) x sub t s)) (λ f e. ap same e)
   where
-    same : Wrote → writing.AfterWrite
+    same : Result Wrote WriteFault → writing.AfterWrite
     same a = writing.after_write a d.objects d.words d.bytes store
 
-    join : (b : Bool) (x y : writing.AfterWrite) → Refuses writing.AfterWrite Wrote (λ y. y.answer) wrote.Refused same x → Refuses writing.AfterWrite Wrote (λ y. y.answer) wrote.Refused same y → Refuses writing.AfterWrite Wrote (λ y. y.answer) wrote.Refused same (cond b x y)
-    join = either (λ (y : writing.AfterWrite). y.answer) wrote.Refused same
+    join : (b : Bool) (x y : writing.AfterWrite) → Refuses writing.AfterWrite (Result Wrote WriteFault) (λ y. y.answer) Err same x → Refuses writing.AfterWrite (Result Wrote WriteFault) (λ y. y.answer) Err same y → Refuses writing.AfterWrite (Result Wrote WriteFault) (λ y. y.answer) Err same (cond b x y)
+    join = either (λ (y : writing.AfterWrite). y.answer) Err same
 
-    saving : (b : Bool) (st : List ℕ) → Refuses writing.AfterWrite Wrote (λ y. y.answer) wrote.Refused same (let y = cond b (commands.after_save (Ok tt) st) (commands.after_save (Err refusal.StoreFull) store) in writing.after_write (writing.saved_as y.answer) d.objects d.words d.bytes y.store)
-    saving true st = (λ r (e : wrote.Done ≡ wrote.Refused r). let z : ◌≡◌ {A = ℕ} 0 1 = cc in absurd (omega arith))
-    saving false st = λ r e. ap same e
+    saving : (b : Bool) (st : List ℕ) → Refuses writing.AfterWrite (Result Wrote WriteFault) (λ y. y.answer) Err same (let y = cond b (commands.after_save (Ok tt) st) (commands.after_save (Err refusal.StoreFull) store) in writing.after_write (writing.saved_as y.answer) d.objects d.words d.bytes y.store)
+    saving true st = (λ f (e : ◌≡◌ {A = Result Wrote WriteFault} (Ok Done) (Err f)). let z : ◌≡◌ {A = ℕ} 0 1 = cc in absurd (omega arith))
+    saving false st = λ f e. ap same e
 
-    act : (j : Judged) → Refuses writing.AfterWrite Wrote (λ y. y.answer) wrote.Refused same (writing.write_act_of d store sub s j)
-    act (judged.Put p) = (λ r (e : wrote.Done ≡ wrote.Refused r). let z : ◌≡◌ {A = ℕ} 0 1 = cc in absurd (omega arith))
-    act judged.Accepted = (λ r (e : wrote.Done ≡ wrote.Refused r). let z : ◌≡◌ {A = ℕ} 0 1 = cc in absurd (omega arith))
-    act (judged.Keep i n) = (λ r (e : wrote.Done ≡ wrote.Refused r). let z : ◌≡◌ {A = ℕ} 0 1 = cc in absurd (omega arith))
-    act judged.Save = saving (fits (new_table d sub store) store) _
-    act judged.Restore = (λ r (e : wrote.RestoreRequested ≡ wrote.Refused r). let z : ◌≡◌ {A = ℕ} 0 1 = cc in absurd (omega arith))
-    act (judged.NoValue f) = (λ r (e : wrote.NoValue f ≡ wrote.Refused r). let z : ◌≡◌ {A = ℕ} 0 1 = cc in absurd (omega arith))
-    act (judged.Refused q) = λ r e. ap same e
+    act : (j : Result Act WriteFault) → Refuses writing.AfterWrite (Result Wrote WriteFault) (λ y. y.answer) Err same (writing.write_act_of d store sub s j)
+    act (Ok (Put p)) = (λ f (e : ◌≡◌ {A = Result Wrote WriteFault} (Ok Done) (Err f)). let z : ◌≡◌ {A = ℕ} 0 1 = cc in absurd (omega arith))
+    act (Ok Accepted) = (λ f (e : ◌≡◌ {A = Result Wrote WriteFault} (Ok Done) (Err f)). let z : ◌≡◌ {A = ℕ} 0 1 = cc in absurd (omega arith))
+    act (Ok (Keep i n)) = (λ f (e : ◌≡◌ {A = Result Wrote WriteFault} (Ok Done) (Err f)). let z : ◌≡◌ {A = ℕ} 0 1 = cc in absurd (omega arith))
+    act (Ok Save) = saving (fits (new_table d sub store) store) _
+    act (Ok Restore) = (λ f (e : ◌≡◌ {A = Result Wrote WriteFault} (Ok RestoreRequested) (Err f)). let z : ◌≡◌ {A = ℕ} 0 1 = cc in absurd (omega arith))
+    act (Err g) = λ f e. ap same e
 
-pub write_no-value_refused : (d : Dict) (store : List ℕ) (x sub t : ℕ) (s : List ℕ) → Refuses writing.AfterWrite Wrote (λ y. y.answer) wrote.NoValue (λ a. writing.after_write a d.objects d.words d.bytes store) (write_of d store x sub t s)
-unfolding write_of writing.write_act_of
-write_no-value_refused d store x sub t s = join (well_formed d) _ _ (act (judge_of d (length store) x sub t s)) (λ f (e : wrote.Refused refusal.Malformed ≡ wrote.NoValue f). let z : ◌≡◌ {A = ℕ} 0 1 = cc in absurd (omega arith))
-  where
-    same : Wrote → writing.AfterWrite
-    same a = writing.after_write a d.objects d.words d.bytes store
+pub write_refused : (d : Dict) (store : List ℕ) (x sub t : ℕ) (s : List ℕ) → Refuses writing.AfterWrite (Result Wrote WriteFault) (λ y. y.answer) (λ r. Err (Refused r)) (λ a. writing.after_write a d.objects d.words d.bytes store) (write_of d store x sub t s)
+write_refused d store x sub t s r = write_faulty d store x sub t s (Refused r)
 
-    join : (b : Bool) (x y : writing.AfterWrite) → Refuses writing.AfterWrite Wrote (λ y. y.answer) wrote.NoValue same x → Refuses writing.AfterWrite Wrote (λ y. y.answer) wrote.NoValue same y → Refuses writing.AfterWrite Wrote (λ y. y.answer) wrote.NoValue same (cond b x y)
-    join = either (λ (y : writing.AfterWrite). y.answer) wrote.NoValue same
-
-    saving : (a : Result (Unit {0}) Refusal) (st : List ℕ) → Refuses writing.AfterWrite Wrote (λ y. y.answer) wrote.NoValue same (writing.after_write (writing.saved_as a) d.objects d.words d.bytes st)
-    saving (Ok _) st = (λ f (e : wrote.Done ≡ wrote.NoValue f). let z : ◌≡◌ {A = ℕ} 0 1 = cc in absurd (omega arith))
-    saving (Err r) st = (λ f (e : wrote.Refused r ≡ wrote.NoValue f). let z : ◌≡◌ {A = ℕ} 0 1 = cc in absurd (omega arith))
-
-    act : (j : Judged) → Refuses writing.AfterWrite Wrote (λ y. y.answer) wrote.NoValue same (writing.write_act_of d store sub s j)
-    act (judged.Put p) = (λ f (e : wrote.Done ≡ wrote.NoValue f). let z : ◌≡◌ {A = ℕ} 0 1 = cc in absurd (omega arith))
-    act judged.Accepted = (λ f (e : wrote.Done ≡ wrote.NoValue f). let z : ◌≡◌ {A = ℕ} 0 1 = cc in absurd (omega arith))
-    act (judged.Keep i n) = (λ f (e : wrote.Done ≡ wrote.NoValue f). let z : ◌≡◌ {A = ℕ} 0 1 = cc in absurd (omega arith))
-    act judged.Save = saving (save_of d store sub).answer (save_of d store sub).store
-    act judged.Restore = (λ f (e : wrote.RestoreRequested ≡ wrote.NoValue f). let z : ◌≡◌ {A = ℕ} 0 1 = cc in absurd (omega arith))
-    act (judged.NoValue g) = λ f e. ap same e
-    act (judged.Refused q) = (λ f (e : wrote.Refused q ≡ wrote.NoValue f). let z : ◌≡◌ {A = ℕ} 0 1 = cc in absurd (omega arith))
+pub write_no-value_refused : (d : Dict) (store : List ℕ) (x sub t : ℕ) (s : List ℕ) → Refuses writing.AfterWrite (Result Wrote WriteFault) (λ y. y.answer) (λ f. Err (NoValue f)) (λ a. writing.after_write a d.objects d.words d.bytes store) (write_of d store x sub t s)
+write_no-value_refused d store x sub t s f = write_faulty d store x sub t s (NoValue f)
 
 pub restore_refused : (d : Dict) (s : List ℕ) (first last : ℕ) → Refuses restoring.AfterRestore (Result (Unit {0}) Refusal) (λ y. y.answer) Err (λ a. restoring.after_restore a d) (restore_of d s first last)
 unfolding restore_of

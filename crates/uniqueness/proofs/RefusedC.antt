@@ -15,8 +15,9 @@ use Rattle.lists.specs.Lists.{over}
 use Rattle.answers.specs.Numbers.{refusal_number}
 use Rattle.answers.specs.declared.Refusal.{Refusal}
 use Rattle.answers.specs.declared.Refusal.TheVariants.{Malformed, BadValue, ObjectNotFound, SubObjectNotFound, TypeMismatch, ReadOnly, BadSignature, NoStorage, CountNotWritable, MissingEntries, PdoMapOverrun, BufferTooShort, TooLong, PayloadTooLong, NoEventRoom, Occupied, Full, StoreFull, OutOfRange}
-use Rattle.value.specs.declared.Decoded.{Decoded}
-use Rattle.value.specs.declared.Decoded.TheVariants as decoded
+use Rattle.value.specs.declared.ObjectValue.{ObjectValue}
+use Rattle.value.specs.declared.DecodeFault.{DecodeFault}
+use Rattle.value.specs.declared.DecodeFault.TheVariants.{NoType, Fails}
 use Rattle.value.specs.Meaning.{word_of, fields_of}
 use Rattle.value.specs.Codec as codec
 use Rattle.value.specs.Codec.{decode_of, encode_of}
@@ -30,7 +31,8 @@ use Rattle.names.specs.Names.{by_name_of}
 use Rattle.nodes.specs.Nodes.{AfterListing, cns_of}
 use Rattle.counter.specs.Counter.{AfterIncrement, counter_of}
 use Rattle.writing.specs.declared.Wrote.{Wrote}
-use Rattle.writing.specs.declared.Wrote.TheVariants as wrote
+use Rattle.writing.specs.declared.Wrote.TheVariants.{Done, RestoreRequested}
+use Rattle.writing.specs.declared.WriteFault.{WriteFault}
 use Rattle.writing.specs.Writing as writing
 use Rattle.writing.specs.Writing.{write_of}
 use Rattle.restoring.specs.Restore as restoring
@@ -44,7 +46,6 @@ use Rattle.pdo_cycle.specs.Cycle.{cycle_of}
 use Rattle.element.specs.declared.Fault.{Fault}
 use Rattle.element.specs.declared.Fault.TheVariants as fault
 use Rattle.element.specs.declared.Explained.{Explained}
-use Rattle.element.specs.declared.Explained.TheVariants as explained
 use Rattle.element.specs.Explain.{explain_of}
 use Rattle.element.specs.Numbers.{fault_number, explained_numbers}
 use Rattle.channel.specs.declared.Checked.{Checked}
@@ -52,14 +53,14 @@ use Rattle.channel.specs.declared.Checked.TheVariants as checked
 use Rattle.channel.specs.Check.{check_of}
 use Rattle.channel.specs.All as checking
 use Rattle.channel.specs.All.{check_all_of}
-use Rattle.c_answers.specs.Answers.{answer_number, Told, told, Lent, lent, results, Written, wrote}
-use Rattle.c_codec.specs.Codec.{value_numbers, decoded_numbers, decode_numbers, encoded_numbers, encode_numbers, entry_numbers}
-use Rattle.c_dictionary.specs.Dictionary.{inserted_number, stored_numbers, read_numbers, number_told, typed_told, name_told, named_told, listed_numbers, node_numbers}
+use Rattle.c_answers.specs.Answers.{answer_number, Told, told, number_told, Lent, lent, results, Written, wrote, count_wrote}
+use Rattle.c_codec.specs.Codec.{value_numbers, decoded_numbers, decode_numbers, encode_numbers, entry_numbers}
+use Rattle.c_dictionary.specs.Dictionary.{inserted_number, stored_numbers, read_numbers, typed_told, named_told, node_numbers}
 use Rattle.c_storing.specs.Storing.{wrote_number, restored_number}
 use Rattle.c_receiving.specs.Receiving.{Heard, heard, consume_numbers, cycle_numbers}
-use Rattle.c_checking.specs.Checking.{checked_told, all_numbers, check_all_numbers, explain_numbers}
+use Rattle.c_checking.specs.Checking.{checked_told, check_all_numbers, explain_numbers}
 use Rattle.uniqueness.specs.Refusing.{Refuses}
-use Rattle.uniqueness.proofs.Refused.{new_refused, insert_refused, counter_refused, update_refused, cns_refused, write_refused, write_no-value_refused, restore_refused, consume_refused, cycle_refused, check_all_refused, encode_refused}
+use Rattle.uniqueness.proofs.Refused.{new_refused, insert_refused, counter_refused, update_refused, cns_refused, write_faulty, restore_refused, consume_refused, cycle_refused, check_all_refused, encode_refused}
 
 -- ---- a refusal's number is no other answer's: neither Done's nor RestoreRequested's, and below those of the check's faults
 range : (r : Refusal) → (0 < refusal_number r) × (refusal_number r ≢ 19) × (refusal_number r < 31)
@@ -103,23 +104,28 @@ results_refused rs ns = go (ltb (length ns) (length rs))
     go true r e = ap (λ a. lent a ns) e
     go false r e = no_refusal r e
 
+number_told_refused : (a : Result ℕ Refusal) (m : ℕ) → RefusedTold m (number_told a m)
+number_told_refused (Ok n) m r e = no_refusal r e
+number_told_refused (Err k) m r e = ap (λ a. told a m) e
+
+count_wrote_refused : (a : Result ℕ Refusal) (after out : List ℕ) (m : ℕ) → ((k : Refusal) → a ≡ Err k → after ≡ out) → RefusedWritten out m (count_wrote a after m)
+count_wrote_refused (Ok n) after out m same r e = no_refusal r e
+count_wrote_refused (Err k) after out m same r e = rw (same k refl) (ap (λ a. wrote a out m) e)
+
 -- ---- values and mapping words
 pub c_decode_refused : (t : ℕ) (s ns : List ℕ) (p h : ℕ) (r : Refusal) → (decode_numbers t s ns p h).answer ≡ refusal_number r → (decode_numbers t s ns p h).numbers ≡ ns
 unfolding decode_numbers value_numbers
 c_decode_refused t s ns p h r e = go (decode_of t s) e
   where
-    go : (x : Decoded) → (decoded_numbers x ns p h).answer ≡ refusal_number r → (decoded_numbers x ns p h).numbers ≡ ns
-    go (decoded.Value v) q = ap (λ (y : Lent). y.numbers) (results_refused (word_of v ∷ fields_of v) ns r q)
-    go (decoded.Fails f) q = refl
-    go decoded.NoType q = refl
+    go : (x : Result ObjectValue DecodeFault) → (decoded_numbers x ns p h).answer ≡ refusal_number r → (decoded_numbers x ns p h).numbers ≡ ns
+    go (Ok v) q = ap (λ (y : Lent). y.numbers) (results_refused (word_of v ∷ fields_of v) ns r q)
+    go (Err NoType) q = refl
+    go (Err (Fails f)) q = refl
 
 pub c_encode_refused : (t w : ℕ) (part out : List ℕ) (m : ℕ) → RefusedWritten out m (encode_numbers t w part out m)
 unfolding encode_numbers
-c_encode_refused t w part out m = go (encode_of t w part out).answer refl
-  where
-    go : (x : Result ℕ Refusal) → (encode_of t w part out).answer ≡ x → RefusedWritten out m (encoded_numbers x (encode_of t w part out).out m)
-    go (Ok n) q r e = no_refusal r e
-    go (Err k) q r e = rw (ap (λ (y : codec.AfterEncode). y.out) (encode_refused t w part out k q)) (ap (λ a. wrote a out m) e)
+c_encode_refused t w part out m =
+    let a = encode_of t w part out in count_wrote_refused a.answer a.out out m (λ k q. ap (λ (y : codec.AfterEncode). y.out) (encode_refused t w part out k q))
 
 pub c_from_u64_refused : (word : ℕ) (ns : List ℕ) → RefusedLent ns (results (entry_numbers word) ns)
 c_from_u64_refused word ns = results_refused (entry_numbers word) ns
@@ -150,27 +156,15 @@ c_read_refused d x sub ns = go (read_of d x sub)
 -- `loomfinch_read_u8`, `_u16`, `_u32` and `_u64`: of type 5, 6, 7 and 8
 pub c_read_typed_refused : (t : ℕ) (d : Dict) (x sub m : ℕ) → RefusedTold m (typed_told t d x sub m)
 unfolding typed_told
-c_read_typed_refused t d x sub m = go (of_type t (read_of d x sub))
-  where
-    go : (a : Result ℕ Refusal) → RefusedTold m (number_told a m)
-    go (Ok n) r e = no_refusal r e
-    go (Err k) r e = ap (λ a. told a m) e
+c_read_typed_refused t d x sub m = number_told_refused (of_type t (read_of d x sub)) m
 
 pub c_find_by_name_refused : (d : Dict) (name : List ℕ) (m : ℕ) → RefusedTold m (named_told d name m)
 unfolding named_told
-c_find_by_name_refused d name m = go (by_name_of d name)
-  where
-    go : (a : Result ℕ Refusal) → RefusedTold m (name_told a m)
-    go (Ok x) r e = no_refusal r e
-    go (Err k) r e = ap (λ a. told a m) e
+c_find_by_name_refused d name m = number_told_refused (by_name_of d name) m
 
 pub c_get_configured_cns_refused : (d : Dict) (out : List ℕ) (m : ℕ) → RefusedWritten out m (node_numbers d out m)
 unfolding node_numbers
-c_get_configured_cns_refused d out m = go (cns_of d out).answer refl
-  where
-    go : (a : Result ℕ Refusal) → (cns_of d out).answer ≡ a → RefusedWritten out m (listed_numbers a (cns_of d out).out m)
-    go (Ok n) q r e = no_refusal r e
-    go (Err k) q r e = rw (ap (λ (y : AfterListing). y.out) (cns_refused d out k q)) (ap (λ a. wrote a out m) e)
+c_get_configured_cns_refused d out m = let a = cns_of d out in count_wrote_refused a.answer a.out out m (λ k q. ap (λ (y : AfterListing). y.out) (cns_refused d out k q))
 
 pub c_increment_counter_refused : (d : Dict) (x sub : ℕ) (r : Refusal) → answer_number (counter_of d x sub).answer ≡ refusal_number r → (counter_of d x sub).words ≡ d.words
 c_increment_counter_refused d x sub r e = let k = refused_answer (counter_of d x sub).answer r e in ap (λ (y : AfterIncrement). y.words) (counter_refused d x sub k.0 k.1)
@@ -179,14 +173,11 @@ c_increment_counter_refused d x sub r e = let k = refused_answer (counter_of d x
 pub c_write_refused : (d : Dict) (store : List ℕ) (x sub t : ℕ) (s : List ℕ) (r : Refusal) → let y = write_of d store x sub t s in wrote_number y.answer ≡ refusal_number r → (y.objects ≡ d.objects) × (y.words ≡ d.words) × (y.bytes ≡ d.bytes) × (y.store ≡ store)
 c_write_refused d store x sub t s r e = go (write_of d store x sub t s).answer refl e
   where
-    go : (a : Wrote) → (write_of d store x sub t s).answer ≡ a → wrote_number a ≡ refusal_number r → ((write_of d store x sub t s).objects ≡ d.objects) × ((write_of d store x sub t s).words ≡ d.words) × ((write_of d store x sub t s).bytes ≡ d.bytes) × ((write_of d store x sub t s).store ≡ store)
-    go wrote.Done q e = no_refusal r e
-    go wrote.RestoreRequested q e = absurd (omega (arith, e, (range r).1))
-    go (wrote.NoValue f) q e =
-        let h = write_no-value_refused d store x sub t s f q in
-        (ap (λ (y : writing.AfterWrite). y.objects) h, ap (λ (y : writing.AfterWrite). y.words) h, ap (λ (y : writing.AfterWrite). y.bytes) h, ap (λ (y : writing.AfterWrite). y.store) h)
-    go (wrote.Refused k) q e =
-        let h = write_refused d store x sub t s k q in
+    go : (a : Result Wrote WriteFault) → (write_of d store x sub t s).answer ≡ a → wrote_number a ≡ refusal_number r → ((write_of d store x sub t s).objects ≡ d.objects) × ((write_of d store x sub t s).words ≡ d.words) × ((write_of d store x sub t s).bytes ≡ d.bytes) × ((write_of d store x sub t s).store ≡ store)
+    go (Ok Done) q e = no_refusal r e
+    go (Ok RestoreRequested) q e = absurd (omega (arith, e, (range r).1))
+    go (Err f) q e =
+        let h = write_faulty d store x sub t s f q in
         (ap (λ (y : writing.AfterWrite). y.objects) h, ap (λ (y : writing.AfterWrite). y.words) h, ap (λ (y : writing.AfterWrite). y.bytes) h, ap (λ (y : writing.AfterWrite). y.store) h)
 
 pub c_restore_refused : (d : Dict) (s : List ℕ) (first last : ℕ) (r : Refusal) → restored_number (restore_of d s first last).answer ≡ refusal_number r → (restore_of d s first last).memory ≡ d
@@ -254,18 +245,12 @@ c_check_refused d i m = go (check_of d i)
 
 pub c_check_all_refused : (d : Dict) (out : List ℕ) (m : ℕ) → RefusedWritten out m (check_all_numbers (check_all_of d out) m)
 unfolding check_all_numbers
-c_check_all_refused d out m = go (check_all_of d out).answer refl
-  where
-    go : (a : Result ℕ Refusal) → (check_all_of d out).answer ≡ a → RefusedWritten out m (all_numbers a (check_all_of d out).out m)
-    go (Ok n) q r e = no_refusal r e
-    go (Err k) q r e = rw (ap (λ (y : checking.AfterCheckAll). y.out) (check_all_refused d out k q)) (ap (λ a. wrote a out m) e)
+c_check_all_refused d out m = let a = check_all_of d out in count_wrote_refused a.answer a.out out m (λ k q. ap (λ (y : checking.AfterCheckAll). y.out) (check_all_refused d out k q))
 
 pub c_explain_refused : (d : Dict) (i k : ℕ) (ns : List ℕ) → RefusedLent ns (explain_numbers (explain_of d i k) ns)
 unfolding explain_numbers
 c_explain_refused d i k ns = go (explain_of d i k)
   where
-    go : (a : Explained) → RefusedLent ns (explain_numbers a ns)
-    go (explained.Other t) r e = results_refused (explained_numbers (explained.Other t)) ns r e
-    go (explained.Misaligned x sub offset len t) r e = results_refused (explained_numbers (explained.Misaligned x sub offset len t)) ns r e
-    go (explained.Field x sub start n t) r e = results_refused (explained_numbers (explained.Field x sub start n t)) ns r e
-    go (explained.Refused q) r e = ap (λ a. lent a ns) e
+    go : (a : Result Explained Refusal) → RefusedLent ns (explain_numbers a ns)
+    go (Ok v) r e = results_refused (explained_numbers (Ok v)) ns r e
+    go (Err q) r e = ap (λ a. lent a ns) e

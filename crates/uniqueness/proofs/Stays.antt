@@ -10,7 +10,7 @@ use Rattle.entry.specs.Table.{Dict}
 use Rattle.od.specs.New.{Made}
 use Rattle.nodes.specs.Nodes.{AfterListing}
 use Rattle.counter.specs.Counter.{AfterIncrement}
-use Rattle.writing.specs.declared.Wrote.TheVariants as wrote
+use Rattle.writing.specs.declared.WriteFault.TheVariants as write-fault
 use Rattle.writing.specs.Writing as writing
 use Rattle.restoring.specs.Restore as restoring
 use Rattle.pdo_handler.specs.Errors as errors
@@ -63,10 +63,10 @@ get_configured_cns_stays κs a z w p r = ap (λ (x : AfterListing). (tt, (tt, (t
 pub increment_counter_stays : Stays 4 increment-counter-kinds.ps increment-counter-kinds.r increment-counter.Post (λ κs. RefusedBy Err) (λ κs a. (tt, (tt, (a.1.1.0.now, (tt, (tt, (tt, tt)))))))
 increment_counter_stays κs a z w p r = ap (λ (x : AfterIncrement). (tt, (tt, (x.words, (tt, (tt, (tt, tt))))))) (p ∙ counter_refused _ _ _ r.0 (sym (ap (λ (x : AfterIncrement). x.answer) p) ∙ r.1))
 
-pub write_stays : Stays 6 write-kinds.ps write-kinds.r write.Post (λ κs. RefusedBy wrote.Refused) (λ κs a. (a.0.now, (tt, (a.1.1.0.now, (a.1.1.1.0.now, (a.1.1.1.1.0.now, (tt, (tt, (tt, (tt, tt))))))))))
+pub write_stays : Stays 6 write-kinds.ps write-kinds.r write.Post (λ κs. RefusedBy (λ r. Err (write-fault.Refused r))) (λ κs a. (a.0.now, (tt, (a.1.1.0.now, (a.1.1.1.0.now, (a.1.1.1.1.0.now, (tt, (tt, (tt, (tt, tt))))))))))
 write_stays κs a z w p r = ap (λ (x : writing.AfterWrite). (x.objects, (tt, (x.words, (x.bytes, (x.store, (tt, (tt, (tt, (tt, tt)))))))))) (p ∙ write_refused _ _ _ _ _ _ r.0 (sym (ap (λ (x : writing.AfterWrite). x.answer) p) ∙ r.1))
 
-pub write_no-value_stays : Stays 6 write-kinds.ps write-kinds.r write.Post (λ κs. RefusedBy wrote.NoValue) (λ κs a. (a.0.now, (tt, (a.1.1.0.now, (a.1.1.1.0.now, (a.1.1.1.1.0.now, (tt, (tt, (tt, (tt, tt))))))))))
+pub write_no-value_stays : Stays 6 write-kinds.ps write-kinds.r write.Post (λ κs. RefusedBy (λ f. Err (write-fault.NoValue f))) (λ κs a. (a.0.now, (tt, (a.1.1.0.now, (a.1.1.1.0.now, (a.1.1.1.1.0.now, (tt, (tt, (tt, (tt, tt))))))))))
 write_no-value_stays κs a z w p r = ap (λ (x : writing.AfterWrite). (x.objects, (tt, (x.words, (x.bytes, (x.store, (tt, (tt, (tt, (tt, tt)))))))))) (p ∙ write_no-value_refused _ _ _ _ _ _ r.0 (sym (ap (λ (x : writing.AfterWrite). x.answer) p) ∙ r.1))
 
 pub restore_stays : Stays 5 restore-kinds.ps restore-kinds.r restore.Post (λ κs. RefusedBy Err) (λ κs a. (tt, (a.1.0.now, (a.1.1.0.now, (a.1.1.1.0.now, (tt, (tt, (tt, tt))))))))
