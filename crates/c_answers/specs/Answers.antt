@@ -30,6 +30,11 @@ pub record Told : Type 0 where
 abbrev pub told : ℕ → ℕ → Told
 told a n = record { answer = a; number = n }
 
+-- the one lent number is what was found, with the answer 0; a refusal leaves it
+abbrev pub number_told : Result ℕ Refusal → ℕ → Told
+number_told (Ok n) m = told 0 n
+number_told (Err r) m = told (refusal_number r) m
+
 -- an answer's number, and the lent numbers after it
 pub record Lent : Type 0 where
   pub answer : ℕ
@@ -50,3 +55,7 @@ pub record Written : Type 0 where
 
 abbrev pub wrote : ℕ → List ℕ → ℕ → Written
 wrote a out n = record { answer = a; out = out; written = n }
+
+-- the lent count is that of what was written, with the answer 0; a refusal leaves it
+abbrev pub count_wrote : Result ℕ Refusal → List ℕ → ℕ → Written
+count_wrote a out m = let t = number_told a m in wrote t.answer out t.number

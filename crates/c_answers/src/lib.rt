@@ -2,7 +2,7 @@
 #![tactic(auto)]
 
 ghost use Rattle.std.specs.Prelude.{◌≡◌};
-ghost use Rattle.c_answers.specs.Answers.{answer_number, place_after, had_after};
+ghost use Rattle.c_answers.specs.Answers.{answer_number, place_after, had_after, told, number_told, lent, results};
 
 use answers::Refusal;
 use value::CodecFault;
@@ -14,6 +14,30 @@ pub fn number_of(a: Result<(), Refusal>) -> u64
         Ok(()) => 0,
         Err(r) => answers::number(r),
     }
+}
+
+// A number that was found is told, and 0 is answered; a refusal leaves what was lent.
+pub fn tell_number(found: Result<usize, Refusal>, number: &mut u64) -> u64
+    ensures { told result number.new ≡ number_told found number.old }
+{
+    match found {
+        Ok(n) => {
+            *number = n as u64;
+            0
+        }
+        Err(r) => answers::number(r),
+    }
+}
+
+// N results go into the lent numbers, from the first one on, and 0 is answered; where fewer are lent, they stay.
+pub fn lend<const N: usize>(found: &[u64; N], numbers: &mut [u64]) -> u64
+    ensures { lent result numbers.new ≡ results found.now numbers.old }
+{
+    if numbers.len() < N {
+        return answers::number(Refusal::BufferTooShort);
+    }
+    lists::lay(numbers, 0, found);
+    0
 }
 
 // Lays the numbers that a fault has: the bytes needed, or the place of the byte; and the bytes had. The others stay.

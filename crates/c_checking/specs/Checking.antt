@@ -5,11 +5,10 @@ use Rattle.answers.specs.Numbers.{refusal_number}
 use Rattle.channel.specs.declared.Checked.{Checked}
 use Rattle.channel.specs.declared.Checked.TheVariants as checked
 use Rattle.element.specs.declared.Explained.{Explained}
-use Rattle.element.specs.declared.Explained.TheVariants as explained
 use Rattle.element.specs.Numbers.{explained_numbers}
 use Rattle.channel.specs.Numbers.{answer_number, element_of}
 use Rattle.channel.specs.All.{AfterCheckAll}
-use Rattle.c_answers.specs.Answers.{Told, told, Lent, lent, results, Written, wrote}
+use Rattle.c_answers.specs.Answers.{Told, told, Lent, lent, results, Written, count_wrote}
 
 -- R12.12: "The element goes into a lent number, which Malformed leaves."
 abbrev pub checked_element : Checked → ℕ → ℕ
@@ -24,16 +23,10 @@ abbrev pub checked_told : Checked → ℕ → Told
 checked_told a m = told (answer_number a) (checked_element a m)
 
 -- the answer, the lent numbers, and how many were laid
-abbrev pub all_numbers : Result ℕ Refusal → List ℕ → ℕ → Written
-all_numbers (Ok n) out m = wrote 0 out n
-all_numbers (Err r) out m = wrote (refusal_number r) out m
-
 unfoldable pub check_all_numbers : AfterCheckAll → ℕ → Written
-check_all_numbers a m = all_numbers a.answer a.out m
+check_all_numbers a m = count_wrote a.answer a.out m
 
 -- R12.15: "Done: eleven numbers .. fewer than 11 numbers: BufferTooShort (12)"
-unfoldable pub explain_numbers : Explained → List ℕ → Lent
-explain_numbers (explained.Other t) ns = results (explained_numbers (explained.Other t)) ns
-explain_numbers (explained.Misaligned x sub offset len t) ns = results (explained_numbers (explained.Misaligned x sub offset len t)) ns
-explain_numbers (explained.Field x sub start n t) ns = results (explained_numbers (explained.Field x sub start n t)) ns
-explain_numbers (explained.Refused r) ns = lent (refusal_number r) ns
+unfoldable pub explain_numbers : Result Explained Refusal → List ℕ → Lent
+explain_numbers (Ok e) ns = results (explained_numbers (Ok e)) ns
+explain_numbers (Err r) ns = lent (refusal_number r) ns

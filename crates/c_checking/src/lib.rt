@@ -10,22 +10,14 @@ ghost use Rattle.c_answers.specs.Answers.{lent, wrote, told};
 ghost use Rattle.c_checking.specs.Checking.{checked_element, checked_told, check_all_numbers, explain_numbers};
 
 use channel::Checked;
-use element::Explained;
 
 // The element that an answer names; a refusal leaves what was lent.
 fn element_of(a: Checked, lent: u64) -> u64
     ensures { result ≡ checked_element a lent }
 {
     match a {
-        Checked::Pass => channel::named(a),
-        Checked::NoSender => channel::named(a),
-        Checked::NoList => channel::named(a),
-        Checked::Element {
-            element: _,
-            fault: _,
-        } => channel::named(a),
-        Checked::TooFar => channel::named(a),
         Checked::Refused(_) => lent,
+        _ => channel::named(a),
     }
 }
 
@@ -44,6 +36,7 @@ pub fn loomfinch_check(
     channel::number(a)
 }
 
+#[tactic(auto, unfolding(crate::specs::Checking::check_all_numbers))]
 pub fn loomfinch_check_all(
     objects: &[u64],
     slots: &[u64],
@@ -54,16 +47,11 @@ pub fn loomfinch_check_all(
 ) -> u64
     ensures { wrote result numbers.new count.new ≡ check_all_numbers (check_all_of (dict objects.now slots.now words.now bytes.now) numbers.old) count.old }
 {
-    match channel::check_all(objects, slots, words, bytes, numbers) {
-        Ok(n) => {
-            *count = n as u64;
-            0
-        }
-        Err(r) => answers::number(r),
-    }
+    let found = channel::check_all(objects, slots, words, bytes, numbers);
+    c_answers::tell_number(found, count)
 }
 
-#[tactic(auto, using(crate::proofs::ExplainedLaws::explained_short, crate::proofs::ExplainedLaws::explained_done))]
+#[tactic(auto, using(crate::proofs::ExplainedLaws::explained))]
 pub fn loomfinch_explain(
     objects: &[u64],
     slots: &[u64],
@@ -76,13 +64,8 @@ pub fn loomfinch_explain(
     ensures { lent result numbers.new ≡ explain_numbers (explain_of (dict objects.now slots.now words.now bytes.now) channel element) numbers.old }
 {
     let e = element::explain(objects, slots, words, bytes, channel, element);
-    if let Explained::Refused(r) = e {
+    if let Err(r) = e {
         return answers::number(r);
     }
-    if numbers.len() < 11 {
-        return 12;
-    }
-    let all = element::explained_numbers(e);
-    lists::lay(numbers, 0, &all);
-    0
+    c_answers::lend(&element::explained_numbers(e), numbers)
 }

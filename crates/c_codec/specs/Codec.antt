@@ -1,16 +1,15 @@
 -- What the calls for C answer of values and mapping words, and what they leave in what was lent. RULES.md 13. Assumes nothing.
-use Rattle.answers.specs.declared.Refusal.{Refusal}
 use Rattle.std.specs.Prelude.{ℕ, List, [], ◌∷◌, Option, Some, None, Result, Ok, Err}
 use Rattle.answers.specs.Numbers.{refusal_number}
 use Rattle.answers.specs.declared.Refusal.TheVariants.{BadValue}
 use Rattle.value.specs.declared.ObjectValue.{ObjectValue}
-use Rattle.value.specs.declared.Decoded.{Decoded}
-use Rattle.value.specs.declared.Decoded.TheVariants.{Value, Fails, NoType}
+use Rattle.value.specs.declared.DecodeFault.{DecodeFault}
+use Rattle.value.specs.declared.DecodeFault.TheVariants.{NoType, Fails}
 use Rattle.value.specs.Meaning.{word_of, fields_of}
 use Rattle.value.specs.Codec.{decode_of, refusal_of, encode_of}
 use Rattle.mapping.specs.declared.PdoMappingEntry.{PdoMappingEntry}
 use Rattle.mapping.specs.Word.{entry_of, aligned_of, end_of}
-use Rattle.c_answers.specs.Answers.{place_after, had_after, Lent, results, Written, wrote}
+use Rattle.c_answers.specs.Answers.{place_after, had_after, Lent, results, Written, count_wrote}
 
 unfoldable pub value_numbers : ObjectValue → List ℕ → Lent
 value_numbers v ns = results (word_of v ∷ fields_of v) ns
@@ -25,20 +24,16 @@ pub record AfterDecode : Type 0 where
 abbrev pub after_decode : ℕ → List ℕ → ℕ → ℕ → AfterDecode
 after_decode a ns p h = record { answer = a; numbers = ns; place = p; had = h }
 
-abbrev pub decoded_numbers : Decoded → List ℕ → ℕ → ℕ → AfterDecode
-decoded_numbers (Value v) ns p h = let l = value_numbers v ns in after_decode l.answer l.numbers p h
-decoded_numbers (Fails f) ns p h = after_decode (refusal_number (refusal_of f)) ns (place_after f p) (had_after f h)
-decoded_numbers NoType ns p h = after_decode (refusal_number BadValue) ns p h
+abbrev pub decoded_numbers : Result ObjectValue DecodeFault → List ℕ → ℕ → ℕ → AfterDecode
+decoded_numbers (Ok v) ns p h = let l = value_numbers v ns in after_decode l.answer l.numbers p h
+decoded_numbers (Err NoType) ns p h = after_decode (refusal_number BadValue) ns p h
+decoded_numbers (Err (Fails f)) ns p h = after_decode (refusal_number (refusal_of f)) ns (place_after f p) (had_after f h)
 
 unfoldable pub decode_numbers : ℕ → List ℕ → List ℕ → ℕ → ℕ → AfterDecode
 decode_numbers t s ns p h = decoded_numbers (decode_of t s) ns p h
 
-abbrev pub encoded_numbers : Result ℕ Refusal → List ℕ → ℕ → Written
-encoded_numbers (Ok n) out m = wrote 0 out n
-encoded_numbers (Err r) out m = wrote (refusal_number r) out m
-
 unfoldable pub encode_numbers : ℕ → ℕ → List ℕ → List ℕ → ℕ → Written
-encode_numbers t w part out m = let a = encode_of t w part out in encoded_numbers a.answer a.out m
+encode_numbers t w part out m = let a = encode_of t w part out in count_wrote a.answer a.out m
 
 -- 1 and the number of bytes, where bits are whole bytes; else 0 and 0
 abbrev pub whole_of : Option ℕ → ℕ

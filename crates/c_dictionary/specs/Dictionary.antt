@@ -9,7 +9,7 @@ use Rattle.given.specs.declared.Head.{Head}
 use Rattle.od.specs.Read.{read_of, of_type}
 use Rattle.names.specs.Names.{by_name_of}
 use Rattle.nodes.specs.Nodes.{cns_of}
-use Rattle.c_answers.specs.Answers.{answer_number, Told, told, Lent, lent, results, Written, wrote}
+use Rattle.c_answers.specs.Answers.{answer_number, Told, number_told, Lent, lent, results, Written, count_wrote}
 
 abbrev pub inserted_number : Result (Unit {0}) Refusal → ℕ
 inserted_number a = answer_number a
@@ -26,23 +26,11 @@ stored_numbers (Err r) ns = lent (refusal_number r) ns
 unfoldable pub read_numbers : Dict → ℕ → ℕ → List ℕ → Lent
 read_numbers d x sub ns = stored_numbers (read_of d x sub) ns
 
-abbrev pub number_told : Result ℕ Refusal → ℕ → Told
-number_told (Ok n) m = told 0 n
-number_told (Err r) m = told (refusal_number r) m
-
 unfoldable pub typed_told : ℕ → Dict → ℕ → ℕ → ℕ → Told
 typed_told t d x sub m = number_told (of_type t (read_of d x sub)) m
 
-abbrev pub name_told : Result ℕ Refusal → ℕ → Told
-name_told (Ok x) m = told 0 x
-name_told (Err r) m = told (refusal_number r) m
-
 unfoldable pub named_told : Dict → List ℕ → ℕ → Told
-named_told d name m = name_told (by_name_of d name) m
-
-abbrev pub listed_numbers : Result ℕ Refusal → List ℕ → ℕ → Written
-listed_numbers (Ok n) out m = wrote 0 out n
-listed_numbers (Err r) out m = wrote (refusal_number r) out m
+named_told d name m = number_told (by_name_of d name) m
 
 unfoldable pub node_numbers : Dict → List ℕ → ℕ → Written
-node_numbers d out m = let g = cns_of d out in listed_numbers g.answer g.out m
+node_numbers d out m = let g = cns_of d out in count_wrote g.answer g.out m

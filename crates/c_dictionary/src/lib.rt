@@ -10,7 +10,6 @@ ghost use Rattle.insertion.specs.Replace.{replace_answer_of, replace_memory_of};
 ghost use Rattle.c_answers.specs.Answers.{lent, wrote, answer_number, told};
 ghost use Rattle.c_dictionary.specs.Dictionary.{inserted_number, head_of, read_numbers, typed_told, named_told, node_numbers};
 
-use answers::Refusal;
 use c_answers::number_of;
 use insertion::Head;
 
@@ -111,6 +110,7 @@ pub fn loomfinch_replace(
     number_of(insertion::replace(objects, slots, words, bytes, head, name, vals, encodings))
 }
 
+#[tactic(auto, unfolding(crate::specs::Dictionary::read_numbers))]
 pub fn loomfinch_read(
     objects: &[u64],
     slots: &[u64],
@@ -123,19 +123,13 @@ pub fn loomfinch_read(
     ensures { lent result numbers.new ≡ read_numbers (dict objects.now slots.now words.now bytes.now) index sub_index numbers.old }
 {
     match od::read(objects, slots, words, bytes, index, sub_index) {
-        Ok(v) => {
-            if numbers.len() < 3 {
-                return 12;
-            }
-            let all = [v.value_type, v.word, v.start];
-            lists::lay(numbers, 0, &all);
-            0
-        }
+        Ok(v) => c_answers::lend(&[v.value_type, v.word, v.start], numbers),
         Err(r) => answers::number(r),
     }
 }
 
 // The number of type t.
+#[tactic(auto, unfolding(crate::specs::Dictionary::typed_told))]
 fn typed(
     objects: &[u64],
     slots: &[u64],
@@ -148,15 +142,11 @@ fn typed(
 ) -> u64
     ensures { told result number.new ≡ typed_told t (dict objects.now slots.now words.now bytes.now) index sub_index number.old }
 {
-    match od::read_number(objects, slots, words, bytes, index, sub_index, t) {
-        Ok(w) => {
-            *number = w;
-            0
-        }
-        Err(r) => answers::number(r),
-    }
+    let found = od::read_number(objects, slots, words, bytes, index, sub_index, t);
+    c_answers::tell_number(found.map(|w| w as usize), number)
 }
 
+// The C interface has a call for each width, and one to insert beside one to replace.
 pub fn loomfinch_read_u8(
     objects: &[u64],
     slots: &[u64],
@@ -213,6 +203,7 @@ pub fn loomfinch_read_u64(
     typed(objects, slots, words, bytes, index, sub_index, 8, number)
 }
 
+#[tactic(auto, unfolding(crate::specs::Dictionary::named_told))]
 pub fn loomfinch_find_by_name(
     objects: &[u64],
     slots: &[u64],
@@ -223,15 +214,11 @@ pub fn loomfinch_find_by_name(
 ) -> u64
     ensures { told result index.new ≡ named_told (dict objects.now slots.now words.now bytes.now) name.now index.old }
 {
-    match names::find_by_name(objects, slots, words, bytes, name) {
-        Ok(x) => {
-            *index = x as u64;
-            0
-        }
-        Err(r) => answers::number(r),
-    }
+    let found = names::find_by_name(objects, slots, words, bytes, name);
+    c_answers::tell_number(found.map(|x| x as usize), index)
 }
 
+#[tactic(auto, unfolding(crate::specs::Dictionary::node_numbers))]
 pub fn loomfinch_get_configured_cns(
     objects: &[u64],
     slots: &[u64],
@@ -242,13 +229,8 @@ pub fn loomfinch_get_configured_cns(
 ) -> u64
     ensures { wrote result out.new count.new ≡ node_numbers (dict objects.now slots.now words.now bytes.now) out.old count.old }
 {
-    match nodes::get_configured_cns(objects, slots, words, bytes, out) {
-        Ok(n) => {
-            *count = n as u64;
-            0
-        }
-        Err(refusal) => answers::number(refusal),
-    }
+    let found = nodes::get_configured_cns(objects, slots, words, bytes, out);
+    c_answers::tell_number(found, count)
 }
 
 pub fn loomfinch_increment_counter(

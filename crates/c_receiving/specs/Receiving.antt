@@ -6,12 +6,7 @@ use Rattle.answers.specs.Numbers.{refusal_number}
 use Rattle.entry.specs.Put.{Contents}
 use Rattle.pdo_handler.specs.Consume.{AfterConsume}
 use Rattle.pdo_cycle.specs.Cycle.{AfterCycle}
-use Rattle.c_answers.specs.Answers.{Told, told}
-
--- an answer's number, and the count of events after it
-abbrev pub consumed_told : Result ℕ Refusal → ℕ → Told
-consumed_told (Ok n) m = told 0 n
-consumed_told (Err r) m = told (refusal_number r) m
+use Rattle.c_answers.specs.Answers.{number_told}
 
 -- an answer's number, the counts of payloads and events, and what was lent after it
 pub record Heard : Type 0 where
@@ -26,7 +21,7 @@ heard a c es i n = record { answer = a; contents = c; events = es; consumed = i;
 
 -- of one payload there is no count of payloads: it is 0 on both sides
 unfoldable pub consume_numbers : AfterConsume → ℕ → Heard
-consume_numbers a m = let t = consumed_told a.answer m in heard t.answer a.contents a.log 0 t.number
+consume_numbers a m = let t = number_told a.answer m in heard t.answer a.contents a.log 0 t.number
 
 -- an answer's number, and both counts after it
 pub record Counted : Type 0 where

@@ -7,24 +7,12 @@ ghost use Rattle.entry.specs.Put.{contents};
 ghost use Rattle.pdo_handler.specs.Consume.{consume_of};
 ghost use Rattle.pdo_handler.specs.Errors.{update_of};
 ghost use Rattle.pdo_cycle.specs.Cycle.{cycle_of};
-ghost use Rattle.c_answers.specs.Answers.{answer_number, told};
-ghost use Rattle.c_receiving.specs.Receiving.{consumed_told, heard, consume_numbers, counted, cycle_counted, cycle_numbers};
+ghost use Rattle.c_answers.specs.Answers.{answer_number};
+ghost use Rattle.c_receiving.specs.Receiving.{heard, consume_numbers, counted, cycle_counted, cycle_numbers};
 
 use answers::Refusal;
 use c_answers::number_of;
 use pdo_cycle::Cycle;
-
-fn consumed(a: Result<usize, Refusal>, count: &mut u64) -> u64
-    ensures { told result count.new ≡ consumed_told a count.old }
-{
-    match a {
-        Ok(n) => {
-            *count = n as u64;
-            0
-        }
-        Err(r) => answers::number(r),
-    }
-}
 
 pub fn loomfinch_consume_pdo_payload(
     objects: &[u64],
@@ -53,7 +41,7 @@ pub fn loomfinch_consume_pdo_payload(
         room,
         events,
     );
-    consumed(a, count)
+    c_answers::tell_number(a, count)
 }
 
 fn cycled(a: Result<Cycle, Refusal>, consumed: &mut u64, count: &mut u64) -> u64

@@ -9,24 +9,30 @@ ghost use Rattle.writing.specs.Writing.{write_of};
 ghost use Rattle.c_answers.specs.Answers.{answer_number};
 ghost use Rattle.c_storing.specs.Storing.{wrote_number, wrote_place, wrote_had, restored_number};
 
-use answers::Refusal;
 use c_answers::number_of;
-use writing::Wrote;
+use writing::{WriteFault, Wrote};
 
-fn wrote(a: Wrote, place: &mut u64, had: &mut u64) -> u64
+// The number of what a write comes to.
+pub fn number_of_write(a: Result<Wrote, WriteFault>) -> u64
+    ensures { result ≡ wrote_number a }
+{
+    match a {
+        Ok(Wrote::Done) => 0,
+        Ok(Wrote::RestoreRequested) => 19,
+        Err(WriteFault::NoValue(_)) => 2,
+        Err(WriteFault::Refused(r)) => answers::number(r),
+    }
+}
+
+fn wrote(a: Result<Wrote, WriteFault>, place: &mut u64, had: &mut u64) -> u64
     ensures answer { result ≡ wrote_number a }
     ensures place { place.new ≡ wrote_place a place.old }
     ensures had { had.new ≡ wrote_had a had.old }
 {
-    match a {
-        Wrote::Done => 0,
-        Wrote::RestoreRequested => 19,
-        Wrote::NoValue(f) => {
-            c_answers::tell(f, place, had);
-            2
-        }
-        Wrote::Refused(r) => answers::number(r),
+    if let Err(WriteFault::NoValue(f)) = a {
+        c_answers::tell(f, place, had);
     }
+    number_of_write(a)
 }
 
 pub fn loomfinch_write(

@@ -5,7 +5,7 @@
 pub use answers::{Refusal, number as refusal_number};
 pub use channel::{Checked, check, check_all};
 pub use counter::increment_counter;
-pub use element::{Explained, Fault, Target, explain};
+pub use element::{Explained, Fault, Missing, Target, explain};
 pub use event::{Cause, Event, EventRecord, Unwritten, event_record};
 pub use events::{Heard, consume_by_value, consume_pdo_payload};
 pub use insertion::{Head, insert, replace};
@@ -19,7 +19,7 @@ pub use pdo_handler::update_pdo_error_object;
 pub use pdo_validator::validate_pdo_mapping;
 pub use restoring::restore_power_on_values;
 pub use value::{
-    CodecFault, Decoded, IpAddress, MacAddress, NetTime, ObjectValue, RelativeTime, TimeDifference,
-    TimeOfDay,
+    CodecFault, DecodeFault, IpAddress, MacAddress, NetTime, ObjectValue, RelativeTime,
+    TimeDifference, TimeOfDay,
 };
-pub use writing::{Wrote, write};
+pub use writing::{WriteFault, Wrote, write};

@@ -10,5 +10,5 @@ pub returns : goal.returns
 unfolding consume_numbers
 returns c =
     let l = c.consume_logged-a.new in
-    ap (λ (t : Told). heard t.answer (contents l.words l.bytes) l.log 0 t.number) c.consumed.ensures
+    ap (λ (t : Told). heard t.answer (contents l.words l.bytes) l.log 0 t.number) c.tell_number.ensures
     ∙ ap (λ (a : AfterConsume). consume_numbers a c.args.count.now) c.consume_logged-a.ensures
