@@ -1,6 +1,6 @@
 // Lines that check channels and a mapping's count, and explain elements. Zeros are lent, so that a number behind the results shows
 // where it is touched.
-use loomfinch::Explained;
+use c_answers::number_of;
 use memory::Memory;
 use tokens::{NUMBERS, are, index_at, next, number, sub_at};
 
@@ -36,16 +36,13 @@ pub fn element_line(s: &[u8], at: usize, m: &Memory) -> bool {
     let expected = number(s, answer);
     let e = m.explain(sub_at(s, at), sub_at(s, element));
     match e {
-        Explained::Refused(r) => expected == answers::number(r),
-        _ => { expected == 0 && are(s, next(s, answer), &element::explained_numbers(e), 11) }
+        Err(r) => expected == answers::number(r),
+        Ok(_) => { expected == 0 && are(s, next(s, answer), &element::explained_numbers(e), 11) }
     }
 }
 
 pub fn count_line(s: &[u8], at: usize, m: &Memory) -> bool {
     let count = next(s, at);
-    let expected = number(s, next(s, count));
-    match m.validate_pdo_mapping(index_at(s, at), sub_at(s, count)) {
-        Ok(()) => expected == 0,
-        Err(r) => expected == answers::number(r),
-    }
+    let answer = m.validate_pdo_mapping(index_at(s, at), sub_at(s, count));
+    number_of(answer) == number(s, next(s, count))
 }

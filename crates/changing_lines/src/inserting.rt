@@ -1,4 +1,5 @@
-// Lines that insert and count: each answers the number of the call's answer.
+// Lines that insert and count: each answers what the call does.
+use answers::Refusal;
 use loomfinch::Head;
 use memory::Memory;
 use tokens::{NUMBERS, ROOM, bytes, index_at, next, number, pairs, sub_at};
@@ -8,20 +9,16 @@ fn head_at(s: &[u8], at: usize) -> Head {
     let kind = next(s, at);
     let access = next(s, kind);
     let default = next(s, access);
-    Head {
-        index: index_at(s, at),
-        kind: number(s, kind),
-        access: number(s, access),
-        default: number(s, default),
-        low_type: 0,
-        low: 0,
-        high_type: 0,
-        high: 0,
-    }
+    memory::unranged(
+        index_at(s, at),
+        number(s, kind),
+        number(s, access),
+        number(s, default),
+    )
 }
 
 // The insertion whose name starts at `at`.
-fn inserted(s: &[u8], at: usize, head: Head, m: &mut Memory) -> u64 {
+fn inserted(s: &[u8], at: usize, head: Head, m: &mut Memory) -> Result<(), Refusal> {
     let vals_at = next(s, at);
     let encodings_at = next(s, vals_at);
     let mut name = [0; ROOM];
@@ -40,24 +37,26 @@ fn name_after(s: &[u8], at: usize) -> usize {
     next(s, next(s, next(s, next(s, at))))
 }
 
-pub fn insert_line(s: &[u8], at: usize, m: &mut Memory) -> u64 {
+pub fn insert_line(s: &[u8], at: usize, m: &mut Memory) -> Result<(), Refusal> {
     inserted(s, name_after(s, at), head_at(s, at), m)
 }
 
 // The range's four numbers, then what a line without one has.
-pub fn ranged_line(s: &[u8], at: usize, m: &mut Memory) -> u64 {
+pub fn ranged_line(s: &[u8], at: usize, m: &mut Memory) -> Result<(), Refusal> {
     let low = next(s, at);
     let high_type = next(s, low);
     let high = next(s, high_type);
     let head_starts = next(s, high);
-    let mut head = head_at(s, head_starts);
-    head.low_type = number(s, at);
-    head.low = number(s, low);
-    head.high_type = number(s, high_type);
-    head.high = number(s, high);
+    let head = Head {
+        low_type: number(s, at),
+        low: number(s, low),
+        high_type: number(s, high_type),
+        high: number(s, high),
+        ..head_at(s, head_starts)
+    };
     inserted(s, name_after(s, head_starts), head, m)
 }
 
-pub fn counter_line(s: &[u8], at: usize, m: &mut Memory) -> u64 {
+pub fn counter_line(s: &[u8], at: usize, m: &mut Memory) -> Result<(), Refusal> {
     m.increment_counter(index_at(s, at), sub_at(s, next(s, at)))
 }

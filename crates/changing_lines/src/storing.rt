@@ -1,8 +1,10 @@
 // Lines that write, save, restore and set an error bit. A line says how many bytes of the store it lends.
 ghost use Rattle.std.specs.Prelude.{◌≤◌};
 
+use answers::Refusal;
+use c_storing::number_of_write;
 use codec_lines::tells;
-use loomfinch::{Wrote, refusal_number};
+use loomfinch::{WriteFault, Wrote};
 use memory::Memory;
 use tokens::{ROOM, bytes, has_next, index_at, next, number, sub_at};
 
@@ -13,20 +15,10 @@ fn size_at(s: &[u8], at: usize) -> usize
     (number(s, at) % 1001) as usize
 }
 
-// The number of a write's answer.
-fn wrote_number(a: Wrote) -> u64 {
-    match a {
-        Wrote::Done => 0,
-        Wrote::RestoreRequested => 19,
-        Wrote::NoValue(_) => 2,
-        Wrote::Refused(r) => refusal_number(r),
-    }
-}
-
 // Are the numbers behind the line's answer what a write says beside its own?
-fn is_told(a: Wrote, s: &[u8], answer: usize) -> bool {
+fn is_told(a: Result<Wrote, WriteFault>, s: &[u8], answer: usize) -> bool {
     match a {
-        Wrote::NoValue(f) => tells(f, s, answer),
+        Err(WriteFault::NoValue(f)) => tells(f, s, answer),
         _ => !has_next(s, answer),
     }
 }
@@ -46,15 +38,15 @@ pub fn write_line(s: &[u8], at: usize, m: &mut Memory) -> bool {
         number(s, kind),
         &data[..n],
     );
-    wrote_number(a) == number(s, answer) && is_told(a, s, answer)
+    number_of_write(a) == number(s, answer) && is_told(a, s, answer)
 }
 
-pub fn restore_line(s: &[u8], at: usize, m: &mut Memory) -> u64 {
+pub fn restore_line(s: &[u8], at: usize, m: &mut Memory) -> Result<(), Refusal> {
     let first = next(s, at);
     let last = next(s, first);
     m.restore_power_on_values(size_at(s, at), index_at(s, first), index_at(s, last))
 }
 
-pub fn bit_line(s: &[u8], at: usize, m: &mut Memory) -> u64 {
+pub fn bit_line(s: &[u8], at: usize, m: &mut Memory) -> Result<(), Refusal> {
     m.update_pdo_error_object(index_at(s, at), sub_at(s, next(s, at)))
 }

@@ -9,7 +9,7 @@
 //   t DATA PLACE                                 no text: the place of the first byte at which none goes on
 use crate::records::says;
 use answers::Refusal;
-use loomfinch::{CodecFault, Decoded, ObjectValue, PdoMappingEntry};
+use loomfinch::{CodecFault, DecodeFault, ObjectValue, PdoMappingEntry};
 use mapping::Field;
 use tokens::{ROOM, are, bytes, has_next, next, number};
 
@@ -92,11 +92,11 @@ fn decode_line(s: &[u8], at: usize) -> bool {
     let answer = next(s, from);
     let expected = number(s, answer);
     match loomfinch::decode(number(s, at), &data[..n]) {
-        Decoded::Value(v) => { expected == 0 && value_is(v, s, next(s, answer)) }
-        Decoded::Fails(f) => {
+        Ok(v) => expected == 0 && value_is(v, s, next(s, answer)),
+        Err(DecodeFault::NoType) => expected == 2 && !has_next(s, answer),
+        Err(DecodeFault::Fails(f)) => {
             expected == answers::number(value::refusal(f)) && tells(f, s, answer)
         }
-        Decoded::NoType => expected == 2 && !has_next(s, answer),
     }
 }
 

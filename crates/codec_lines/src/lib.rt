@@ -5,4 +5,4 @@ mod codec;
 mod records;
 
 pub use codec::{asked, tells};
-pub use records::{blank, say};
+pub use records::say;

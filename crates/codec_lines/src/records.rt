@@ -1,15 +1,6 @@
 // Event records held against the numbers of events.
 use loomfinch::{Cause, Event, EventRecord, Unwritten};
 
-// No payload of a single call has this number, so a record that was written differs from it.
-pub fn blank() -> EventRecord {
-    EventRecord {
-        payload: 7,
-        element: 9,
-        event: Event::MapVersion,
-    }
-}
-
 fn cause_number(c: Cause) -> u64 {
     match c {
         Cause::Frame => 2,
@@ -49,20 +40,13 @@ pub fn record_number(r: EventRecord) -> u64 {
 
 // Is it an event's number, and does its record have that number?
 pub fn says(e: u64) -> bool {
-    match loomfinch::event_record(e) {
-        Some(r) => record_number(r) == e,
-        None => false,
-    }
+    loomfinch::event_record(e).is_some_and(|r| record_number(r) == e)
 }
 
-// Do the first n records say the first n numbers, and are all behind them blank? The record of each number says it too.
-pub fn say(records: &[EventRecord; 254], log: &[u64; 1024], n: usize) -> bool {
+// Do the first n records say the first n numbers, and are all behind them `blank`? The record of each number says it too.
+pub fn say(records: &[EventRecord; 254], log: &[u64; 1024], n: usize, blank: EventRecord) -> bool {
     for (i, record) in records.iter().enumerate() {
-        let expected = if i < n {
-            log[i]
-        } else {
-            record_number(blank())
-        };
+        let expected = if i < n { log[i] } else { record_number(blank) };
         if record_number(*record) != expected || !says(expected) {
             return false;
         }

@@ -2,10 +2,11 @@
 // shows where it is touched.
 #![tactic(auto)]
 
+use answers::Refusal;
 use asking_lines::sum;
-use codec_lines::{blank, say};
+use codec_lines::say;
 use memory::Memory;
-use receiving::Logged;
+use receiving::{BLANK, Logged};
 use tokens::{NUMBERS, ROOM, are, bytes, listed, next, number, sub_at};
 
 // A payload as a line gives it.
@@ -13,7 +14,7 @@ use tokens::{NUMBERS, ROOM, are, bytes, listed, next, number, sub_at};
 struct Given {
     sender: u8,
     version: u8,
-    ready: u64,
+    ready: bool,
 }
 
 // The same payload into a list of records, on the memory as it was before: the answer, the dictionary and the events must be those of
@@ -22,7 +23,7 @@ fn same_by_records(
     before: Memory,
     payload: &[u8],
     given: Given,
-    logged: &Logged,
+    logged: &Logged<usize>,
     after: &Memory,
 ) -> bool {
     let mut m = before;
@@ -31,31 +32,36 @@ fn same_by_records(
         payload,
         given.sender,
         given.version,
-        given.ready != 0,
-        blank(),
+        given.ready,
     );
-    let told = match recorded.answer {
-        Ok(n) => {
-            logged.answer == 0
-                && n as u64 == logged.count
-                && say(&recorded.events, &logged.events, n)
+    let told = match (recorded.answer, logged.answer) {
+        (Ok(n), Ok(count)) => n == count && say(&recorded.events, &logged.events, n, BLANK),
+        (Err(r), Err(q)) => {
+            answers::number(r) == answers::number(q)
+                && say(&recorded.events, &logged.events, 0, BLANK)
         }
-        Err(r) => {
-            logged.answer == answers::number(r) && say(&recorded.events, &logged.events, 0)
-        }
+        _ => false,
     };
     told && sum(&m) == sum(after)
 }
 
-// The answer starts at `at`, the count of the events at `count`, and the events behind it.
-fn log_is(s: &[u8], at: usize, count: usize, logged: &Logged) -> bool {
+// The answer, with how many events there are, starts at `at`, their count at `count`, and the events behind it.
+fn log_is(
+    s: &[u8],
+    at: usize,
+    count: usize,
+    answer: Result<usize, Refusal>,
+    events: &[u64; 1024],
+) -> bool {
     let expected = number(s, at);
-    if expected != 0 {
-        return logged.answer == expected && are(s, at, &logged.events, 0);
+    match answer {
+        Ok(n) => {
+            expected == 0
+                && n as u64 == number(s, count)
+                && are(s, next(s, count), events, n as u64)
+        }
+        Err(r) => expected == answers::number(r) && are(s, at, events, 0),
     }
-    logged.answer == 0
-        && logged.count == number(s, count)
-        && are(s, next(s, count), &logged.events, logged.count)
 }
 
 pub fn consume_line(s: &[u8], at: usize, m: &mut Memory) -> bool {
@@ -68,7 +74,7 @@ pub fn consume_line(s: &[u8], at: usize, m: &mut Memory) -> bool {
     let given = Given {
         sender: sub_at(s, sender),
         version: sub_at(s, version),
-        ready: number(s, ready),
+        ready: number(s, ready) != 0,
     };
     let list = (number(s, at) % 1025) as usize;
     let before = *m;
@@ -81,7 +87,7 @@ pub fn consume_line(s: &[u8], at: usize, m: &mut Memory) -> bool {
         list,
     );
     let answer = next(s, payload_at);
-    log_is(s, answer, next(s, answer), &logged)
+    log_is(s, answer, next(s, answer), logged.answer, &logged.events)
         && (list < 254 || same_by_records(before, &payload[..n], given, &logged, m))
 }
 
@@ -96,6 +102,10 @@ pub fn cycle_line(s: &[u8], at: usize, m: &mut Memory) -> bool {
     let list = (number(s, at) % 1025) as usize;
     let logged = receiving::consume_cycle(m, &data[..n], &payloads[..count], list);
     let consumed = next(s, answer);
-    log_is(s, answer, next(s, consumed), &logged)
-        && (logged.answer != 0 || logged.consumed == number(s, consumed))
+    let told = match logged.answer {
+        Ok(cycle) => cycle.consumed as u64 == number(s, consumed),
+        Err(_) => true,
+    };
+    let events = logged.answer.map(|cycle| cycle.events);
+    told && log_is(s, answer, next(s, consumed), events, &logged.events)
 }

@@ -86,7 +86,7 @@ impl Memory {
         loomfinch::check_all(&self.objects, &self.slots, &self.words, &self.bytes, out)
     }
 
-    pub fn explain(&self, channel: u8, element: u8) -> Explained {
+    pub fn explain(&self, channel: u8, element: u8) -> Result<Explained, Refusal> {
         loomfinch::explain(
             &self.objects,
             &self.slots,

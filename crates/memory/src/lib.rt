@@ -5,6 +5,8 @@
 mod asking;
 mod changing;
 
+pub use changing::unranged;
+
 #[derive(Clone, Copy)]
 pub struct Memory {
     pub objects: [u64; 108],

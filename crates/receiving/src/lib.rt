@@ -3,32 +3,37 @@
 
 ghost use Rattle.std.specs.Prelude.{◌≤◌};
 
-use loomfinch::{EventRecord, Heard};
+use answers::Refusal;
+use loomfinch::{Cycle, Event, EventRecord, Heard};
 use memory::Memory;
 
-// The number of the answer to a payload or a cycle, and its list of events as numbers.
+// The answer to a payload or a cycle, and its list of events as numbers.
 #[derive(Clone, Copy)]
-pub struct Logged {
-    pub answer: u64,
-    pub consumed: u64,
-    pub count: u64,
+pub struct Logged<T> {
+    pub answer: Result<T, Refusal>,
     pub events: [u64; 1024],
 }
 
-// With an event list of `room` numbers.
+// A record that no event of a single payload has: one that was written differs from it.
+pub const BLANK: EventRecord = EventRecord {
+    payload: 7,
+    element: 9,
+    event: Event::MapVersion,
+};
+
+// With an event list of `room` numbers; the answer is how many there are.
 pub fn consume_logged(
     m: &mut Memory,
     payload: &[u8],
     sender: u8,
     version: u8,
-    ready: u64,
+    ready: bool,
     room: usize,
-) -> Logged
+) -> Logged<usize>
     requires { room ≤ 1024 }
 {
     let mut events = [0u64; 1024];
-    let mut count = 0u64;
-    let answer = c_receiving::loomfinch_consume_pdo_payload(
+    let answer = pdo_handler::consume_logged(
         &m.objects,
         &m.slots,
         &mut m.words,
@@ -37,25 +42,19 @@ pub fn consume_logged(
         sender,
         version,
         ready,
+        room,
         &mut events[..room],
-        &mut count,
     );
-    Logged {
-        answer,
-        consumed: 0,
-        count,
-        events,
-    }
+    Logged { answer, events }
 }
 
-// With an event list of records, each of which is `blank` before.
+// With an event list of records, each of which is blank before.
 pub fn consume_recorded(
     m: &mut Memory,
     payload: &[u8],
     sender: u8,
     version: u8,
     ready: bool,
-    blank: EventRecord,
 ) -> Heard {
     loomfinch::consume_by_value(
         &m.objects,
@@ -66,18 +65,21 @@ pub fn consume_recorded(
         sender,
         version,
         ready,
-        [blank; 254],
+        [BLANK; 254],
     )
 }
 
 // With an event list of `room` numbers.
-pub fn consume_cycle(m: &mut Memory, delivered: &[u8], payloads: &[u64], room: usize) -> Logged
+pub fn consume_cycle(
+    m: &mut Memory,
+    delivered: &[u8],
+    payloads: &[u64],
+    room: usize,
+) -> Logged<Cycle>
     requires { room ≤ 1024 }
 {
     let mut events = [0u64; 1024];
-    let mut consumed = 0u64;
-    let mut count = 0u64;
-    let answer = c_receiving::loomfinch_consume_cycle(
+    let answer = loomfinch::consume_cycle(
         &m.objects,
         &m.slots,
         &mut m.words,
@@ -85,13 +87,6 @@ pub fn consume_cycle(m: &mut Memory, delivered: &[u8], payloads: &[u64], room: u
         delivered,
         payloads,
         &mut events[..room],
-        &mut consumed,
-        &mut count,
     );
-    Logged {
-        answer,
-        consumed,
-        count,
-        events,
-    }
+    Logged { answer, events }
 }

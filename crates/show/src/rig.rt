@@ -1,43 +1,34 @@
 // A dictionary of three objects: the record of channel 0, its list of one word, and the object that the word maps.
 use crate::words::{answer, explanation};
-use loomfinch::{Checked, Event, EventRecord, Head};
+use answers::Refusal;
+use loomfinch::Checked;
 use memory::Memory;
 use std::io;
 
 // An object that can be read and written, without a name.
-fn insert(m: &mut Memory, index: u16, kind: u64, vals: &[u64], encodings: &[u8]) {
-    let head = Head {
-        index,
-        kind,
-        access: 3,
-        default: 0,
-        low_type: 0,
-        low: 0,
-        high_type: 0,
-        high: 0,
-    };
-    m.insert(head, b"", vals, encodings);
+fn insert(
+    m: &mut Memory,
+    index: u16,
+    kind: u64,
+    vals: &[u64],
+    encodings: &[u8],
+) -> Result<(), Refusal> {
+    m.insert_plain(index, kind, 3, vals, encodings)
 }
 
 // Node 5 in version 10h, one mapping word, and 6000h, an Unsigned16.
-fn rig(word: u64) -> Memory {
+fn rig(word: u64) -> Result<Memory, Refusal> {
     let mut m = memory::zeros();
-    m.new(1);
-    insert(&mut m, 0x1400, 2, &[5, 0, 1, 5, 0, 1], &[5, 0x10]);
-    insert(&mut m, 0x1600, 1, &[8, 0, 8], &word.to_le_bytes());
-    insert(&mut m, 0x6000, 0, &[6, 0, 2], &[0, 0]);
-    m
+    m.new(1)?;
+    insert(&mut m, 0x1400, 2, &[5, 0, 1, 5, 0, 1], &[5, 0x10])?;
+    insert(&mut m, 0x1600, 1, &[8, 0, 8], &word.to_le_bytes())?;
+    insert(&mut m, 0x6000, 0, &[6, 0, 2], &[0, 0])?;
+    Ok(m)
 }
 
 // A payload of node 5: how many events it has.
 fn consume(rt: &impl Print, m: &mut Memory, payload: &[u8]) -> io::Result<()> {
-    let blank = EventRecord {
-        payload: 0,
-        element: 0,
-        event: Event::MapVersion,
-    };
-    let received = receiving::consume_recorded(m, payload, 5, 0x10, true, blank);
-    match received.answer {
+    match receiving::consume_recorded(m, payload, 5, 0x10, true).answer {
         Ok(n) => print!(rt; "{n} events"),
         Err(_) => print!(rt; "no events"),
     }
@@ -61,7 +52,9 @@ fn check(rt: &impl Print, m: &Memory) -> io::Result<()> {
 }
 
 pub fn show(rt: &impl Print, word: u64, payload: &[u8], time: u64) -> io::Result<()> {
-    let mut m = rig(word);
+    let Ok(mut m) = rig(word) else {
+        return println!(rt; "  no rig");
+    };
     check(rt, &m)?;
     print!(rt; "  consumed: {time} ms, ")?;
     consume(rt, &mut m, payload)?;

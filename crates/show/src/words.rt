@@ -1,5 +1,5 @@
 // The words for each answer of the check.
-use loomfinch::{Checked, Explained, Fault, Target};
+use loomfinch::{Checked, Explained, Fault, Missing, Refusal, Target};
 use std::io;
 
 fn reason(fault: Fault) -> &'static str {
@@ -13,11 +13,11 @@ fn reason(fault: Fault) -> &'static str {
     }
 }
 
-fn holding(rt: &impl Print, target: Target) -> io::Result<()> {
+fn holding(rt: &impl Print, target: Result<Target, Missing>) -> io::Result<()> {
     match target {
-        Target::NoObject | Target::NoSub => print!(rt; "which is not there"),
-        Target::Count => print!(rt; "the count of a list"),
-        Target::Value { holds, .. } => print!(rt; "which holds {holds}"),
+        Err(_) => print!(rt; "which is not there"),
+        Ok(Target::Count) => print!(rt; "the count of a list"),
+        Ok(Target::Value { holds, .. }) => print!(rt; "which holds {holds}"),
     }
 }
 
@@ -27,7 +27,7 @@ fn mapped(
     unit: &str,
     index: u16,
     sub_index: u8,
-    target: Target,
+    target: Result<Target, Missing>,
 ) -> io::Result<()> {
     print!(rt; "    it maps {length} {unit} onto {index:04x}h/{sub_index}, ")?;
     holding(rt, target)?;
@@ -35,7 +35,10 @@ fn mapped(
 }
 
 // What an element maps, and onto what.
-pub fn explanation(rt: &impl Print, e: Explained) -> io::Result<()> {
+pub fn explanation(rt: &impl Print, e: Result<Explained, Refusal>) -> io::Result<()> {
+    let Ok(e) = e else {
+        return println!(rt; "    there is no such element");
+    };
     match e {
         Explained::Other(_) => println!(rt; "    it maps nothing"),
         Explained::Misaligned {
@@ -52,7 +55,6 @@ pub fn explanation(rt: &impl Print, e: Explained) -> io::Result<()> {
             target,
             ..
         } => mapped(rt, length, "bytes", index, sub_index, target),
-        Explained::Refused(_) => println!(rt; "    there is no such element"),
     }
 }
 

@@ -30,10 +30,12 @@
 //                                                          FIRST + i * WIDTH / (COUNT - 1)
 //   G COUNT FIRST WIDTH FOUND MISSING SUM                  the same at each row and beside each, with a sum over the answers
 use crate::looking::{lookup_line, sweep_line};
+use answers::Refusal;
 use asking_lines::{
     channel_line, channels_line, count_line, element_line, name_line, nodes_line, read_line, sum,
     sum_with_store, typed_line,
 };
+use c_answers::number_of;
 use changing_lines::{
     bit_line, counter_line, damage, insert_line, ranged_line, restore_line, write_line,
 };
@@ -67,18 +69,23 @@ fn asked(kind: u8, s: &[u8], at: usize, m: &Memory) -> bool {
     }
 }
 
+// Is it what the last number of the line says, 0 where the call was done?
+fn is_last(answer: Result<(), Refusal>, s: &[u8], at: usize) -> bool {
+    number_of(answer) == last(s, at)
+}
+
 // Does the call of the line that starts at `at`, behind its letter, give its answer? Of a call that only changes memory, this is the
-// line's last number.
+// line's last number. A `match`, and no table of functions: the letter is data, and the steps differ in what they take.
 pub fn take_turn(kind: u8, s: &[u8], at: usize, m: &mut Memory) -> bool {
     match kind {
-        b'N' => m.new(1) == last(s, at),
-        b'E' => m.new(number(s, at)) == last(s, at),
-        b'I' => insert_line(s, at, m) == last(s, at),
-        b'J' => ranged_line(s, at, m) == last(s, at),
-        b'P' => counter_line(s, at, m) == last(s, at),
+        b'N' => is_last(m.new(1), s, at),
+        b'E' => is_last(m.new(number(s, at)), s, at),
+        b'I' => is_last(insert_line(s, at, m), s, at),
+        b'J' => is_last(ranged_line(s, at, m), s, at),
+        b'P' => is_last(counter_line(s, at, m), s, at),
         b'W' => write_line(s, at, m),
-        b'O' => restore_line(s, at, m) == last(s, at),
-        b'B' => bit_line(s, at, m) == last(s, at),
+        b'O' => is_last(restore_line(s, at, m), s, at),
+        b'B' => is_last(bit_line(s, at, m), s, at),
         b'A' => consume_line(s, at, m),
         b'Y' => cycle_line(s, at, m),
         b'D' => damage_line(s, at, m),

@@ -1,5 +1,5 @@
 // Cases 1 to 4: mapping words and values.
-use loomfinch::{Decoded, ObjectValue, PdoMappingEntry};
+use loomfinch::{ObjectValue, PdoMappingEntry};
 
 pub fn case_1() -> bool {
     let e = PdoMappingEntry::from_u64(0x0020_0010_AB03_6200);
@@ -13,7 +13,7 @@ pub fn case_2() -> bool {
 
 // Is it an Integer16 of this value?
 fn is_integer_16(data: &[u8], wanted: i16) -> bool {
-    matches!(loomfinch::decode(2, data), Decoded::Value(ObjectValue::Integer16(n)) if n == wanted)
+    matches!(loomfinch::decode(2, data), Ok(ObjectValue::Integer16(n)) if n == wanted)
 }
 
 pub fn case_3() -> bool {
