@@ -4,11 +4,12 @@ use mathlib.Core.Path.{◌≡◌, sym, ap, ◌∙◌}
 use mathlib.Core.List.{List, [], ◌∷◌, ◌++◌, append_assoc}
 use Prim.Native.Nat.{ℕ, suc, ◌+◌, ◌-◌, ◌<◌, ◌≤◌}
 use native.Mathlib.Nat.{add-zero}
+use native.Mathlib.Numerals.{add-one}
 use Rattle.std.proofs.Common.{append-nil}
 use native.Mathlib.Omega.{arith}
 use native.Mathlib.Decide.{dec_lt}
 use lib.ListN.{drop_of_length-le, length, take, drop, get_or, set, length-append, length-take, length-drop, take-append-drop, get_or-append}
-use lib.Seq.{get_or-take, get_or-drop, length-take-le, take_at, drop_at, drop-drop, take-append-le, drop-append-le, get_or-append-add, drop-append-add, take-append_seam, ext_get_or, take-add, take-suc-set, drop-set-lt, paste, slice, length-slice}
+use lib.Seq.{drop-cons, get_or-take, get_or-drop, length-take-le, take-suc, take_at, drop_at, set_at, drop-drop, take-append-le, drop-append-le, get_or-append-add, drop-append-add, take-append_seam, ext_get_or, take-add, take-suc-set, drop-set-lt, paste, slice, length-slice}
 use borrow.Rule.Slice.PartMut.{put_mid}
 use Rattle.std.proofs.lemmas.Slice.{between_is}
 use Rattle.lists.specs.Lists.{over}
@@ -18,7 +19,7 @@ pub length_over : (xs : List ℕ) (a : ℕ) (ys : List ℕ) → a + length ys �
 unfolding over
 length_over xs a ys h = simp (length-append, length-take, length-drop) (omega arith)
 
-pub over_none : (xs : List ℕ) (a : ℕ) → over xs a [] ≡ xs
+pub over_none : {A : Type 0} (xs : List A) (a : ℕ) → over xs a [] ≡ xs
 unfolding over
 over_none xs a = rw add-zero (take-append-drop a xs)
 
@@ -94,11 +95,25 @@ over-same xs a n h =
     rw (l, ← append_assoc, ← take-add) (take-append-drop (a + n) xs)
 
 -- ---- one more
+pub over_snoc : {A : Type 0} (xs : List A) (a : ℕ) (ys : List A) (n : ℕ) (y : A) → n ≡ a + length ys → n < length xs → set (over xs a ys) n y ≡ over xs a (ys ++ (y ∷ []))
+unfolding over
+over_snoc xs a ys n y e h =
+    let k : length (take a xs ++ ys) ≡ n = simp (length-append, length-take) (omega arith) in
+    let g : a + length (ys ++ (y ∷ [])) ≡ suc n = simp length-append (omega arith) in
+    rw (g, ← e, drop-cons xs n y h, ← append_assoc, set_at (take a xs ++ ys) _ _ y n k) (simp append_assoc)
+
 pub over_first : (xs : List ℕ) (a y : ℕ) (ys : List ℕ) → a < length xs → over xs a (y ∷ ys) ≡ over (set xs a y) (suc a) ys
 unfolding over
 over_first xs a y ys h =
     let n : a + suc (length ys) ≡ suc a + length ys = omega arith in
     rw (n, take-suc-set xs a y h, drop-set-lt (suc a + length ys) xs a y (omega arith)) (simp append_assoc)
+
+-- the next of src
+pub lay_more : {A : Type 0} (xs ys src : List A) (a j : ℕ) (v : A) → j < length src → a + length src ≤ length xs → v ≡ get_or src j v → ys ≡ over xs a (take j src)
+    → set ys (a + j) v ≡ over xs a (take (j + 1) src)
+lay_more xs ys src a j v h l w e =
+    let k : length (take j src) ≡ j = length-take-le j src (omega arith) in
+    rw (add-one, take-suc src j v h, ← w, e) (over_snoc xs a (take j src) (a + j) v (omega arith) (omega arith))
 
 -- ---- two that don't meet
 -- laid behind what was laid

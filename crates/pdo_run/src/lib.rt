@@ -142,7 +142,7 @@ fn gather<const N: usize>(d: &Receiving, first: usize, n: usize) -> [u64; N]
 {
     let words = &*d.words;
     let mut list = [0u64; N];
-    list[..n].copy_from_slice(&words[first..first + n]);
+    lists::lay(&mut list, 0, &words[first..first + n]);
     list
 }
 
