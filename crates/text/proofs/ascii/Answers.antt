@@ -1,9 +1,9 @@
 use Rattle.std.proofs.Common.{◌+◌, arith, refl}
-use Rattle.text.proofs.Laws.{more, skip_on}
+use Rattle.text.proofs.Laws.{more}
 use Rattle.text.proofs.ascii.Goals as goal
 
 pub loop-i-init : goal.loop-i-init
-loop-i-init c = skip_on c.args.s.now c.args.from c.blocks-2.result c.half_block-i.result c.blocks-2.ensures c.half_block-i.ensures
+loop-i-init c = c.long_run-i.ensures
 
 pub loop-i-preserved : goal.loop-i-preserved
 loop-i-preserved c =
