@@ -25,11 +25,15 @@ same_read k w s k' w' s' h =
     let part : (Stored → ℕ) → Result Stored Refusal → ℕ = λ f. elim [ Ok v ↦ f v | Err r ↦ 0 ] in
     (ap (part (λ (v : Stored). v.value_type)) h, ap (part (λ (v : Stored). v.word)) h, ap (part (λ (v : Stored). v.start)) h)
 
-text_lies : (d : Dict) (x sub kind word start : ℕ) → read_of d x sub ≡ read_as kind word start → is_text kind ≡ true → start + word ≤ length d.bytes
+pub record PartLies (d : Dict) (word start : ℕ) : Type 0 where
+  pub inside : start + word ≤ length d.bytes
+  pub small : start + word ≤ 32768
+
+text_lies : (d : Dict) (x sub kind word start : ℕ) → read_of d x sub ≡ read_as kind word start → is_text kind ≡ true → PartLies d word start
 unfolding read_of
 text_lies d x sub kind word start q t = formed (well_formed d) refl q
   where
-    at : well_formed d ≡ true → (a : Result Place Missing) → place_of d.objects x sub ≡ a → read_at d a ≡ read_as kind word start → start + word ≤ length d.bytes
+    at : well_formed d ≡ true → (a : Result Place Missing) → place_of d.objects x sub ≡ a → read_at d a ≡ read_as kind word start → PartLies d word start
     at w (Err NoObject) p e = let z : ◌≡◌ {A = ℕ} 0 1 = cc in absurd (omega arith)
     at w (Err NoSub) p e = let z : ◌≡◌ {A = ℕ} 0 1 = cc in absurd (omega arith)
     at w (Ok (Count n)) p e =
@@ -40,12 +44,17 @@ text_lies d x sub kind word start q t = formed (well_formed d) refl q
         let f = element_facts d w (element_of_lem d w x sub v p) in
         let h = same_read (type_at d.slots v) (get_or d.words v 0) (start_at d.slots v) kind word start e in
         let l = (f.text (ap is_text h.0 ∙ t)).0 in
-        omega (arith, f.within, f.bytes, h.1, h.2)
+        record { inside = omega (arith, f.within, f.bytes, h.1, h.2); small = omega (arith, f.within, f.total, h.1, h.2) }
 
-    formed : (b : Bool) → well_formed d ≡ b → cond b (read_at d (place_of d.objects x sub)) (Err Malformed) ≡ read_as kind word start → start + word ≤ length d.bytes
+    formed : (b : Bool) → well_formed d ≡ b → cond b (read_at d (place_of d.objects x sub)) (Err Malformed) ≡ read_as kind word start → PartLies d word start
     formed true w e = at w (place_of d.objects x sub) refl e
     formed false w e = let z : ◌≡◌ {A = ℕ} 0 1 = cc in absurd (omega arith)
 
-pub part_lies : (d : Dict) (x sub : ℕ) (found : Result Stored Refusal) → found ≡ read_of d x sub → IfOk found (λ v. is_text v.value_type ≡ true → v.start + v.word ≤ length d.bytes)
+pub part_lies : (d : Dict) (x sub : ℕ) (found : Result Stored Refusal) → found ≡ read_of d x sub → IfOk found (λ v. is_text v.value_type ≡ true → PartLies d v.word v.start)
 part_lies d x sub (Ok v) e = λ t. text_lies d x sub v.value_type v.word v.start (sym e) t
 part_lies d x sub (Err r) e = tt
+
+-- of which its place alone is asked where the part is taken
+pub part_inside : (d : Dict) (x sub : ℕ) (found : Result Stored Refusal) → found ≡ read_of d x sub → IfOk found (λ v. is_text v.value_type ≡ true → v.start + v.word ≤ length d.bytes)
+part_inside d x sub (Ok v) e = λ t. (part_lies d x sub (Ok v) e t).inside
+part_inside d x sub (Err r) e = tt

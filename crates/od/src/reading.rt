@@ -107,7 +107,10 @@ pub fn read_part<'a>(
 ) -> &'a [u8]
     ensures { result.now ≡ part_in bytes.now (read_of (dict objects.now slots.now words.now bytes.now) index sub) }
 {
-    part_in(bytes, read(objects, slots, words, bytes, index, sub))
+    if !judge::well_formed(objects, slots, words, bytes) {
+        return &[];
+    }
+    read_part_judged(objects, slots, words, bytes, index, sub)
 }
 
 fn of_type(found: Result<Stored, Refusal>, t: u64) -> Result<u64, Refusal>
@@ -140,7 +143,8 @@ pub fn read_number(
 ) -> Result<u64, Refusal>
     ensures { result ≡ of_type t (read_of (dict objects.now slots.now words.now bytes.now) index sub) }
 {
-    of_type(read(objects, slots, words, bytes, index, sub), t)
+    let judged = Dictionary::judged(objects, slots, words, bytes)?;
+    read_number_judged(&judged, index, sub, t)
 }
 
 // The four readings have the Rust's names: each is the number of one type.
