@@ -3,7 +3,7 @@ use Rattle.std.specs.Prelude.{Some, None, Result, Ok, Err}
 use mathlib.Core.Path.{◌≡◌, refl, sym, ap, ◌∙◌}
 use mathlib.Core.Bool.{Bool, true, false, cond}
 use mathlib.Core.List.{List}
-use Prim.Native.Nat.{ℕ, suc, ◌+◌, ◌-◌, ◌*◌, ◌<◌, ◌≤◌}
+use Prim.Native.Nat.{ℕ, zero, suc, ◌+◌, ◌-◌, ◌*◌, ◌<◌, ◌≤◌}
 use native.Mathlib.Omega.{arith}
 use native.Mathlib.Decide.{dec_lt}
 use borrow.Author.Tests.{eqb-true, ltb-true}
@@ -66,6 +66,16 @@ module _ (d : Dict) (sender : ℕ) where
   pub channel_end : (n i : ℕ) → n ≤ i → channel_from d sender (n - i) i ≡ None
   unfolding channel_from
   channel_end n i h = let q : n - i ≡ 0 = omega arith in rw q
+
+  -- a channel that matches is one of those that were looked at
+  pub channel_below : (n i j : ℕ) → channel_from d sender n i ≡ Some j → j < i + n
+  unfolding channel_from
+  channel_below zero i j e = let z : ◌≡◌ {A = ℕ} 0 1 = cc in absurd (omega arith)
+  channel_below (suc n) i j e = go (matches_in sender (u8_at d (comm_index i) 1)) e (channel_below n (suc i) j)
+    where
+      go : (b : Bool) → cond b (Some i) (channel_from d sender n (suc i)) ≡ Some j → (channel_from d sender n (suc i) ≡ Some j → j < suc i + n) → j < i + suc n
+      go true q ih = let z : i ≡ j = cc in omega arith
+      go false q ih = omega (arith, ih q)
 
 -- ---- the U8 of a well-formed dictionary is a byte
 byte : (w : ℕ) → fits_type 5 w ≡ true → w < 256

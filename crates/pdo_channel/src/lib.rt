@@ -40,7 +40,7 @@ pub fn comm_index(i: u8) -> u16
 }
 
 // The U8 at a sub-index above 0 of the object in row i.
-fn u8_in(d: &Dictionary, i: usize, index: u16, sub: u8) -> Option<u8>
+pub fn u8_in(d: &Dictionary, i: usize, index: u16, sub: u8) -> Option<u8>
     requires { find_row d.now.objects index ≡ Some i }
     ensures { result ≡ u8_at d.now index sub }
 {
@@ -102,20 +102,22 @@ fn behind(objects: &[u64], r: usize, row: Option<usize>, index: u16) -> usize
     }
 }
 
-// The first channel that matches; a row moves along with the channels. A `for` that returns, as docs/FORMS.md asks of the channel scan.
+// The first channel that matches; a row moves along with the channels. The scan yields it by `break`, as docs/FORMS.md asks.
 pub fn first_match(d: &Dictionary, sender: u8) -> Option<u8>
     ensures { result ≡ first_match d.now sender }
 {
     let mut r = entry::lower(d.objects, 0x1400);
-    for i in 0..=255u8 {
-        let index = comm_index(i);
-        let row = row_near(d.objects, r, index);
-        if matches_at(d, row, index, sender) {
-            return Some(i);
+    'scan: {
+        for i in 0..=255u8 {
+            let index = comm_index(i);
+            let row = row_near(d.objects, r, index);
+            if matches_at(d, row, index, sender) {
+                break 'scan Some(i);
+            }
+            r = behind(d.objects, r, row, index);
         }
-        r = behind(d.objects, r, row, index);
+        None
     }
-    None
 }
 
 // The version that a channel expects.
