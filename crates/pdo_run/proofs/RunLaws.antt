@@ -46,6 +46,19 @@ marked_idle edition slots payload c (outcome.Undecodable f) e = refl
 marked_idle edition slots payload c outcome.TooLong e = refl
 marked_idle edition slots payload c (outcome.Stored p start n) e = let z : ◌≡◌ {A = ℕ} 0 1 = cc in absurd (omega arith)
 
+-- and it stops the run
+goes_on_lem : (edition : ℕ) (o : Outcome) → (effect_of o).stops ≡ false → sets_bit edition o ≡ false
+goes_on_lem edition outcome.Misaligned s = refl
+goes_on_lem edition outcome.Short s = let z : ◌≡◌ {A = ℕ} 0 1 = cc in absurd (omega arith)
+goes_on_lem edition (outcome.Server x start n) s = refl
+goes_on_lem edition (outcome.Client x start n) s = refl
+goes_on_lem edition outcome.NoTarget s = refl
+goes_on_lem edition outcome.Count s = refl
+goes_on_lem edition outcome.CountRefused s = refl
+goes_on_lem edition (outcome.Undecodable f) s = let z : ◌≡◌ {A = ℕ} 0 1 = cc in absurd (omega arith)
+goes_on_lem edition outcome.TooLong s = refl
+goes_on_lem edition (outcome.Stored p start n) s = refl
+
 -- ---- the run, one word at a time
 module _ (f : Frame) (p : ℕ) (list : List ℕ) (j : ℕ) (c : Contents) where
   abbrev pub onward : Ran

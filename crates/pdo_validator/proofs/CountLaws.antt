@@ -34,6 +34,13 @@ pub rest_end : (slots words : List ℕ) (n p k e : ℕ) → n ≤ k → rest slo
 unfolding ends_from
 rest_end slots words n p k e h = let a : n - k ≡ 0 = omega arith in rw a
 
+-- from the first word on, where none was looked at yet, it is the whole
+pub rest_all : (slots words : List ℕ) (n p k e : ℕ) → k ≡ 0 → e ≡ 0 → rest slots words n p k e ≡ ends_from slots words n p 0
+rest_all slots words n p k e a b =
+    let x : n - 0 ≡ n = omega arith in
+    let y : p + 0 ≡ p = omega arith in
+    rw (a, b, x, y)
+
 -- what `ok_or` refuses was missing
 pub refused : (o : Option ℕ) (k e : Refusal) → ok_or o k ≡ Err e → (o ≡ None) × (e ≡ k)
 refused (Some x) k e h = let z : ◌≡◌ {A = ℕ} 0 1 = cc in absurd (omega arith)

@@ -1,12 +1,14 @@
 -- Two's complement, once over the width: half is half the number of a width's patterns.
 -- Assumes nothing.
 use mathlib.Core.Path.{◌≡◌, refl, sym, ap, ◌∙◌}
-use Prim.Native.Nat.{ℕ, zero, suc, ◌+◌, ◌-◌, ◌*◌, ◌/◌, ◌%◌, ◌^◌, ◌<◌, ◌≤◌}
+use mathlib.Core.Bool.{true, false}
+use Prim.Native.Nat.{ℕ, zero, suc, ◌+◌, ◌-◌, ◌*◌, ◌/◌, ◌%◌, ◌^◌, ◌<◌, ◌≤◌, zero-le}
 use native.Mathlib.Nat.{zero-add, add-zero, zero-mul, one-mul, mod-lt, mod-eq_of_lt, mod-eq-sub-mod, div-eq_of_lt, div-eq-sub-div, two-mul}
 use native.Mathlib.Omega.{arith}
-use borrow.Author.Tests.{lt-ltb}
-use lib.IntN.{ℤ, pos, negsuc, ◌-ℤ◌}
-use lib.Signed.{mag}
+use borrow.Author.Tests.{lt-ltb, le-leb}
+use lib.Dec.{T, leb}
+use lib.IntN.{ℤ, pos, negsuc, nat_abs, ◌-ℤ◌}
+use lib.Signed.{mag, le_z, non_neg}
 use lib.Arith.{mod-mul}
 use mir.Syntax.{Width}
 use mir.Val.{to_z, of_z, bits, hbits, SFits}
@@ -88,3 +90,15 @@ cast_integer w half x n z e b p m q =
     of_z-twos : (i : ℤ) → of_z w i ≡ twos half i
     of_z-twos (pos k) = refl
     of_z-twos (negsuc k) = ap (λ n. n - suc k) (sym b)
+
+-- ---- the number of an integer's bits, by its sign
+never : (k : ℕ) → leb 0 k ≡ false → ⊥
+never k e = let z : ◌≡◌ {A = ℕ} 0 1 = cc (le-leb 0 k zero-le) in omega arith
+
+pub twos_low : (half : ℕ) (z : ℤ) → le_z (pos 0) z ≡ true → T (non_neg z) × (nat_abs z ≡ twos half z)
+twos_low half (pos k) e = (tt, refl)
+twos_low half (negsuc k) e = let n : ◌≡◌ {A = ℕ} 0 1 = cc in absurd (omega arith)
+
+pub twos_high : (half : ℕ) (z : ℤ) → le_z (pos 0) z ≡ false → mag z < half → half + (half - 1 - mag z) ≡ twos half z
+twos_high half (pos k) e h = absurd (never k e)
+twos_high half (negsuc k) e h = omega arith

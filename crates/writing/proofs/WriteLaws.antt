@@ -1,5 +1,5 @@
 -- The cases of a write's judging. Assumes nothing.
-use Rattle.std.specs.Prelude.{Err}
+use Rattle.std.specs.Prelude.{Ok, Err}
 use mathlib.Core.Path.{◌≡◌, refl, sym, ap, subst, ◌∙◌}
 use mathlib.Core.Bool.{Bool, true, false, not, ◌&&◌, ◌||◌}
 use mathlib.Core.List.{List}
@@ -7,7 +7,7 @@ use Prim.Native.Nat.{ℕ, ◌*◌, ◌^◌, ◌<◌, ◌≤◌}
 use native.Mathlib.Omega.{arith}
 use borrow.Author.Tests.{eqb-true, eqb-false, ne_eqb, leb-true, lt-leb, lt-ltb}
 use lib.Dec.{eqb, leb}
-use lib.ListN.{length, take, drop}
+use lib.ListN.{length, get_or, take, drop}
 use lib.Seq.{take_all}
 use Rattle.answers.specs.declared.Refusal.TheVariants.{TypeMismatch}
 use Rattle.lists.specs.Numbers.{number, Bytes}
@@ -17,11 +17,26 @@ use Rattle.value.specs.Order.{ordered}
 use Rattle.value.proofs.CodecLaws.{size_le, exact_fixed}
 use Rattle.entry.specs.declared.Extra.{Extra}
 use Rattle.entry.specs.Rules.{range_ok, extra_ok}
-use Rattle.entry.specs.Table.{Dict, kept_at, count_at, number_of, extra_at, type_at}
+use Rattle.entry.specs.Table.{Dict, kept_at, count_at, number_of, extra_at, type_at, is_mapping}
 use Rattle.entry.specs.Judge.{well_formed}
 use Rattle.entry.proofs.FactLaws.{row_facts}
 use Rattle.entry.proofs.JudgeLaws.{and_true}
-use Rattle.writing.specs.Judging.{outside, at_value}
+use Rattle.pdo_validator.specs.Counting.{count_of}
+use Rattle.writing.specs.Judging.{outside, at_value, count_first}
+
+-- ---- the count of a mapping
+module _ (d : Dict) (x sub t : ℕ) (s : List ℕ) where
+  pub count_type : (eqb sub 0 && is_mapping x) ≡ true → eqb t 5 ≡ false → count_first d x sub t s ≡ Err TypeMismatch
+  unfolding count_first
+  count_type e q = rw (e, q)
+
+  pub count_there : (eqb sub 0 && is_mapping x) ≡ true → eqb t 5 ≡ true → count_first d x sub t s ≡ count_of d x (get_or s 0 0)
+  unfolding count_first
+  count_there e q = rw (e, q)
+
+  pub count_else : (eqb sub 0 && is_mapping x) ≡ false → count_first d x sub t s ≡ Ok tt
+  unfolding count_first
+  count_else e = rw e
 
 -- ---- at a value
 module _ (slots : List ℕ) (x : Extra) (p t : ℕ) (s : List ℕ) where
