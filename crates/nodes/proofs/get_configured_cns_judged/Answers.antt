@@ -1,4 +1,4 @@
--- `nodes::get_configured_cns_judged` meets its contract: counted first, so that a short output stays as it was. Assumes nothing.
+-- `nodes::get_configured_cns_judged` meets its contract: the list is laid aside first, so that a short output stays as it was. Assumes nothing.
 use Rattle.std.specs.Prelude.{Ok}
 use mathlib.Core.Path.{◌≡◌, sym, ap, ap₂, ◌∙◌}
 use borrow.Author.Tests.{lt-ltb, le-ltb}
